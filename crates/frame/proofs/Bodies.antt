@@ -1,0 +1,211 @@
+-- One body byte of an open frame: the body goes on, or it is complete or refused, and never two of these. Assumes nothing.
+use Prim.Native.Nat.{ℕ, _+_, _*_, _%_, _^_, _≤_, _<_}
+use mathlib.Core.Path.{_≡_, sym, ap, _∙_}
+use mathlib.Core.List.{List, [], _∷_, _++_}
+use mathlib.Core.Bool.{cond}
+use mathlib.Core.Logic.{_≢_}
+use native.Mathlib.Numerals.{add-one}
+use native.Mathlib.Omega.{arith}
+use lib.ListN.{length, getD, take, set, length-append, List·getD-append}
+use lib.Seq.{take-suc-set, getD-at, getD-take, take-at, length-take-le}
+use lib.Dec.{eqb, ltb}
+use borrow.Author.Tests.{eqb-true, eqb-false, eq-eqb, ne-eqb, ltb-true, ltb-false, lt-ltb, le-ltb}
+use Rattle.frame.specs.Wire.{lengthOf, total, checksum, Good}
+use Rattle.frame.specs.Frames.{frontBody}
+use Rattle.frame.specs.Lines.{Unfinished}
+use Rattle.frame.specs.Rules.{grownOf, endedOf, completedOf, bodyByteOf}
+use Rattle.frame.specs.declared.scan.Event.{Event}
+use Rattle.frame.specs.declared.scan.Event.the-variants.{Quiet, Frame, Short, Long, Stuff, Cut, Sum}
+use Rattle.frame.specs.declared.scan.Scan.{Scan}
+use Rattle.frame.specs.declared.scan.Step.{Step}
+use Rattle.frame.proofs.Cases.{by-test}
+use Rattle.frame.proofs.Sums.{checksum-snoc}
+use Rattle.frame.proofs.Here.{lengthOf-append}
+
+-- h, l and m are the place in the body, the length and the sum of a body that is begun with b and not complete
+pub record Partial (limit h l m : ℕ) (b : List ℕ) : Type 0 where
+  pub count : length b ≡ h
+  pub summed : m ≡ checksum b
+  pub high : h ≡ 1 → l ≡ getD b 0 0
+  pub known : 2 ≤ h → l ≡ lengthOf b
+  pub first : getD b 0 0 ≢ 255
+  pub under : h < lengthOf b + 2
+  pub bounds : 2 ≤ h → (5 ≤ lengthOf b) × (lengthOf b ≤ limit)
+
+-- the sum that a body has, and the one that it should have
+abbrev pub sumIn : List ℕ → ℕ
+sumIn b = getD b (lengthOf b + 1) 0
+
+abbrev pub sumDue : List ℕ → ℕ
+sumDue b = checksum (take (lengthOf b + 1) b)
+
+-- what the body b is, whose last byte decides e
+abbrev pub Ends : ℕ → List ℕ → Event → Type 0
+Ends limit b Quiet = ⊥
+Ends limit b Frame = Good limit b
+Ends limit b Short = (length b ≡ 2) × (lengthOf b < 5)
+Ends limit b Long = (length b ≡ 2) × (getD b 0 0 ≢ 255) × (5 ≤ lengthOf b) × (limit < lengthOf b)
+Ends limit b Stuff = ⊥
+Ends limit b Cut = ⊥
+Ends limit b Sum = (length b ≡ lengthOf b + 2) × (5 ≤ lengthOf b) × (lengthOf b ≤ limit) × (sumIn b ≢ sumDue b)
+
+module _ (limit : ℕ) (b : List ℕ) where
+  pub never-both : (e : Event) → Ends limit b e → Unfinished limit b → ⊥
+  never-both Quiet p u = p
+  never-both Frame p u = omega (arith, p .true-length, u .under)
+  never-both Short p u = let two : 2 ≤ length b = omega (arith, p .0) in omega (arith, u .bounds two .0, p .1)
+  never-both Long p u = let two : 2 ≤ length b = omega (arith, p .0) in omega (arith, u .bounds two .1, p .3)
+  never-both Stuff p u = p
+  never-both Cut p u = p
+  never-both Sum p u = omega (arith, p .0, u .under)
+
+  -- the one event that a body can end in
+  abbrev ending : Event
+  ending = cond (ltb (lengthOf b) 5) Short (cond (ltb limit (lengthOf b)) Long (cond (eqb (sumIn b) (sumDue b)) Frame Sum))
+
+  ends-in : (e : Event) → Ends limit b e → ending ≡ e
+  ends-in Quiet p = absurd p
+  ends-in Frame p = rw (le-ltb (lengthOf b) 5 (p .least), le-ltb limit (lengthOf b) (p .most), eq-eqb (sumIn b) (sumDue b) (p .sum-holds))
+  ends-in Short p = rw (lt-ltb (lengthOf b) 5 (p .1))
+  ends-in Long p = rw (le-ltb (lengthOf b) 5 (p .2), lt-ltb limit (lengthOf b) (p .3))
+  ends-in Stuff p = absurd p
+  ends-in Cut p = absurd p
+  ends-in Sum p = rw (le-ltb (lengthOf b) 5 (p .1), le-ltb limit (lengthOf b) (p .2), ne-eqb (sumIn b) (sumDue b) (p .3))
+
+  pub same-end : (d e : Event) → Ends limit b d → Ends limit b e → d ≡ e
+  same-end d e p q = sym (ends-in d p) ∙ ends-in e q
+
+pub unfinished-of : {limit h l m : ℕ} {b : List ℕ} → Partial limit h l m b → 1 ≤ length b → Unfinished limit b
+unfinished-of p some = record { some-byte = some; first = p .first; under = rw (p .count) (p .under); bounds = λ k. p .bounds (omega (arith, p .count)) }
+
+-- behind a header there is no body byte yet
+pub partial-none : {limit h l m : ℕ} (body : List ℕ) → h ≡ 0 → m ≡ 0 → Partial limit h l m (take h body)
+unfolding total
+partial-none body e s =
+    rw (ap (λ (k : ℕ). take k body) e)
+    (record {
+      count = sym e;
+      summed = s;
+      high = λ k. absurd (omega arith);
+      known = λ k. absurd (omega arith);
+      first = λ k. omega arith;
+      under = omega arith;
+      bounds = λ k. absurd (omega arith);
+    })
+
+-- with one more byte
+pub first-on : {limit h l m : ℕ} {b : List ℕ} → Partial limit h l m b → (v : ℕ) → 1 ≤ length b → getD (b ++ v ∷ []) 0 0 ≢ 255
+first-on {b} p v some = rw (List·getD-append b (v ∷ []) 0 0 some) (p .first)
+
+pub size : {limit h l m : ℕ} {b : List ℕ} → Partial limit h l m b → (v : ℕ) → length (b ++ v ∷ []) ≡ h + 1
+size {b} p v = omega (arith, length-append b (v ∷ []), p .count)
+
+-- a byte stored behind the first h
+pub stored : (body : List ℕ) (h v : ℕ) → h < length body → take (h + 1) (set body h v) ≡ take h body ++ v ∷ []
+stored body h v k = rw add-one (take-suc-set body h v k)
+
+-- a body that is complete with the byte v is the front that the reader holds
+pub whole-held : (body : List ℕ) (h v : ℕ) → h < length body → length (take h body ++ v ∷ []) ≡ lengthOf (take h body ++ v ∷ []) + 2
+    → frontBody (set body h v) ≡ take h body ++ v ∷ []
+whole-held body h v k full =
+    let b : List ℕ = set body h v in
+    let b′ : List ℕ = take h body ++ v ∷ [] in
+    let n : length b′ ≡ h + 1 = omega (arith, length-append (take h body) (v ∷ []), length-take-le h body (omega arith)) in
+    let a0 : getD (take (h + 1) b) 0 0 ≡ getD b 0 0 = getD-take (h + 1) b 0 0 (omega arith) in
+    let a1 : getD (take (h + 1) b) 1 0 ≡ getD b 1 0 = getD-take (h + 1) b 1 0 (omega arith) in
+    let e0 : getD b′ 0 0 ≡ getD b 0 0 = rw (stored body h v k) at a0 in
+    let e1 : getD b′ 1 0 ≡ getD b 1 0 = rw (stored body h v k) at a1 in
+    let all : lengthOf b + 2 ≡ h + 1 = omega arith in
+    ap (λ (j : ℕ). take j b) all ∙ stored body h v k
+
+-- the byte v, behind the body bytes b so far
+module _ {limit : ℕ} {b : List ℕ} (s : Scan) (p : Partial limit (s .have .0) (s .length) (s .sum) b) (v : ℕ) (first : getD (b ++ v ∷ []) 0 0 ≢ 255) where
+  abbrev h : ℕ
+  h = s .have .0
+
+  abbrev grown : List ℕ
+  grown = b ++ v ∷ []
+
+  sum-on : (s .sum + v) % 2 ^ 8 ≡ checksum grown
+  sum-on = ap (λ (k : ℕ). (k + v) % 256) (p .summed) ∙ checksum-snoc b v
+
+  length-on : 2 ≤ h → lengthOf grown ≡ lengthOf b
+  length-on k = lengthOf-append b (v ∷ []) (omega (arith, p .count))
+
+  -- the length that the second byte makes known
+  measured : h ≡ 1 → s .length * 256 + v ≡ lengthOf grown
+  measured e =
+      let a : getD grown 0 0 ≡ getD b 0 0 = List·getD-append b (v ∷ []) 0 0 (omega (arith, p .count)) in
+      let c : getD grown 1 0 ≡ v = getD-at b v [] 0 1 (p .count ∙ e) in
+      omega (arith, p .high e)
+
+  module _ (P : Step → Type 0) (goes-on : (k : ℕ) → h ≤ limit → Partial limit (h + 1) k ((s .sum + v) % 2 ^ 8) grown → P (grownOf s k v))
+      (ends : (e : Event) → Ends limit grown e → P (endedOf s v e)) where
+    completed : h ≡ lengthOf b + 1 → 2 ≤ h → P (completedOf s v)
+    completed e two =
+        let lo : lengthOf grown ≡ lengthOf b = length-on two in
+        let full : length grown ≡ lengthOf grown + 2 = omega (arith, size p v) in
+        let last : sumIn grown ≡ v = getD-at b v [] 0 (lengthOf grown + 1) (omega (arith, p .count)) in
+        let due : sumDue grown ≡ s .sum = ap checksum (take-at b (v ∷ []) (lengthOf grown + 1) (omega (arith, p .count))) ∙ sym (p .summed) in
+        let five : 5 ≤ lengthOf grown = omega (arith, p .bounds two .0) in
+        let most : lengthOf grown ≤ limit = omega (arith, p .bounds two .1) in
+        by-test P (eqb v (s .sum))
+        (λ q. ends Frame (record { true-length = full; least = five; most = most; sum-holds = last ∙ eqb-true v (s .sum) q ∙ sym due }))
+        (λ q. ends Sum (full, five, most, (λ k. eqb-false v (s .sum) q (sym last ∙ k ∙ due))))
+
+    pub body-cases : P (bodyByteOf limit s v)
+    body-cases =
+        by-test P (eqb h 0)
+        (λ a.
+        let h0 : h ≡ 0 = eqb-true h 0 a in
+        goes-on v (omega arith) (record {
+          count = size p v;
+          summed = sum-on;
+          high = λ k. sym (getD-at b v [] 0 0 (p .count ∙ h0));
+          known = λ k. absurd (omega arith);
+          first = first;
+          under = omega arith;
+          bounds = λ k. absurd (omega arith);
+        }))
+        (λ a. by-test P (eqb h 1)
+        (λ c.
+        let h1 : h ≡ 1 = eqb-true h 1 c in
+        let l : ℕ = s .length * 256 + v in
+        let e : l ≡ lengthOf grown = measured h1 in
+        let two : length grown ≡ 2 = omega (arith, size p v) in
+        by-test P (ltb l 5)
+        (λ d. ends Short (two, (rw e at (ltb-true l 5 d))))
+        (λ d.
+        let low : 5 ≤ lengthOf grown = rw e at (ltb-false l 5 d) in
+        by-test P (ltb limit l)
+        (λ f. ends Long (two, first, low, (rw e at (ltb-true limit l f))))
+        (λ f.
+        let top : lengthOf grown ≤ limit = rw e at (ltb-false limit l f) in
+        goes-on l (omega arith) (record {
+          count = size p v;
+          summed = sum-on;
+          high = λ k. absurd (omega arith);
+          known = λ k. e;
+          first = first;
+          under = omega arith;
+          bounds = λ k. (low, top);
+        }))))
+        (λ c.
+        let two : 2 ≤ h = omega (arith, eqb-false h 0 a, eqb-false h 1 c) in
+        let known : s .length ≡ lengthOf b = p .known two in
+        let lo : lengthOf grown ≡ lengthOf b = length-on two in
+        by-test P (ltb (s .length) h)
+        (λ d. completed (omega (arith, ltb-true (s .length) h d, p .under)) two)
+        (λ d.
+        let goes : h ≤ s .length = ltb-false (s .length) h d in
+        by-test P (ltb limit h)
+        (λ f. absurd (omega (arith, ltb-true limit h f, p .bounds two .1)))
+        (λ f. goes-on (s .length) (ltb-false limit h f) (record {
+          count = size p v;
+          summed = sum-on;
+          high = λ k. absurd (omega arith);
+          known = λ k. known ∙ sym lo;
+          first = first;
+          under = omega arith;
+          bounds = λ k. rw lo (p .bounds two);
+        })))))

@@ -1,0 +1,27 @@
+-- Demand 3, and that no call of a reader that began fresh is answered STATE. Assumes nothing.
+use Prim.Native.Nat.{ℕ, _+_, _≤_}
+use mathlib.Core.List.{List}
+use native.Mathlib.Omega.{arith}
+use lib.ListN.{length-replicate}
+use Rattle.frame.specs.Calls.{freshOf, zeros}
+use Rattle.frame.specs.Logs.{Call, logOf, stream}
+use Rattle.frame.specs.Claims.{Demand3s, NeverState}
+use Rattle.frame.proofs.Listed.{framesOf-lists}
+use Rattle.frame.proofs.Moves.{Inv}
+use Rattle.frame.proofs.Logged.{Logged, logged}
+
+pub fresh-holds : (limit : ℕ) → Inv limit (freshOf limit)
+unfolding zeros
+fresh-holds limit = record { phase = tt; room = length-replicate (limit + 2) 0; inside = omega arith }
+
+-- all that is proved of the calls of a fresh reader
+pub from-fresh : (limit : ℕ) → limit ≤ 65279 → (calls : List Call) → Logged limit (freshOf limit) (logOf limit (freshOf limit) calls)
+from-fresh limit small calls = logged limit small calls (freshOf limit) (fresh-holds limit) (omega arith)
+
+pub demand-3 : Demand3s
+demand-3 limit small calls =
+    let ok = from-fresh limit small calls in
+    record { frames = ok .frames; lists = rw (ok .frames) (framesOf-lists limit small (stream (logOf limit (freshOf limit) calls))); accounts = ok .accounts }
+
+pub never-state : NeverState
+never-state limit small calls = from-fresh limit small calls .never

@@ -1,0 +1,164 @@
+-- A header that no FF follows has its line, or its frame is still open: a frame's start stays until its line is said. Assumes nothing.
+use Prim.Native.Nat.{ℕ, _+_, _≤_}
+use mathlib.Core.Path.{_≡_, refl, sym, ap, _∙_}
+use mathlib.Core.List.{List, [], _∷_, _++_, List·Memᴰ, List·Memᴰ·head, Memᴰ·append-right}
+use mathlib.Core.Bool.{Bool, true, false, true≢false}
+use mathlib.Core.Logic.{_≢_, _⊎_, inl, inr}
+use native.Mathlib.Omega.{arith}
+use lib.ListN.{length, getD, take}
+use lib.Seq.{getD-at}
+use lib.Dec.{eqb}
+use borrow.Author.Tests.{eqb-true}
+use Rattle.frame.specs.Rules.{onWire, inBody, bodyByteOf, advanceOf, decidesOf}
+use Rattle.frame.specs.Calls.{nextOf, freshOf}
+use Rattle.frame.specs.Logs.{logOf, stream}
+use Rattle.frame.specs.Lines.{Line, IsOpen}
+use Rattle.frame.specs.Claims.{NoHeaderLost}
+use Rattle.frame.specs.declared.scan.Phase.{Phase}
+use Rattle.frame.specs.declared.scan.Phase.the-variants.{Idle, Half, Header, Open, Escape}
+use Rattle.frame.specs.declared.scan.Event.{Event}
+use Rattle.frame.specs.declared.scan.Event.the-variants.{Quiet, Frame, Short, Long, Stuff, Cut, Sum}
+use Rattle.frame.specs.declared.scan.Scan.{Scan}
+use Rattle.frame.specs.declared.scan.Step.{Step}
+use Rattle.frame.specs.declared.reader.Reader.{Reader}
+use Rattle.frame.proofs.Cases.{by-test}
+use Rattle.frame.proofs.Bodies.{Partial, partial-none, first-on, Ends, body-cases}
+use Rattle.frame.proofs.Moves.{held, pending, originIn, Inv, InvIn, moves}
+use Rattle.frame.proofs.Fold.{lineAt, afterAll, saidAll, after-append, said-append, folded, kept}
+use Rattle.frame.proofs.Demand3.{fresh-holds}
+use Rattle.frame.proofs.Lined.{Lined}
+use Rattle.frame.proofs.Reading.{Between, At, read-header}
+use Rattle.frame.proofs.Lines.{from-fresh, Opened, pending-opens}
+
+-- the phases of a frame with a body byte
+abbrev Inside : Phase → Type 0
+Inside Idle = ⊥
+Inside Half = ⊥
+Inside Header = ⊥
+Inside Open = Unit {0}
+Inside Escape = Unit {0}
+
+-- a step of the frame that starts at st: it is decided, or goes on
+abbrev Follows : ℕ → Step → Type 0
+Follows st s = (decidesOf (s .event) ≡ true) ⊎ (Inside (s .scan .phase) × (s .scan .start .0 ≡ st))
+
+ends-decide : (limit : ℕ) (b : List ℕ) (e : Event) → Ends limit b e → decidesOf e ≡ true
+ends-decide limit b Quiet p = absurd p
+ends-decide limit b Frame p = refl
+ends-decide limit b Short p = refl
+ends-decide limit b Long p = refl
+ends-decide limit b Stuff p = refl
+ends-decide limit b Cut p = refl
+ends-decide limit b Sum p = refl
+
+module _ (limit t st h l m : ℕ) (body : List ℕ) where
+  abbrev scanIn : Phase → Scan
+  scanIn f = record { phase = f; taken = onWire t; start = onWire st; have = inBody h; length = l; sum = m }
+
+  abbrev b : List ℕ
+  b = take h body
+
+  body-follows : (f : Phase) (v : ℕ) → Partial limit h l m b → getD (b ++ v ∷ []) 0 0 ≢ 255 → Follows st (bodyByteOf limit (scanIn f) v)
+  body-follows f v p first = body-cases (scanIn f) p v first (Follows st) (λ k low q. inr (tt, refl)) (λ e q. inl (ends-decide limit (b ++ v ∷ []) e q))
+
+  header-follows : (x : ℕ) → x ≢ 255 → InvIn limit Header (scanIn Header) b → Follows st (advanceOf limit (scanIn Header) x)
+  header-follows x k i =
+      let p : Partial limit h l m b = partial-none body (i .1) (i .2) in
+      let e : getD (b ++ x ∷ []) 0 0 ≡ x = getD-at b x [] 0 0 (p .count ∙ i .1) in
+      by-test (Follows st) (eqb x 255) (λ q. inr (absurd (k (eqb-true x 255 q)))) (λ q. body-follows Header x p (λ j. k (sym e ∙ j)))
+
+  inside-follows : (x : ℕ) (f : Phase) → Inside f → InvIn limit f (scanIn f) b → Follows st (advanceOf limit (scanIn f) x)
+  inside-follows x Idle n i = absurd n
+  inside-follows x Half n i = absurd n
+  inside-follows x Header n i = absurd n
+  inside-follows x Open n i =
+      by-test (Follows st) (eqb x 255) (λ q. inr (tt, refl)) (λ q. body-follows Open x (i .part) (first-on (i .part) x (i .some-byte)))
+  inside-follows x Escape n i =
+      by-test (Follows st) (eqb x 255) (λ q. inl refl)
+      (λ q. by-test (Follows st) (eqb x 85) (λ w. body-follows Escape 255 (i .part) (first-on (i .part) 255 (i .some-byte))) (λ w. inl refl))
+
+-- a line that starts at st is said, or the frame is open still
+abbrev Kept : ℕ → ℕ → Reader → List ℕ → Type 0
+Kept limit st r xs =
+    ((a : Line) × (a .start ≡ st) × List·Memᴰ a (saidAll limit r xs)) ⊎ (Inside (afterAll limit r xs .scan .phase) × (afterAll limit r xs .scan .start .0 ≡ st))
+
+module _ (limit : ℕ) where
+  -- a step of the frame, before bytes that keep it
+  step-on : (x : ℕ) (xs : List ℕ) (r : Reader) → (Inside (nextOf limit r x .scan .phase) → Kept limit (nextOf limit r x .scan .start .0) (nextOf limit r x) xs)
+      → Follows (r .scan .start .0) (advanceOf limit (r .scan) x) → Kept limit (r .scan .start .0) r (x ∷ xs)
+  unfolding saidAll afterAll
+  step-on x xs r rest f = go (decidesOf (advanceOf limit (r .scan) x .event)) refl f
+    where
+      on : decidesOf (advanceOf limit (r .scan) x .event) ≡ false → nextOf limit r x .scan .start .0 ≡ r .scan .start .0
+          → Kept limit (nextOf limit r x .scan .start .0) (nextOf limit r x) xs → Kept limit (r .scan .start .0) r (x ∷ xs)
+      on d s (inl w) = inl (w .0, w .1 ∙ s, (rw d (w .2)))
+      on d s (inr w) = inr (w .0, w .1 ∙ s)
+
+      go : (u : Bool) → decidesOf (advanceOf limit (r .scan) x .event) ≡ u → Follows (r .scan .start .0) (advanceOf limit (r .scan) x) → Kept limit (r .scan .start .0) r (x ∷ xs)
+      go true d f = inl (lineAt limit r x, refl, (rw d (List·Memᴰ·head refl)))
+      go false d (inl e) = absurd (true≢false (sym e ∙ d))
+      go false d (inr w) = on d (w .1) (rest (w .0))
+
+  module _ (small : limit ≤ 65279) where
+    follows : (xs : List ℕ) (r : Reader) → Inv limit r → Inside (r .scan .phase) → Kept limit (r .scan .start .0) r xs
+    unfolding saidAll afterAll
+    follows [] r i n = inr (n, refl)
+    follows (x ∷ xs) r i n =
+        step-on x xs r (λ k. follows xs (nextOf limit r x) (moves limit small r x i .holds) k)
+        (inside-follows limit (r .scan .taken .0) (r .scan .start .0) (r .scan .have .0) (r .scan .length) (r .scan .sum) (r .body) x (r .scan .phase) n (i .phase))
+
+    -- a header that no FF follows
+    header-kept : {st : ℕ} (x : ℕ) (xs : List ℕ) (r : Reader) → At limit st [] r → x ≢ 255 → Kept limit (r .scan .start .0) r (x ∷ xs)
+    header-kept x xs r a k =
+        step-on x xs r (λ n. follows xs (nextOf limit r x) (moves limit small r x (a .holds) .holds) n)
+        (go (r .scan .phase) (a .between) (a .holds .phase))
+      where
+        go : (f : Phase) → Between f → InvIn limit f (r .scan) (held r)
+            → Follows (r .scan .start .0) (advanceOf limit (record { phase = f; taken = r .scan .taken; start = r .scan .start; have = r .scan .have; length = r .scan .length; sum = r .scan .sum }) x)
+        go Idle n i = absurd n
+        go Half n i = absurd n
+        go Header n i = header-follows limit (r .scan .taken .0) (r .scan .start .0) (r .scan .have .0) (r .scan .length) (r .scan .sum) (r .body) x k i
+        go Open n i = let none : length (held r) ≡ 0 = ap length (a .held-is) in absurd (omega (arith, i .some-byte))
+        go Escape n i = absurd n
+
+    -- the same behind any bytes of a fresh reader
+    from-before : (before after : List ℕ) (x : ℕ) → x ≢ 255 → Kept limit (length before) (freshOf limit) (before ++ 255 ∷ 255 ∷ x ∷ after)
+    from-before before after x k =
+        let q : Reader = afterAll limit (freshOf limit) before in
+        let there = kept limit small before (freshOf limit) (fresh-holds limit) in
+        let h : List ℕ = 255 ∷ 255 ∷ [] in
+        let a : At limit (q .scan .taken .0) [] (afterAll limit q h) = read-header limit small q (there .holds) in
+        let start : afterAll limit q h .scan .start .0 ≡ length before = omega (arith, a .starts, there .place) in
+        rw (after-append limit before (h ++ x ∷ after) (freshOf limit), after-append limit h (x ∷ after) q, said-append limit before (h ++ x ∷ after) (freshOf limit), said-append limit h (x ∷ after) q, ← start)
+        (wider (saidAll limit (freshOf limit) before) (saidAll limit q h) (header-kept x after (afterAll limit q h) a k))
+      where
+        wider : {A : Type 0} {st : ℕ} (u v : List Line) {w : List Line} → ((a : Line) × (a .start ≡ st) × List·Memᴰ a w) ⊎ A → ((a : Line) × (a .start ≡ st) × List·Memᴰ a (u ++ (v ++ w))) ⊎ A
+        wider u v (inl p) = inl (p .0, p .1, Memᴰ·append-right u (Memᴰ·append-right v (p .2)))
+        wider u v (inr p) = inr p
+
+inside-opened : (f : Phase) (s : Scan) → Inside f → Opened f × (originIn f s ≡ s .start .0)
+inside-opened Idle s n = absurd n
+inside-opened Half s n = absurd n
+inside-opened Header s n = absurd n
+inside-opened Open s n = (tt, refl)
+inside-opened Escape s n = (tt, refl)
+
+module _ (limit : ℕ) (small : limit ≤ 65279) where
+  told-or-open : (xs : List ℕ) (st : ℕ) → Kept limit st (freshOf limit) xs → ((a : Line) × (a .start ≡ st) × List·Memᴰ a (saidAll limit (freshOf limit) xs)) ⊎ IsOpen limit xs st
+  told-or-open xs st (inl w) = inl w
+  told-or-open xs st (inr p) =
+      let q : Reader = afterAll limit (freshOf limit) xs in
+      let w : Lined limit (freshOf limit) [] xs = from-fresh limit small xs in
+      let o = inside-opened (q .scan .phase) (q .scan) (p .0) in
+      inr (record {
+        before = w .front;
+        raw = pending q;
+        bytes = w .bytes;
+        starts = sym (w .place ∙ o .1 ∙ p .1);
+        opens = pending-opens limit (q .scan .phase) (q .scan) (held q) (kept limit small xs (freshOf limit) (fresh-holds limit) .holds .phase) (o .0);
+      })
+
+pub no-header-lost : NoHeaderLost
+no-header-lost limit small calls before after x e k =
+    rw (folded limit calls (freshOf limit) .lines)
+    (told-or-open limit small (stream (logOf limit (freshOf limit) calls)) (length before) (rw e (from-before limit small before after x k)))

@@ -1,0 +1,24 @@
+-- The laws, from lists up to the claims of specs/Claims.antt.
+pub mod Cases
+pub mod Rows
+pub mod Sums
+pub mod Stuffing
+pub mod Writing
+pub mod Steps
+pub mod Counts
+pub mod Here
+pub mod Skip
+pub mod Listed
+pub mod Unique
+pub mod Bodies
+pub mod Moves
+pub mod Logged
+pub mod Demand3
+pub mod Sent
+pub mod Sender
+pub mod Round
+pub mod Fold
+pub mod Lined
+pub mod Reading
+pub mod Lines
+pub mod Headers

@@ -1,0 +1,162 @@
+-- Each line of the table over the stream of any calls, and what an end asked tells. Assumes nothing.
+use Prim.Native.Nat.{ℕ, _+_, _-_, _^_, _≤_}
+use mathlib.Core.Path.{_≡_, refl, sym, ap, _∙_}
+use mathlib.Core.List.{List, [], _∷_, _++_, List·Memᴰ, Memᴰ·cast, Memᴰ·append-left, Memᴰ·append-right}
+use mathlib.Core.Bool.{false, cond, _||_}
+use native.Mathlib.Omega.{arith}
+use lib.ListN.{length, take, drop}
+use lib.Seq.{take-at, drop-at}
+use lib.Dec.{eqb}
+use Rattle.frame.specs.Wire.{unstuff}
+use Rattle.frame.specs.Table.{Row, row}
+use Rattle.frame.specs.Calls.{reply, endingRow, freshOf}
+use Rattle.frame.specs.Logs.{logOf, readerAfter, stream}
+use Rattle.frame.specs.Lines.{Decides, is-frame, is-short, is-long, is-stuff, is-cut, is-sum, Line, IsLine, Opens, at-header, in-body, at-ff, IsOpen}
+use Rattle.frame.specs.Claims.{EachLine, EndTold, EndsTold}
+use Rattle.frame.specs.declared.scan.Phase.{Phase}
+use Rattle.frame.specs.declared.scan.Phase.the-variants.{Idle, Half, Header, Open, Escape}
+use Rattle.frame.specs.declared.scan.Scan.{Scan}
+use Rattle.frame.specs.declared.reader.Reader.{Reader}
+use Rattle.frame.proofs.Stuffing.{stuffed-form}
+use Rattle.frame.proofs.Moves.{held, pending, pendingIn, origin, Inv, InvIn}
+use Rattle.frame.proofs.Logged.{in-range, reached}
+use Rattle.frame.proofs.Demand3.{fresh-holds}
+use Rattle.frame.proofs.Bodies.{unfinished-of}
+use Rattle.frame.proofs.Fold.{afterAll, saidAll, after-append, said-append, folded, kept}
+use Rattle.frame.proofs.Lined.{Lined, lined}
+use Rattle.frame.proofs.Reading.{Between, At, line-path, read-header, read-body, read-ff, reads}
+
+-- ---- a line is fixed by its number and its stretch
+
+-- the body that the raw bytes of a line have, where it is to be held
+abbrev bodyIn : ℕ → List ℕ → List ℕ
+bodyIn n raw = cond (eqb n 1 || eqb n 15) (unstuff false (drop 2 raw)) []
+
+body-in : {limit n : ℕ} {raw body : List ℕ} → Decides limit raw n body → body ≡ bodyIn n raw
+body-in (is-frame b n h e g) = rw (n, e) (h ∙ sym (stuffed-form b .reads-back))
+body-in (is-short b n h e l k) = rw n h
+body-in (is-long b n h e l f five k) = rw n h
+body-in (is-stuff b x n h e u k f) = rw n h
+body-in (is-cut b n h e u) = rw n h
+body-in (is-sum b n h e l k m w) = rw (n, e) (h ∙ sym (stuffed-form b .reads-back))
+
+raw-in : {limit : ℕ} {xs : List ℕ} {l : Line} (w : IsLine limit xs l) → w .raw ≡ take (l .end - l .start) (drop (l .start) xs)
+raw-in {limit} {xs} {l} w =
+    let rest : drop (l .start) xs ≡ w .raw ++ w .after = rw (w .bytes) (drop-at (w .before) (w .raw ++ w .after) (l .start) (sym (w .starts))) in
+    sym (rw rest (take-at (w .raw) (w .after) (l .end - l .start) (omega (arith, w .starts, w .ends))))
+
+same-body : {limit : ℕ} {xs : List ℕ} {l k : Line} → IsLine limit xs l → IsLine limit xs k → l .number ≡ k .number → l .start ≡ k .start → l .end ≡ k .end → l .body ≡ k .body
+same-body {limit} {xs} {l} {k} v w n s e =
+    let raws : v .raw ≡ w .raw = raw-in v ∙ rw (s, e) (sym (raw-in w)) in
+    body-in (v .decides) ∙ rw (n, raws) (sym (body-in (w .decides)))
+
+-- ---- each line
+
+module _ (limit : ℕ) (small : limit ≤ 65279) where
+  pub from-fresh : (xs : List ℕ) → Lined limit (freshOf limit) [] xs
+  from-fresh xs = lined limit small xs (freshOf limit) (fresh-holds limit) [] refl
+
+  complete : (xs : List ℕ) (l : Line) → IsLine limit xs l → List·Memᴰ l (saidAll limit (freshOf limit) xs)
+  complete xs l w =
+      let q : Reader = afterAll limit (freshOf limit) (w .before) in
+      let k = kept limit small (w .before) (freshOf limit) (fresh-holds limit) in
+      let at : q .scan .taken .0 ≡ length (w .before) = omega (arith, k .place) in
+      let told = reads limit small q (k .holds) (w .decides) in
+      let a : Line = record { number = l .number; start = q .scan .taken .0; end = q .scan .taken .0 + length (w .raw); body = told .0 } in
+      let start : l .start ≡ q .scan .taken .0 = w .starts ∙ sym at in
+      let end : l .end ≡ q .scan .taken .0 + length (w .raw) = w .ends ∙ ap (λ (n : ℕ). n + length (w .raw)) (sym at) in
+      let said : List·Memᴰ a (saidAll limit (freshOf limit) xs) =
+      rw (w .bytes, said-append limit (w .before) (w .raw ++ w .after) (freshOf limit), said-append limit (w .raw) (w .after) q)
+      (Memᴰ·append-right (saidAll limit (freshOf limit) (w .before)) (Memᴰ·append-left (saidAll limit (afterAll limit q (w .raw)) (w .after)) (told .1))) in
+      let same : l ≡ a = line-path refl start end (same-body w (from-fresh xs .sound a said) refl start end) in
+      Memᴰ·cast same said
+
+pub each-line : EachLine
+each-line limit small calls =
+    let s : List ℕ = stream (logOf limit (freshOf limit) calls) in
+    let w : Lined limit (freshOf limit) [] s = from-fresh limit small s in
+    rw (folded limit calls (freshOf limit) .lines) (record { sound = w .sound; complete = complete limit small s; rising = w .rising })
+
+-- ---- an end asked
+
+-- the phases of an open frame
+abbrev pub Opened : Phase → Type 0
+Opened Idle = ⊥
+Opened Half = ⊥
+Opened Header = Unit {0}
+Opened Open = Unit {0}
+Opened Escape = Unit {0}
+
+at-opened : {limit st : ℕ} {b : List ℕ} {r : Reader} → At limit st b r → Opened (r .scan .phase) × (r .scan .start .0 ≡ st)
+at-opened {r} a = (go (r .scan .phase) (a .between), a .starts)
+  where
+    go : (f : Phase) → Between f → Opened f
+    go Idle n = n
+    go Half n = n
+    go Header n = tt
+    go Open n = tt
+    go Escape n = tt
+
+open-row : (f : Phase) (s : Scan) → Opened f → endingRow f s ≡ row 16 (s .taken .0 ∷ s .start .0 ∷ [])
+open-row Idle s n = absurd n
+open-row Half s n = absurd n
+open-row Header s n = refl
+open-row Open s n = refl
+open-row Escape s n = refl
+
+clean-row : (f : Phase) (s : Scan) → (Opened f → ⊥) → endingRow f s ≡ row 2 (s .taken .0 ∷ [])
+clean-row Idle s n = refl
+clean-row Half s n = refl
+clean-row Header s n = absurd (n tt)
+clean-row Open s n = absurd (n tt)
+clean-row Escape s n = absurd (n tt)
+
+-- what is pending of an open frame
+pub pending-opens : (limit : ℕ) (f : Phase) (s : Scan) (b : List ℕ) → InvIn limit f s b → Opened f → Opens limit (pendingIn f b)
+pending-opens limit Idle s b i n = absurd n
+pending-opens limit Half s b i n = absurd n
+pending-opens limit Header s b i n = at-header refl
+pending-opens limit Open s b i n = in-body b refl (unfinished-of (i .part) (i .some-byte))
+pending-opens limit Escape s b i n = at-ff b refl (unfinished-of (i .part) (i .some-byte))
+
+module _ (limit : ℕ) (small : limit ≤ 65279) where
+  opens-after : (r : Reader) → Inv limit r → {raw : List ℕ} → Opens limit raw → Opened (afterAll limit r raw .scan .phase) × (afterAll limit r raw .scan .start .0 ≡ r .scan .taken .0)
+  opens-after r i (at-header e) = rw e (at-opened (read-header limit small r i))
+  opens-after r i (in-body b e u) = rw e (at-opened (read-body limit small r i b u))
+  opens-after r i (at-ff b e u) = let w = read-ff limit small r i b u in rw e (rw (w .0) tt, w .1)
+
+  told : (xs : List ℕ) → afterAll limit (freshOf limit) xs .scan .taken .0 ≤ 2 ^ 62 → EndTold limit xs (afterAll limit (freshOf limit) xs)
+  told xs most =
+      let q : Reader = afterAll limit (freshOf limit) xs in
+      let k = kept limit small xs (freshOf limit) (fresh-holds limit) in
+      let w : Lined limit (freshOf limit) [] xs = from-fresh limit small xs in
+      let at : q .scan .taken .0 ≡ length xs = omega (arith, k .place) in
+      record {
+        left-open = λ start o. rw (in-range limit small q (k .holds) most) (ap (λ (a : Row). reply a q) (open-is xs start o at));
+        left-clean = λ none. rw (in-range limit small q (k .holds) most) (ap (λ (a : Row). reply a q)
+            (clean-row (q .scan .phase) (q .scan) (λ n. none (origin q) (record {
+              before = w .front;
+              raw = pending q;
+              bytes = w .bytes;
+              starts = sym (w .place);
+              opens = pending-opens limit (q .scan .phase) (q .scan) (held q) (k .holds .phase) n;
+            })) ∙ ap (λ (n : ℕ). row 2 (n ∷ [])) at));
+      }
+    where
+      open-is : (xs : List ℕ) (start : ℕ) → IsOpen limit xs start → afterAll limit (freshOf limit) xs .scan .taken .0 ≡ length xs
+          → endingRow (afterAll limit (freshOf limit) xs .scan .phase) (afterAll limit (freshOf limit) xs .scan) ≡ row 16 (length xs ∷ start ∷ [])
+      open-is xs start o at =
+          let q : Reader = afterAll limit (freshOf limit) xs in
+          let p : Reader = afterAll limit (freshOf limit) (o .before) in
+          let k = kept limit small (o .before) (freshOf limit) (fresh-holds limit) in
+          let there : q ≡ afterAll limit p (o .raw) = ap (λ (l : List ℕ). afterAll limit (freshOf limit) l) (o .bytes) ∙ after-append limit (o .before) (o .raw) (freshOf limit) in
+          let opened : Opened (q .scan .phase) × (q .scan .start .0 ≡ p .scan .taken .0) = rw there (opens-after p (k .holds) (o .opens)) in
+          let from : q .scan .start .0 ≡ start = omega (arith, opened .1, k .place, o .starts) in
+          open-row (q .scan .phase) (q .scan) (opened .0) ∙ rw (at, from)
+
+pub end-told : EndsTold
+end-told limit small calls =
+    let s : List ℕ = stream (logOf limit (freshOf limit) calls) in
+    let e : readerAfter limit (freshOf limit) calls ≡ afterAll limit (freshOf limit) s = folded limit calls (freshOf limit) .reader in
+    let r = reached limit small calls (freshOf limit) (fresh-holds limit) (omega arith) in
+    rw e (told limit small s (rw e at (r .most)))

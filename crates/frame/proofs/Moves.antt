@@ -1,0 +1,330 @@
+-- One raw byte over the stream. A state stands for the raw bytes of the frame that it has begun, its pending bytes;
+-- a byte keeps the list of frames of the pending bytes and any rest, but for the frame that it hands out. Assumes nothing.
+use Prim.Native.Nat.{ℕ, suc, _+_, _-_, _%_, _^_, _≤_}
+use mathlib.Core.Path.{_≡_, refl, sym, ap, _∙_}
+use mathlib.Core.List.{List, [], _∷_, _++_, append-assoc}
+use mathlib.Core.Logic.{_≢_}
+use mathlib.Core.Option.{none}
+use native.Mathlib.Numerals.{add-one}
+use native.Mathlib.Omega.{arith}
+use lib.ListN.{length, getD, take, set, length-append, length-set}
+use lib.Seq.{getD-at}
+use lib.Dec.{eqb}
+use borrow.Author.Tests.{eqb-true, eqb-false, eq-eqb, ne-eqb, le-leb}
+use Rattle.frame.specs.Wire.{stuff, wire, lengthOf, Good}
+use Rattle.frame.specs.Frames.{Found, frontBody, isGood, sumHolds, framesFrom, here}
+use Rattle.frame.specs.Rules.{onWire, inBody, putOf, grownOf, endedOf, bodyByteOf, onFFIn, onOtherIn, advanceOf}
+use Rattle.frame.specs.declared.scan.Phase.{Phase}
+use Rattle.frame.specs.declared.scan.Phase.the-variants.{Idle, Half, Header, Open, Escape}
+use Rattle.frame.specs.declared.scan.Event.{Event}
+use Rattle.frame.specs.declared.scan.Event.the-variants.{Quiet, Frame, Short, Long, Stuff, Cut, Sum}
+use Rattle.frame.specs.declared.scan.Scan.{Scan}
+use Rattle.frame.specs.declared.scan.Step.{Step}
+use Rattle.frame.specs.declared.reader.Reader.{Reader}
+use Rattle.frame.proofs.Cases.{by-test}
+use Rattle.frame.proofs.Stuffing.{stuff-append}
+use Rattle.frame.proofs.Bodies.{Partial, partial-none, first-on, sumIn, sumDue, Ends, size, stored, body-cases, whole-held}
+use Rattle.frame.proofs.Skip.{pass, pass-other, pass-pair, pass-lone, pass-triple, pass-wire, take-wire, none-end, none-lone, none-broken, none-short, none-long, none-sum}
+
+-- ---- what a state stands for
+
+-- the body bytes so far
+abbrev pub held : Reader → List ℕ
+held r = take (r .scan .have .0) (r .body)
+
+abbrev pub pendingIn : Phase → List ℕ → List ℕ
+pendingIn Idle b = []
+pendingIn Half b = 255 ∷ []
+pendingIn Header b = 255 ∷ 255 ∷ []
+pendingIn Open b = wire b
+pendingIn Escape b = wire b ++ 255 ∷ []
+
+abbrev pub pending : Reader → List ℕ
+pending r = pendingIn (r .scan .phase) (held r)
+
+-- the place of the first pending byte
+abbrev pub originIn : Phase → Scan → ℕ
+originIn Idle s = s .taken .0
+originIn Half s = s .taken .0 - 1
+originIn Header s = s .start .0
+originIn Open s = s .start .0
+originIn Escape s = s .start .0
+
+abbrev pub origin : Reader → ℕ
+origin r = originIn (r .scan .phase) (r .scan)
+
+-- an open frame of which n raw bytes are there
+pub record Begun (limit : ℕ) (s : Scan) (b : List ℕ) (n : ℕ) : Type 0 where
+  pub some-byte : 1 ≤ length b
+  pub place : s .taken .0 ≡ s .start .0 + n
+  pub part : Partial limit (s .have .0) (s .length) (s .sum) b
+
+abbrev pub InvIn : ℕ → Phase → Scan → List ℕ → Type 0
+InvIn limit Idle s b = Unit {0}
+InvIn limit Half s b = 1 ≤ s .taken .0
+InvIn limit Header s b = (s .taken .0 ≡ s .start .0 + 2) × (s .have .0 ≡ 0) × (s .sum ≡ 0)
+InvIn limit Open s b = Begun limit s b (length (wire b))
+InvIn limit Escape s b = Begun limit s b (suc (length (wire b)))
+
+-- what holds of a reader after any calls
+pub record Inv (limit : ℕ) (r : Reader) : Type 0 where
+  pub phase : InvIn limit (r .scan .phase) (r .scan) (held r)
+  pub room : length (r .body) ≡ limit + 2
+  pub inside : r .scan .have .0 ≤ limit + 1
+
+abbrev pub handedBy : Event → Found → List Found → List Found
+handedBy Quiet f l = l
+handedBy Frame f l = f ∷ l
+handedBy Short f l = l
+handedBy Long f l = l
+handedBy Stuff f l = l
+handedBy Cut f l = l
+handedBy Sum f l = l
+
+-- the reader after a step, and the frame that the step completes
+abbrev pub after : Reader → Step → Reader
+after r s = record { scan = s .scan; body = putOf (s .put) (r .body) (r .scan .have .0) (s .byte) }
+
+abbrev pub foundBy : Reader → Step → Found
+foundBy r s = record { start = r .scan .start .0; end = s .scan .taken .0; body = frontBody (after r s .body) }
+
+-- a step from the pending bytes p at place o, with any rest
+pub record Moved (limit o : ℕ) (p : List ℕ → List ℕ) (r : Reader) (s : Step) : Type 0 where
+  pub one : s .scan .taken .0 ≡ suc (r .scan .taken .0)
+  pub holds : Inv limit (after r s)
+  pub frames : (t : List ℕ) → framesFrom limit o (p t) ≡ handedBy (s .event) (foundBy r s) (framesFrom limit (origin (after r s)) (pending (after r s) ++ t))
+
+pub at-place : (limit : ℕ) (t : List ℕ) {m n : ℕ} → m ≡ n → framesFrom limit m t ≡ framesFrom limit n t
+at-place limit t e = ap (λ (k : ℕ). framesFrom limit k t) e
+
+found-path : {s s′ e e′ : ℕ} {b b′ : List ℕ} → s ≡ s′ → e ≡ e′ → b ≡ b′ → _≡_ {A = Found} (record { start = s; end = e; body = b }) (record { start = s′; end = e′; body = b′ })
+found-path p q r = λ i. record { start = p i; end = q i; body = r i }
+
+-- ---- one more byte of a list
+
+pub wire-snoc : (b : List ℕ) (x : ℕ) (t : List ℕ) → x ≢ 255 → wire (b ++ x ∷ []) ++ t ≡ wire b ++ x ∷ t
+unfolding stuff
+wire-snoc b x t h = rw (stuff-append b (x ∷ []), ne-eqb x 255 h, append-assoc (stuff b) (x ∷ []) t)
+
+length-snoc : (b : List ℕ) (x : ℕ) → x ≢ 255 → length (stuff (b ++ x ∷ [])) ≡ length (stuff b) + 1
+unfolding stuff
+length-snoc b x h = rw (stuff-append b (x ∷ []), ne-eqb x 255 h) (length-append (stuff b) (x ∷ []))
+
+pub wire-ff : (b t : List ℕ) → wire (b ++ 255 ∷ []) ++ t ≡ wire b ++ 255 ∷ 85 ∷ t
+unfolding stuff
+wire-ff b t = rw (stuff-append b (255 ∷ []), append-assoc (stuff b) (255 ∷ 85 ∷ []) t)
+
+length-ff : (b : List ℕ) → length (stuff (b ++ 255 ∷ [])) ≡ length (stuff b) + 2
+unfolding stuff
+length-ff b = rw (stuff-append b (255 ∷ [])) (length-append (stuff b) (255 ∷ 85 ∷ []))
+
+pub wire-wait : (b t : List ℕ) → (wire b ++ 255 ∷ []) ++ t ≡ wire b ++ 255 ∷ t
+wire-wait b t = rw (append-assoc (stuff b) (255 ∷ []) t)
+
+-- behind a header no body byte is there
+pub wire-none : {b : List ℕ} → b ≡ [] → wire b ≡ 255 ∷ 255 ∷ []
+unfolding stuff
+wire-none e = rw e refl
+
+-- ---- a body byte
+
+module _ (limit : ℕ) (f : Phase) (t st h l m : ℕ) (body : List ℕ) (room : length body ≡ limit + 2) (inside : h ≤ limit + 1)
+    (p : Partial limit h l m (take h body)) (v : ℕ) (first : getD (take h body ++ v ∷ []) 0 0 ≢ 255)
+    (place : suc t ≡ st + length (wire (take h body ++ v ∷ []))) where
+  abbrev from : Reader
+  from = record { scan = record { phase = f; taken = onWire t; start = onWire st; have = inBody h; length = l; sum = m }; body = body }
+
+  abbrev grown-body : List ℕ
+  grown-body = take h body ++ v ∷ []
+
+  abbrev Moves : Step → Type 0
+  Moves s = Moved limit st (λ t. wire grown-body ++ t) from s
+
+  in-place : take (h + 1) (set body h v) ≡ grown-body
+  in-place = stored body h v (omega arith)
+
+  goes-on : (k : ℕ) → h ≤ limit → Partial limit (h + 1) k ((m + v) % 2 ^ 8) grown-body → Moves (grownOf (from .scan) k v)
+  goes-on k low q =
+      record {
+        one = add-one t;
+        holds = record {
+          phase = rw in-place (record { some-byte = omega (arith, size p v); place = omega arith; part = q });
+          room = length-set body h v ∙ room;
+          inside = omega arith;
+        };
+        frames = λ r. rw in-place refl;
+      }
+
+  -- a refused frame is none
+  refused : (e : Event) → ((g : Found) (r : List Found) → handedBy e g r ≡ r) → ((r : List ℕ) → here limit (wire grown-body ++ r) ≡ none) → Moves (endedOf (from .scan) v e)
+  refused e silent none-here =
+      record {
+        one = add-one t;
+        holds = record { phase = tt; room = length-set body h v ∙ room; inside = omega arith };
+        frames = λ r.
+            pass-wire limit grown-body r st (omega (arith, size p v)) first (none-here r) ∙ at-place limit r (omega arith)
+            ∙ sym (silent (foundBy from (endedOf (from .scan) v e)) (framesFrom limit (t + 1) r));
+      }
+
+  completes : Good limit grown-body → Moves (endedOf (from .scan) v Frame)
+  completes g =
+      record {
+        one = add-one t;
+        holds = record { phase = tt; room = length-set body h v ∙ room; inside = omega arith };
+        frames = λ r.
+            take-wire limit grown-body r st (omega (arith, size p v)) first g
+            ∙ ap (λ (l : List Found). record { start = st; end = st + length (wire grown-body); body = grown-body } ∷ l) (at-place limit r (omega arith))
+            ∙ ap (λ (g : Found). g ∷ framesFrom limit (t + 1) r) (found-path refl (omega arith) (sym (whole-held body h v (omega arith) (g .true-length))));
+      }
+
+  ended-moves : (e : Event) → Ends limit grown-body e → Moves (endedOf (from .scan) v e)
+  unfolding isGood sumHolds
+  ended-moves Quiet q = absurd q
+  ended-moves Frame q = completes q
+  ended-moves Short q = refused Short (λ g r. refl) (λ r. none-short limit grown-body r (omega (arith, q .0)) (q .1))
+  ended-moves Long q = refused Long (λ g r. refl) (λ r. none-long limit grown-body r (omega (arith, q .0)) (q .3))
+  ended-moves Stuff q = absurd q
+  ended-moves Cut q = absurd q
+  ended-moves Sum q =
+      refused Sum (λ g r. refl) (λ r. none-sum limit grown-body r (q .0)
+      (rw (eq-eqb (length grown-body) (lengthOf grown-body + 2) (q .0), le-leb 5 (lengthOf grown-body) (q .1), le-leb (lengthOf grown-body) limit (q .2))
+      (ne-eqb (sumIn grown-body) (sumDue grown-body) (q .3))))
+
+  pub body-moves : Moves (bodyByteOf limit (from .scan) v)
+  body-moves = body-cases (from .scan) p v first Moves goes-on ended-moves
+
+-- ---- a raw byte, by phase
+
+module _ (limit : ℕ) (small : limit ≤ 65279) (t st h l m : ℕ) (body : List ℕ) (room : length body ≡ limit + 2) (inside : h ≤ limit + 1) where
+  abbrev scanIn : Phase → Scan
+  scanIn f = record { phase = f; taken = onWire t; start = onWire st; have = inBody h; length = l; sum = m }
+
+  abbrev readerIn : Phase → Reader
+  readerIn f = record { scan = scanIn f; body = body }
+
+  abbrev MovesFrom : Phase → ℕ → Step → Type 0
+  MovesFrom f x s = Moved limit (originIn f (scanIn f)) (λ r. pendingIn f (take h body) ++ x ∷ r) (readerIn f) s
+
+  -- a header is made
+  header-holds : {k : ℕ} → t ≡ suc k → InvIn limit Header (record { phase = Header; taken = onWire (t + 1); start = onWire (t - 1); have = inBody 0; length = 0; sum = 0 }) []
+  header-holds e = (omega arith, refl, refl)
+
+  ff-moves : (f : Phase) → InvIn limit f (scanIn f) (take h body) → MovesFrom f 255 (onFFIn f (scanIn f))
+  ff-moves Idle i =
+      record {
+        one = add-one t;
+        holds = record { phase = omega arith; room = room; inside = omega arith };
+        frames = λ r. at-place limit (255 ∷ r) (omega arith);
+      }
+  ff-moves Half i =
+      record { one = add-one t; holds = record { phase = (omega arith, refl, refl); room = room; inside = omega arith }; frames = λ r. refl }
+  ff-moves Header i =
+      record {
+        one = add-one t;
+        holds = record { phase = (omega arith, refl, refl); room = room; inside = omega arith };
+        frames = λ r. pass-triple limit small st r ∙ at-place limit (255 ∷ 255 ∷ r) (omega (arith, i .0));
+      }
+  ff-moves Open i =
+      record {
+        one = add-one t;
+        holds = record { phase = record { some-byte = i .some-byte; place = omega (arith, i .place); part = i .part }; room = room; inside = inside };
+        frames = λ r. ap (λ (k : List ℕ). framesFrom limit st k) (sym (wire-wait (take h body) r));
+      }
+  ff-moves Escape i =
+      record {
+        one = add-one t;
+        holds = record { phase = (omega (arith, i .place), refl, refl); room = room; inside = omega arith };
+        frames = λ r.
+            ap (λ (k : List ℕ). framesFrom limit st k) (wire-wait (take h body) (255 ∷ r))
+            ∙ pass-wire limit (take h body) (255 ∷ 255 ∷ r) st (i .some-byte) (i .part .first) (none-broken limit (take h body) 255 r (rw (i .part .count) (i .part .under)) (omega arith))
+            ∙ at-place limit (255 ∷ 255 ∷ r) (omega (arith, i .place));
+      }
+
+  other-moves : (x : ℕ) → x ≢ 255 → (f : Phase) → InvIn limit f (scanIn f) (take h body) → MovesFrom f x (onOtherIn f limit (scanIn f) x)
+  other-moves x k Idle i =
+      record {
+        one = add-one t;
+        holds = record { phase = tt; room = room; inside = omega arith };
+        frames = λ r. pass-other limit t x r k ∙ at-place limit r (omega arith);
+      }
+  other-moves x k Half i =
+      record {
+        one = add-one t;
+        holds = record { phase = tt; room = room; inside = omega arith };
+        frames = λ r. pass-pair limit (t - 1) 255 x r k ∙ pass-other limit (suc (t - 1)) x r k ∙ at-place limit r (omega arith);
+      }
+  other-moves x k Header i =
+      let p : Partial limit h l m (take h body) = partial-none body (i .1) (i .2) in
+      let none-yet : take h body ≡ [] = ap (λ (j : ℕ). take j body) (i .1) in
+      let e : getD (take h body ++ x ∷ []) 0 0 ≡ x = getD-at (take h body) x [] 0 0 (p .count ∙ i .1) in
+      let n : length (wire (take h body)) ≡ 2 = ap length (wire-none none-yet) in
+      let m = body-moves limit Header t st h l m body room inside p x (λ q. k (sym e ∙ q)) (omega (arith, length-snoc (take h body) x k, i .0)) in
+      record { one = m .one; holds = m .holds; frames = λ r. ap (λ (j : List ℕ). framesFrom limit st j) (ap (λ (j : List ℕ). j ++ x ∷ r) (sym (wire-none none-yet)) ∙ sym (wire-snoc (take h body) x r k)) ∙ m .frames r }
+  other-moves x k Open i =
+      let m = body-moves limit Open t st h l m body room inside (i .part) x (first-on (i .part) x (i .some-byte)) (omega (arith, length-snoc (take h body) x k, i .place)) in
+      record { one = m .one; holds = m .holds; frames = λ r. ap (λ (j : List ℕ). framesFrom limit st j) (sym (wire-snoc (take h body) x r k)) ∙ m .frames r }
+  other-moves x k Escape i =
+      by-test (MovesFrom Escape x) (eqb x 85)
+      (λ q.
+      let m = body-moves limit Escape t st h l m body room inside (i .part) 255 (first-on (i .part) 255 (i .some-byte)) (omega (arith, length-ff (take h body), i .place)) in
+      record {
+        one = m .one;
+        holds = m .holds;
+        frames = λ r. rw (eqb-true x 85 q) (ap (λ (j : List ℕ). framesFrom limit st j) (wire-wait (take h body) (85 ∷ r) ∙ sym (wire-ff (take h body) r)) ∙ m .frames r);
+      })
+      (λ q.
+      record {
+        one = add-one t;
+        holds = record { phase = tt; room = room; inside = omega arith };
+        frames = λ r.
+            ap (λ (j : List ℕ). framesFrom limit st j) (wire-wait (take h body) (x ∷ r))
+            ∙ pass-wire limit (take h body) (255 ∷ x ∷ r) st (i .some-byte) (i .part .first) (none-broken limit (take h body) x r (rw (i .part .count) (i .part .under)) (eqb-false x 85 q))
+            ∙ pass-pair limit (st + length (wire (take h body))) 255 x r k ∙ pass-other limit (suc (st + length (wire (take h body)))) x r k ∙ at-place limit r (omega (arith, i .place));
+      })
+
+  byte-moves : (x : ℕ) (f : Phase) → InvIn limit f (scanIn f) (take h body) → MovesFrom f x (advanceOf limit (scanIn f) x)
+  byte-moves x f i =
+      by-test (MovesFrom f x) (eqb x 255)
+      (λ q. rw (eqb-true x 255 q) (ff-moves f i))
+      (λ q. other-moves x (eqb-false x 255 q) f i)
+
+-- a raw byte, of any reader that the calls can reach
+pub moves : (limit : ℕ) → limit ≤ 65279 → (r : Reader) (x : ℕ) → Inv limit r → Moved limit (origin r) (λ t. pending r ++ x ∷ t) r (advanceOf limit (r .scan) x)
+moves limit small r x i =
+    byte-moves limit small (r .scan .taken .0) (r .scan .start .0) (r .scan .have .0) (r .scan .length) (r .scan .sum) (r .body) (i .room) (i .inside) x (r .scan .phase) (i .phase)
+
+-- ---- where a frame begins or the bytes end
+
+module _ (limit : ℕ) where
+  -- nothing that is pending is a frame
+  pub nothing-left : (r : Reader) → Inv limit r → framesFrom limit (origin r) (pending r ++ []) ≡ []
+  unfolding framesFrom stuff
+  nothing-left r i = go (r .scan .phase) (r .scan) (held r) (i .phase)
+    where
+      go : (f : Phase) (s : Scan) (b : List ℕ) → InvIn limit f s b → framesFrom limit (originIn f s) (pendingIn f b ++ []) ≡ []
+      go Idle s b h = refl
+      go Half s b h = pass-lone limit (s .taken .0 - 1) 255
+      go Header s b h = pass limit (s .start .0) 255 (255 ∷ []) (none-end limit [] (omega arith)) ∙ pass-lone limit (suc (s .start .0)) 255
+      go Open s b h = pass-wire limit b [] (s .start .0) (h .some-byte) (h .part .first) (none-end limit b (rw (h .part .count) (h .part .under)))
+      go Escape s b h =
+          ap (λ (l : List ℕ). framesFrom limit (s .start .0) l) (wire-wait b [])
+          ∙ pass-wire limit b (255 ∷ []) (s .start .0) (h .some-byte) (h .part .first) (none-lone limit b (rw (h .part .count) (h .part .under)))
+          ∙ pass-lone limit (s .start .0 + length (wire b)) 255
+
+  -- a header that follows ends whatever is pending
+  pub settles : limit ≤ 65279 → (r : Reader) → Inv limit r → (t : List ℕ)
+      → framesFrom limit (origin r) (pending r ++ 255 ∷ 255 ∷ t) ≡ framesFrom limit (r .scan .taken .0) (255 ∷ 255 ∷ t)
+  settles small r i t = go (r .scan .phase) (r .scan) (held r) (i .phase)
+    where
+      go : (f : Phase) (s : Scan) (b : List ℕ) → InvIn limit f s b → framesFrom limit (originIn f s) (pendingIn f b ++ 255 ∷ 255 ∷ t) ≡ framesFrom limit (s .taken .0) (255 ∷ 255 ∷ t)
+      go Idle s b h = refl
+      go Half s b h = pass-triple limit small (s .taken .0 - 1) t ∙ at-place limit (255 ∷ 255 ∷ t) (omega arith)
+      go Header s b h =
+          pass-triple limit small (s .start .0) (255 ∷ t) ∙ pass-triple limit small (suc (s .start .0)) t ∙ at-place limit (255 ∷ 255 ∷ t) (omega (arith, h .0))
+      go Open s b h =
+          pass-wire limit b (255 ∷ 255 ∷ t) (s .start .0) (h .some-byte) (h .part .first) (none-broken limit b 255 t (rw (h .part .count) (h .part .under)) (omega arith))
+          ∙ at-place limit (255 ∷ 255 ∷ t) (omega (arith, h .place))
+      go Escape s b h =
+          ap (λ (l : List ℕ). framesFrom limit (s .start .0) l) (wire-wait b (255 ∷ 255 ∷ t))
+          ∙ pass-wire limit b (255 ∷ 255 ∷ 255 ∷ t) (s .start .0) (h .some-byte) (h .part .first) (none-broken limit b 255 (255 ∷ t) (rw (h .part .count) (h .part .under)) (omega arith))
+          ∙ pass-triple limit small (s .start .0 + length (wire b)) t ∙ at-place limit (255 ∷ 255 ∷ t) (omega (arith, h .place))

@@ -1,0 +1,108 @@
+-- Laws of the reader: of one byte, of a run of bytes, and of a state in range. Assumes nothing.
+use Prim.Native.Nat.{ℕ, _+_, _-_, _*_, _^_, _<_, _≤_}
+use mathlib.Core.Path.{_≡_, refl, sym, _∙_}
+use mathlib.Core.Bool.{Bool, _&&_, true, false, true≢false}
+use mathlib.Core.List.{List, [], _∷_}
+use native.Mathlib.Omega.{arith}
+use native.Mathlib.Numerals.{add-one}
+use borrow.Author.Tests.{eq-eqb, ne-eqb, lt-ltb, le-ltb, le-leb, lt-leb, eqb-true, ltb-false, leb-true}
+use lib.ListN.{length, drop, getD}
+use lib.Seq.{drop-cons, drop-length}
+use lib.Dec.{ltb, leb, eqb}
+use Rattle.frame.specs.Table.{row}
+use Rattle.frame.specs.Rules.{Ready, inRangeOf, completedOf, bodyByteOf, onFFIn, onOtherIn, advanceOf, decidesOf, putOf}
+use Rattle.frame.specs.Calls.{reply, eventRow, runOf}
+use Rattle.frame.specs.declared.scan.Phase.{Phase}
+use Rattle.frame.specs.declared.scan.Phase.the-variants.{Idle, Half, Header, Open, Escape}
+use Rattle.frame.specs.declared.scan.Scan.{Scan}
+use Rattle.frame.specs.declared.scan.Step.{Step}
+use Rattle.frame.specs.declared.reader.Reader.{Reader}
+use Rattle.frame.proofs.Cases.{by-test}
+
+-- ---- the code's tests, as the rules have them
+
+-- with these `search` takes what the tests on the way told into a rule's `cond`
+pub ruleset tests = (eq-eqb, ne-eqb, lt-ltb, le-ltb, le-leb, lt-leb)
+
+-- ---- one byte
+
+module _ {limit : ℕ} {s : Scan} (n : ℕ) (h : Ready limit s (n + 1)) where
+  abbrev Kept : Step → Type 0
+  Kept t = Ready limit (t .scan) n
+
+  kept-completed : (v : ℕ) → Kept (completedOf s v)
+  kept-completed v = by-test Kept (eqb v (s .sum)) (λ _. omega arith) λ _. omega arith
+
+  -- a fact that `omega` reads is named
+  kept-body : (v : ℕ) → Kept (bodyByteOf limit s v)
+  kept-body v =
+      by-test Kept (eqb (s .have .0) 0) (λ none. omega (arith, eqb-true))
+      λ _. by-test Kept (eqb (s .have .0) 1)
+      (λ one. by-test Kept (ltb (s .length * 256 + v) 5) (λ _. omega arith)
+      λ least. by-test Kept (ltb limit (s .length * 256 + v)) (λ _. omega arith) λ most. omega (arith, eqb-true, ltb-false))
+      λ _. by-test Kept (ltb (s .length) (s .have .0)) (λ _. kept-completed v)
+      λ _. by-test Kept (ltb limit (s .have .0)) (λ _. kept-completed v) λ within. omega (arith, ltb-false)
+
+  kept-ff : (p : Phase) → Kept (onFFIn p s)
+  kept-ff Idle = omega arith
+  kept-ff Half = omega arith
+  kept-ff Header = omega arith
+  kept-ff Open = omega arith
+  kept-ff Escape = omega arith
+
+  kept-other : (p : Phase) (x : ℕ) → Kept (onOtherIn p limit s x)
+  kept-other Idle x = omega arith
+  kept-other Half x = omega arith
+  kept-other Header x = kept-body x
+  kept-other Open x = kept-body x
+  kept-other Escape x = by-test Kept (eqb x 85) (λ _. kept-body _) λ _. omega arith
+
+  -- a byte takes one place of the room that is left, and leaves the state in range
+  pub kept : (x : ℕ) → Ready limit (advanceOf limit s x .scan) n
+  kept x = by-test Kept (eqb x 255) (λ _. kept-ff (s .phase)) λ _. kept-other (s .phase) x
+
+-- ---- a run of bytes
+
+-- a call that began with the reader r₀ has taken i bytes, which decided nothing, and has the reader r and room for the rest
+pub record At (limit : ℕ) (bytes : List ℕ) (r₀ : Reader) (i : ℕ) (r : Reader) : Type 0 where
+  pub within : i ≤ length bytes
+  pub room : Ready limit (r .scan) (length bytes - i)
+  pub same : runOf limit bytes 0 r₀ ≡ runOf limit (drop i bytes) i r
+
+next-byte : (bytes : List ℕ) (i : ℕ) → i < length bytes → drop i bytes ≡ getD bytes i 0 ∷ drop (i + 1) bytes
+next-byte bytes i h = rw (add-one, drop-cons bytes i 0)
+
+module _ {limit : ℕ} {bytes : List ℕ} {r₀ r : Reader} {i : ℕ} (at : At limit bytes r₀ i r) where
+  -- all bytes are taken: the answer is MORE
+  pub run-end : i ≡ length bytes → runOf limit bytes 0 r₀ ≡ reply (row 0 (i ∷ [])) r
+  unfolding runOf
+  run-end e = at .same ∙ rw (e, drop-length)
+
+  module _ (h : i < length bytes) {step : Step} {body : List ℕ} (e : step ≡ advanceOf limit (r .scan) (getD bytes i 0)) (f : body ≡ putOf (step .put) (r .body) (r .scan .have .0) (step .byte)) where
+    abbrev after : Reader
+    after = record { scan = step .scan; body = body }
+
+    -- the next byte decides nothing: the run goes on behind it
+    pub run-on : decidesOf (step .event) ≡ false → At limit bytes r₀ (i + 1) after
+    unfolding runOf
+    run-on q =
+        let room : Ready limit (r .scan) (length bytes - (i + 1) + 1) = omega (arith, at .room) in
+        record { within = omega arith; room = rw e (kept _ room (getD bytes i 0)); same = at .same ∙ rw (next-byte bytes i h) (simp (← e, q, f)) }
+
+    -- the next byte decides: the run stops behind it
+    pub run-stop : decidesOf (step .event) ≡ true → runOf limit bytes 0 r₀ ≡ reply (eventRow (step .event) (i + 1) (r .scan .start .0) (step .scan .taken .0)) after
+    unfolding runOf
+    run-stop q = at .same ∙ rw (next-byte bytes i h) (simp (← e, q, f))
+
+-- ---- a state in range
+
+pub both : (a : Bool) {b : Bool} → (a && b) ≡ true → (a ≡ true) × (b ≡ true)
+both true e = (refl, e)
+both false e = absurd (true≢false (sym e))
+
+-- a state in range, with room for what may still be taken
+pub in-range : (limit : ℕ) (s : Scan) → limit ≤ 65279 → inRangeOf limit s ≡ true → Ready limit s (2 ^ 62 - s .taken .0)
+in-range limit s l e =
+    let ranges = both (leb (s .taken .0) (2 ^ 62)) e in
+    let taken : s .taken .0 ≤ 2 ^ 62 = leb-true _ _ (ranges .0) in
+    record { room = omega arith; inside = leb-true _ _ (ranges .1); small = l }

@@ -1,0 +1,17 @@
+-- `reader::answered` gives each event its answer.
+use borrow.Author.Needs.{needs}
+use Rattle.frame.proofs.reader.answered.Statement.{statement}
+use Rattle.frame.proofs.reader.answered.Tie as tie
+
+pub answered-spec : {M : Type 1} → statement M
+answered-spec =
+    tie.close
+    (tie.spec
+    (search needs) (search needs) (search needs) (search needs) (search needs) (search needs) (search needs)
+    (λ c. simp (c .enum-told .given .1))
+    (λ c. simp (c .enum-told2 .given .1))
+    (λ c. simp (c .enum-told3 .given .1))
+    (λ c. simp (c .enum-told4 .given .1))
+    (λ c. simp (c .enum-told5 .given .1))
+    (λ c. simp (c .enum-told6 .given .1))
+    λ c. simp (c .enum-told7 .given .1))

@@ -1,0 +1,14 @@
+-- `scan::advance` parts the raw FF from the other bytes.
+use borrow.Author.Needs.{needs}
+use Rattle.frame.proofs.Steps.{tests}
+use Rattle.frame.proofs.scan.advance.Statement.{statement}
+use Rattle.frame.proofs.scan.advance.Tie as tie
+
+pub advance-spec : {M : Type 1} → statement M
+advance-spec =
+    tie.close
+    (tie.spec
+    (search needs)
+    (λ c. search tests)
+    (search needs)
+    λ c. search tests)

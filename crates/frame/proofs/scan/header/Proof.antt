@@ -1,0 +1,7 @@
+-- `scan::header` makes the state behind a header, by what `before` ensures.
+use borrow.Author.Needs.{needs}
+use Rattle.frame.proofs.scan.header.Statement.{statement}
+use Rattle.frame.proofs.scan.header.Tie as tie
+
+pub header-spec : {M : Type 1} → statement M
+header-spec = tie.close (tie.spec (search needs) λ c. cc)

@@ -1,0 +1,14 @@
+-- `scan::on_escaped` takes the stuffed 55, or refuses the frame.
+use borrow.Author.Needs.{needs}
+use Rattle.frame.proofs.Steps.{tests}
+use Rattle.frame.proofs.scan.on_escaped.Statement.{statement}
+use Rattle.frame.proofs.scan.on_escaped.Tie as tie
+
+pub on-escaped-spec : {M : Type 1} → statement M
+on-escaped-spec =
+    tie.close
+    (tie.spec
+    (search needs)
+    (λ c. search tests)
+    (search needs)
+    λ c. search tests)

@@ -1,0 +1,107 @@
+-- What each call answers and leaves: bytes given, end asked, a frame written.
+use Prim.Native.Nat.{ℕ, _+_, _^_}
+use mathlib.Core.Bool.{cond}
+use mathlib.Core.List.{List, [], _∷_, _++_}
+use lib.ListN.{length, drop, replicate}
+use lib.Dec.{ltb, leb}
+use Rattle.frame.specs.Wire.{wire, bodyOf}
+use Rattle.frame.specs.Table.{Row, row, rowOf, endRowOf}
+use Rattle.frame.specs.Rules.{onWire, inRangeOf, closedOf, advanceOf, decidesOf, putOf}
+use Rattle.frame.specs.declared.scan.Phase.{Phase}
+use Rattle.frame.specs.declared.scan.Phase.the-variants.{Idle, Half, Header, Open, Escape}
+use Rattle.frame.specs.declared.scan.Event.{Event}
+use Rattle.frame.specs.declared.scan.Event.the-variants.{Quiet, Frame, Short, Long, Stuff, Cut, Sum}
+use Rattle.frame.specs.declared.scan.Scan.{Scan}
+use Rattle.frame.specs.declared.reader.Reader.{Reader}
+use Rattle.frame.specs.declared.reader.Fed.{Fed}
+use Rattle.frame.specs.declared.reader.Finished.{Finished}
+
+-- a call's row, and the reader that it returns
+pub record Reply : Type 0 where
+  pub row : Row
+  pub reader : Reader
+
+-- a reply of the two
+abbrev pub reply : Row → Reader → Reply
+reply a r = record { row = a; reader = r }
+
+-- the same of what the code returns
+abbrev pub replyOf : Fed → Reply
+replyOf f = reply (rowOf (f .answer)) (f .reader)
+
+-- the same of an end asked
+abbrev pub endingOf : Finished → Reply
+endingOf f = reply (endRowOf (f .answer)) (f .reader)
+
+-- "The reader keeps the body in its own 1,026 bytes, all zero at the start"
+unfoldable pub zeros : ℕ → List ℕ
+zeros n = replicate n 0
+
+-- a fresh reader: nothing taken, no frame open
+abbrev pub freshOf : ℕ → Reader
+freshOf limit = record { scan = closedOf (onWire 0); body = zeros (limit + 2) }
+
+-- the row of what a byte decides: "Start is the place of the header's first byte; end is the place behind the deciding byte."
+abbrev pub eventRow : Event → ℕ → ℕ → ℕ → Row
+eventRow Quiet count start end = row 0 (count ∷ [])
+eventRow Frame count start end = row 1 (count ∷ start ∷ end ∷ [])
+eventRow Short count start end = row 11 (count ∷ start ∷ end ∷ [])
+eventRow Long count start end = row 12 (count ∷ start ∷ end ∷ [])
+eventRow Stuff count start end = row 13 (count ∷ start ∷ end ∷ [])
+eventRow Cut count start end = row 14 (count ∷ start ∷ end ∷ [])
+eventRow Sum count start end = row 15 (count ∷ start ∷ end ∷ [])
+
+-- the reader after one byte
+abbrev pub nextOf : ℕ → Reader → ℕ → Reader
+nextOf limit r x =
+    record {
+      scan = advanceOf limit (r .scan) x .scan;
+      body = putOf (advanceOf limit (r .scan) x .put) (r .body) (r .scan .have .0) (advanceOf limit (r .scan) x .byte);
+    }
+
+-- bytes from the n-th of a call on: it "stops behind the byte that decides something, and says how many bytes it took"
+unfoldable pub runOf : ℕ → List ℕ → ℕ → Reader → Reply
+runOf limit [] n r = reply (row 0 (n ∷ [])) r
+runOf limit (x ∷ xs) n r =
+    cond (decidesOf (advanceOf limit (r .scan) x .event))
+    (reply (eventRow (advanceOf limit (r .scan) x .event) (n + 1) (r .scan .start .0) (nextOf limit r x .scan .taken .0)) (nextOf limit r x))
+    (runOf limit xs (n + 1) (nextOf limit r x))
+
+-- bytes given. "Order: 17, then 18"
+abbrev pub feedOf : ℕ → Reader → List ℕ → Reply
+feedOf limit r bytes =
+    cond (inRangeOf limit (r .scan))
+    (cond (leb (r .scan .taken .0 + length bytes) (2 ^ 62)) (runOf limit bytes 0 r) (reply (row 18 (0 ∷ [])) r))
+    (reply (row 17 (0 ∷ [])) r)
+
+-- a frame is open from its header on
+abbrev pub endingRow : Phase → Scan → Row
+endingRow Idle s = row 2 (s .taken .0 ∷ [])
+endingRow Half s = row 2 (s .taken .0 ∷ [])
+endingRow Header s = row 16 (s .taken .0 ∷ s .start .0 ∷ [])
+endingRow Open s = row 16 (s .taken .0 ∷ s .start .0 ∷ [])
+endingRow Escape s = row 16 (s .taken .0 ∷ s .start .0 ∷ [])
+
+-- end asked. "Order: 17, then .. 16"
+abbrev pub finishOf : ℕ → Reader → Reply
+finishOf limit r = cond (inRangeOf limit (r .scan)) (reply (endingRow (r .scan .phase) (r .scan)) r) (reply (row 17 (0 ∷ [])) r)
+
+-- the writer's row, and the lent output afterwards
+pub record Write : Type 0 where
+  pub row : Row
+  pub out : List ℕ
+
+-- the same of the two
+abbrev pub outcome : Row → List ℕ → Write
+outcome a o = record { row = a; out = o }
+
+-- "the wire form, exactly, at the front of the output; the rest of the output stays"
+abbrev pub onto : List ℕ → List ℕ → List ℕ
+onto w out = w ++ drop (length w) out
+
+-- "21, 22"
+abbrev pub writeOf : ℕ → ℕ → ℕ → ℕ → List ℕ → List ℕ → Write
+writeOf limit command number flags payload out =
+    cond (ltb limit (length payload + 5)) (outcome (row 21 (0 ∷ [])) out)
+    (cond (ltb (length out) (length (wire (bodyOf command number flags payload)))) (outcome (row 22 (0 ∷ [])) out)
+    (outcome (row 0 (length (wire (bodyOf command number flags payload)) ∷ [])) (onto (wire (bodyOf command number flags payload)) out)))

@@ -1,0 +1,9 @@
+-- What a reader of this crate has to believe: the wire and its frames, then the reader and the writer, then the claims.
+pub mod Wire
+pub mod Frames
+pub mod Table
+pub mod Rules
+pub mod Calls
+pub mod Logs
+pub mod Lines
+pub mod Claims

@@ -1,0 +1,80 @@
+-- Paper 01, "The frame on the wire". A byte is a number; FF is 255 and 55 is 85.
+use Prim.Native.Nat.{ℕ, _+_, _*_, _-_, _/_, _%_, _≤_}
+use mathlib.Core.Path.{_≡_}
+use mathlib.Core.List.{List, [], _∷_, _++_}
+use mathlib.Core.Bool.{Bool, true, false}
+use lib.ListN.{length, getD, take, drop}
+use lib.Dec.{eqb}
+
+-- the 55 that stands behind a byte, if that byte is an FF
+abbrev pub behind : Bool → List ℕ → List ℕ
+behind true r = 85 ∷ r
+behind false r = r
+
+-- "Stuffing puts 55 behind each FF of the body, sum included."
+unfoldable pub stuff : List ℕ → List ℕ
+stuff [] = []
+stuff (x ∷ xs) = x ∷ behind (eqb x 255) (stuff xs)
+
+-- the stuffed form read back: the byte behind each FF is dropped
+unfoldable pub unstuff : Bool → List ℕ → List ℕ
+unstuff skip [] = []
+unstuff true (x ∷ xs) = unstuff false xs
+unstuff false (x ∷ xs) = x ∷ unstuff (eqb x 255) xs
+
+-- "FF FF, then the stuffed form of the body."
+abbrev pub wire : List ℕ → List ℕ
+wire b = 255 ∷ 255 ∷ stuff b
+
+-- "Body: length (2), command (1), number (1), flags (2), payload, sum (1). Numbers are big-endian."
+abbrev pub lengthOf : List ℕ → ℕ
+lengthOf b = 256 * getD b 0 0 + getD b 1 0
+
+-- command (1)
+abbrev pub commandOf : List ℕ → ℕ
+commandOf b = getD b 2 0
+
+-- number (1)
+abbrev pub numberOf : List ℕ → ℕ
+numberOf b = getD b 3 0
+
+-- flags (2)
+abbrev pub flagsOf : List ℕ → ℕ
+flagsOf b = 256 * getD b 4 0 + getD b 5 0
+
+-- "Length L counts command to sum, so L = payload + 5."
+abbrev pub payloadOf : List ℕ → List ℕ
+payloadOf b = take (lengthOf b - 5) (drop 6 b)
+
+-- "Sum: all body bytes before it, modulo 256."
+unfoldable pub total : List ℕ → ℕ
+total [] = 0
+total (x ∷ xs) = x + total xs
+
+-- the sum itself
+abbrev pub checksum : List ℕ → ℕ
+checksum l = total l % 256
+
+-- a number of two bytes, big-endian, before a list
+abbrev pub two : ℕ → List ℕ → List ℕ
+two n r = n / 256 ∷ n % 256 ∷ r
+
+-- the body's bytes before its sum
+abbrev pub unsummed : ℕ → ℕ → ℕ → List ℕ → List ℕ
+unsummed command number flags payload = two (length payload + 5) (command ∷ number ∷ two flags payload)
+
+-- the body that these four values make
+unfoldable pub bodyOf : ℕ → ℕ → ℕ → List ℕ → List ℕ
+bodyOf command number flags payload = unsummed command number flags payload ++ checksum (unsummed command number flags payload) ∷ []
+
+-- "Here 5 ≤ L ≤ 1,024 .. Body bytes: L + 2." "A body's length is true if its first two bytes give L and it has L + 2 bytes; its sum holds if its
+-- last byte is the sum."
+pub record Good (limit : ℕ) (b : List ℕ) : Type 0 where
+  pub true-length : length b ≡ lengthOf b + 2
+  pub least : 5 ≤ lengthOf b
+  pub most : lengthOf b ≤ limit
+  pub sum-holds : getD b (lengthOf b + 1) 0 ≡ checksum (take (lengthOf b + 1) b)
+
+-- "With L from 65,280 the wire would read FF FF FF 55 .. Our limit keeps that away." The limit that the claims over streams allow
+abbrev pub widest : ℕ
+widest = 65279

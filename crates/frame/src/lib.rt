@@ -1,0 +1,27 @@
+// Frames of the Gizwits serial protocol: their wire form, the writer, the streaming reader, and a body's parts.
+mod body;
+mod place;
+mod reader;
+mod scan;
+mod writer;
+
+// The greatest length that a frame may name.
+pub const LIMIT: usize = 1024;
+
+pub use body::command;
+pub use body::flags;
+pub use body::number;
+pub use body::payload;
+pub use place::BodyPlace;
+pub use place::WirePlace;
+pub use reader::Answer;
+pub use reader::Ending;
+pub use reader::Fed;
+pub use reader::Finished;
+pub use reader::Reader;
+pub use reader::feed;
+pub use reader::finish;
+pub use scan::Phase;
+pub use scan::Scan;
+pub use writer::Written;
+pub use writer::write;

@@ -1,0 +1,32 @@
+// Places on the wire and places in the body, counted apart.
+ghost use mathlib.Core.Path.{_≡_};
+ghost use Prim.Native.Nat.{_<_, _^_};
+ghost use Rattle.frame.specs.Rules.{beforeOf, behindOf};
+
+// A place on the wire, which every raw byte advances, a stuffed 55 too.
+pub struct WirePlace(pub u64);
+
+// A place in the body, which an FF and its stuffed 55 advance by one.
+pub struct BodyPlace(pub usize);
+
+// The bytes that a reader takes in all: 2^62.
+pub(crate) const MOST: u64 = 4611686018427387904;
+
+// The place before, or 0.
+pub(crate) fn before(p: WirePlace) -> WirePlace
+    ensures { λ r. ⌜ r ≡ beforeOf p ⌝ }
+{
+    let n = p.0;
+    if n == 0 {
+        return WirePlace(0);
+    }
+    WirePlace(n - 1)
+}
+
+// The place behind.
+pub(crate) fn behind(p: WirePlace) -> WirePlace
+    requires { ⌜ p .0 < 2 ^ 62 ⌝ }
+    ensures { λ r. ⌜ r ≡ behindOf p ⌝ }
+{
+    WirePlace(p.0 + 1)
+}

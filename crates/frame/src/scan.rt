@@ -1,0 +1,299 @@
+// The byte rules: what one raw byte does to the reader's small state.
+use super::place::BodyPlace;
+use super::place::MOST;
+use super::place::WirePlace;
+use super::place::before;
+use super::place::behind;
+ghost use mathlib.Core.Path.{_≡_};
+ghost use Prim.Native.Nat.{_<_, _≤_, _^_};
+ghost use Rattle.frame.specs.Rules.{closedOf, headerOf, halfOf, escapeOf, silentOf, cutOf, storedOf, grownOf, endedOf, completedOf, bodyByteOf, onFFOf, outsideOf, onEscapedOf, onOtherOf, advanceOf, inRangeOf, decidesOf, Ready};
+
+pub enum Phase {
+    // No frame is open, and the last raw byte is no FF.
+    Idle,
+    // No frame is open, and the last raw byte is an FF.
+    Half,
+    // A header was just made.
+    Header,
+    // A frame is open, and the last raw byte is no FF.
+    Open,
+    // A frame is open, and an FF other than its header's waits for its successor.
+    Escape,
+}
+
+// Where the reader stands; docs/STATES.md has each field's range.
+pub struct Scan {
+    pub phase: Phase,
+    pub taken: WirePlace,
+    pub start: WirePlace,
+    pub have: BodyPlace,
+    pub length: u16,
+    pub sum: u8,
+}
+
+// What a raw byte decides.
+pub enum Event {
+    Quiet,
+    Frame,
+    Short,
+    Long,
+    Stuff,
+    Cut,
+    Sum,
+}
+
+// A raw byte's work: the next state, the body byte to store, if any, and what is decided.
+pub struct Step {
+    pub scan: Scan,
+    pub put: bool,
+    pub byte: u8,
+    pub event: Event,
+}
+
+// No frame is open. None ends in a raw FF, so the last raw byte is no FF.
+pub(crate) fn closed(taken: WirePlace) -> Scan
+    ensures { λ r. ⌜ r ≡ closedOf taken ⌝ }
+{
+    Scan {
+        phase: Phase::Idle,
+        taken,
+        start: WirePlace(0),
+        have: BodyPlace(0),
+        length: 0,
+        sum: 0,
+    }
+}
+
+// No frame is open, and an FF was taken.
+fn half(taken: WirePlace) -> Scan
+    ensures { λ r. ⌜ r ≡ halfOf taken ⌝ }
+{
+    Scan {
+        phase: Phase::Half,
+        taken,
+        start: WirePlace(0),
+        have: BodyPlace(0),
+        length: 0,
+        sum: 0,
+    }
+}
+
+// A header was made, and starts one place before its last byte.
+fn header(last: WirePlace, taken: WirePlace) -> Scan
+    ensures { λ r. ⌜ r ≡ headerOf last taken ⌝ }
+{
+    Scan {
+        phase: Phase::Header,
+        taken,
+        start: before(last),
+        have: BodyPlace(0),
+        length: 0,
+        sum: 0,
+    }
+}
+
+// An FF of the body waits.
+fn escape(scan: Scan, taken: WirePlace) -> Scan
+    ensures { λ r. ⌜ r ≡ escapeOf scan taken ⌝ }
+{
+    let start = scan.start;
+    let have = scan.have;
+    Scan {
+        phase: Phase::Escape,
+        taken,
+        start,
+        have,
+        length: scan.length,
+        sum: scan.sum,
+    }
+}
+
+// No byte goes to the body.
+fn silent(scan: Scan, event: Event) -> Step
+    ensures { λ r. ⌜ r ≡ silentOf scan event ⌝ }
+{
+    Step {
+        scan,
+        put: false,
+        byte: 0,
+        event,
+    }
+}
+
+// A header in an open frame: that frame is refused, and the new one is open.
+fn cut(last: WirePlace, taken: WirePlace) -> Step
+    ensures { λ r. ⌜ r ≡ cutOf last taken ⌝ }
+{
+    silent(header(last, taken), Event::Cut)
+}
+
+// The byte v goes to the body.
+fn stored(scan: Scan, v: u8, event: Event) -> Step
+    ensures { λ r. ⌜ r ≡ storedOf scan v event ⌝ }
+{
+    Step {
+        scan,
+        put: true,
+        byte: v,
+        event,
+    }
+}
+
+// The body goes on with the byte v.
+fn grown(scan: Scan, length: u16, v: u8) -> Step
+    requires { ⌜ scan .taken .0 < 2 ^ 62 ⌝ }
+    requires { ⌜ scan .have .0 < 2 ^ 62 ⌝ }
+    ensures { λ r. ⌜ r ≡ grownOf scan length v ⌝ }
+{
+    let last = scan.taken;
+    let start = scan.start;
+    let next = Scan {
+        phase: Phase::Open,
+        taken: behind(last),
+        start,
+        have: BodyPlace(scan.have.0 + 1),
+        length,
+        sum: std::num::wrapping_add_u8(scan.sum, v),
+    };
+    stored(next, v, Event::Quiet)
+}
+
+// The frame ends with the body byte v.
+fn ended(scan: Scan, v: u8, event: Event) -> Step
+    requires { ⌜ scan .taken .0 < 2 ^ 62 ⌝ }
+    ensures { λ r. ⌜ r ≡ endedOf scan v event ⌝ }
+{
+    let last = scan.taken;
+    stored(closed(behind(last)), v, event)
+}
+
+// The body is complete with the byte v, its sum.
+fn completed(scan: Scan, v: u8) -> Step
+    requires { ⌜ scan .taken .0 < 2 ^ 62 ⌝ }
+    ensures { λ r. ⌜ r ≡ completedOf scan v ⌝ }
+{
+    if v == scan.sum {
+        return ended(scan, v, Event::Frame);
+    }
+    ended(scan, v, Event::Sum)
+}
+
+// A byte of the body, when the raw byte that gives it is taken.
+fn body_byte(limit: usize, scan: Scan, v: u8) -> Step
+    requires { ⌜ Ready limit scan 1 ⌝ }
+    ensures { λ r. ⌜ r ≡ bodyByteOf limit scan v ⌝ }
+{
+    let have = scan.have.0;
+    let length = scan.length;
+    if have == 0 {
+        return grown(scan, v as u16, v);
+    }
+    if have == 1 {
+        let whole = (length as usize) * 256 + (v as usize);
+        if whole < 5 {
+            return ended(scan, v, Event::Short);
+        }
+        if limit < whole {
+            return ended(scan, v, Event::Long);
+        }
+        return grown(scan, whole as u16, v);
+    }
+    if (length as usize) < have {
+        return completed(scan, v);
+    }
+    // No body goes past the limit, whatever length a foreign state names.
+    if limit < have {
+        return completed(scan, v);
+    }
+    grown(scan, length, v)
+}
+
+// A raw FF: directly behind another it makes a header, in each phase.
+fn on_ff(scan: Scan) -> Step
+    requires { ⌜ scan .taken .0 < 2 ^ 62 ⌝ }
+    ensures { λ r. ⌜ r ≡ onFFOf scan ⌝ }
+{
+    let phase = scan.phase;
+    let last = scan.taken;
+    let taken = behind(last);
+    match phase {
+        Phase::Idle => silent(half(taken), Event::Quiet),
+        Phase::Half => silent(header(last, taken), Event::Quiet),
+        Phase::Header => silent(header(last, taken), Event::Quiet),
+        Phase::Open => silent(escape(scan, taken), Event::Quiet),
+        Phase::Escape => cut(last, taken),
+    }
+}
+
+// A byte that is in no body, with no frame open behind it.
+fn outside(last: WirePlace, event: Event) -> Step
+    requires { ⌜ last .0 < 2 ^ 62 ⌝ }
+    ensures { λ r. ⌜ r ≡ outsideOf last event ⌝ }
+{
+    silent(closed(behind(last)), event)
+}
+
+// Behind an FF of the body, 55 makes it a body byte; another byte breaks the stuffing.
+fn on_escaped(limit: usize, scan: Scan, byte: u8) -> Step
+    requires { ⌜ Ready limit scan 1 ⌝ }
+    ensures { λ r. ⌜ r ≡ onEscapedOf limit scan byte ⌝ }
+{
+    let last = scan.taken;
+    if byte == 85 {
+        return body_byte(limit, scan, 255);
+    }
+    outside(last, Event::Stuff)
+}
+
+// A raw byte other than FF.
+fn on_other(limit: usize, scan: Scan, byte: u8) -> Step
+    requires { ⌜ Ready limit scan 1 ⌝ }
+    ensures { λ r. ⌜ r ≡ onOtherOf limit scan byte ⌝ }
+{
+    let phase = scan.phase;
+    let last = scan.taken;
+    match phase {
+        Phase::Idle => outside(last, Event::Quiet),
+        Phase::Half => outside(last, Event::Quiet),
+        Phase::Header => body_byte(limit, scan, byte),
+        Phase::Open => body_byte(limit, scan, byte),
+        Phase::Escape => on_escaped(limit, scan, byte),
+    }
+}
+
+// One raw byte.
+pub(crate) fn advance(limit: usize, scan: Scan, byte: u8) -> Step
+    requires { ⌜ Ready limit scan 1 ⌝ }
+    ensures { λ r. ⌜ r ≡ advanceOf limit scan byte ⌝ }
+{
+    if byte == 255 {
+        return on_ff(scan);
+    }
+    on_other(limit, scan, byte)
+}
+
+// Whether a byte decided something.
+pub(crate) fn decides(event: Event) -> bool
+    ensures { λ r. ⌜ r ≡ decidesOf event ⌝ }
+{
+    match event {
+        Event::Quiet => false,
+        Event::Frame => true,
+        Event::Short => true,
+        Event::Long => true,
+        Event::Stuff => true,
+        Event::Cut => true,
+        Event::Sum => true,
+    }
+}
+
+// Whether each field is in its range.
+pub(crate) fn in_range(limit: usize, scan: Scan) -> bool
+    requires { ⌜ limit ≤ 65279 ⌝ }
+    ensures { λ r. ⌜ r ≡ inRangeOf limit scan ⌝ }
+{
+    if MOST < scan.taken.0 {
+        return false;
+    }
+    scan.have.0 <= limit + 1
+}

@@ -1,0 +1,150 @@
+// The writer: a frame straight from its parts, with no copy of its body.
+use super::LIMIT;
+ghost use mathlib.Core.Path.{_≡_};
+ghost use mathlib.Core.List.{[], _∷_, _++_};
+ghost use Prim.Native.Nat.{_+_, _≤_, _<_, _/_, _%_, _^_};
+ghost use lib.ListN.{length};
+ghost use lib.Seq.{sets};
+ghost use Rattle.frame.specs.Wire.{stuff, wire, total, two};
+ghost use Rattle.frame.specs.Table.{writtenRowOf};
+ghost use Rattle.frame.specs.Calls.{outcome, writeOf};
+
+// What a frame to be written is answered.
+pub enum Written {
+    Wrote { count: usize },
+    Payload,
+    Room,
+}
+
+// Raw bytes and the sum of the body bytes that they stand for.
+struct Measure {
+    count: usize,
+    sum: u8,
+}
+
+// The body's first six bytes.
+fn head_of(size: usize, command: u8, number: u8, flags: u16) -> [u8; 6]
+    requires { ⌜ size + 5 ≤ 65279 ⌝ }
+    ensures { λ r. ⌜ r ≡ two (size + 5) (command ∷ number ∷ two flags []) ⌝ }
+{
+    let length = size + 5;
+    [
+        (length / 256) as u8,
+        (length % 256) as u8,
+        command,
+        number,
+        (flags / 256) as u8,
+        (flags % 256) as u8,
+    ]
+}
+
+// How many raw bytes a body byte takes.
+fn width(v: u8) -> usize
+    ensures { λ r. ⌜ r ≡ length (stuff (v ∷ [])) ⌝ }
+{
+    if v == 255 {
+        return 2;
+    }
+    1
+}
+
+// What some bytes add to a measure.
+fn measured(from: Measure, bytes: &[u8]) -> Measure
+    requires { ⌜ (from .count ≤ 2 ^ 20) × (length (now bytes) ≤ 2 ^ 20) ⌝ }
+    ensures { λ r. ⌜ (r .count ≡ from .count + length (stuff (now (bytes .entry)))) × (r .sum ≡ (from .sum + total (now (bytes .entry))) % 2 ^ 8) ⌝ }
+{
+    let mut count = from.count;
+    let mut sum = from.sum;
+    let mut i = 0;
+    while i < bytes.len() {
+        count += width(bytes[i]);
+        sum = std::num::wrapping_add_u8(sum, bytes[i]);
+        i += 1;
+    }
+    Measure { count, sum }
+}
+
+// The length of a frame on the wire, and its sum.
+fn sized(head: [u8; 6], payload: &[u8]) -> Measure
+    requires { ⌜ length (now payload) ≤ 2 ^ 17 ⌝ }
+    ensures { λ r. ⌜ (r .sum ≡ (total head + total (now (payload .entry))) % 2 ^ 8) × (r .count ≡ length (wire (head ++ (now (payload .entry) ++ r .sum ∷ [])))) ⌝ }
+{
+    let unsummed = measured(measured(Measure { count: 2, sum: 0 }, &head), payload);
+    let sum = unsummed.sum;
+    Measure {
+        count: unsummed.count + width(sum),
+        sum,
+    }
+}
+
+// A body byte, stuffed, at a place of the output; the place behind it.
+fn put_byte(out: &mut [u8], at: usize, v: u8) -> usize
+    requires { ⌜ at + length (stuff (v ∷ [])) ≤ length (now out) ⌝ }
+    ensures { λ r. ⌜ (r ≡ at + length (stuff (v ∷ []))) × (now (out .exit) ≡ sets (now (out .entry)) at (stuff (v ∷ []))) ⌝ }
+{
+    out[at] = v;
+    if v == 255 {
+        out[at + 1] = 85;
+        return at + 2;
+    }
+    at + 1
+}
+
+// Body bytes, stuffed, at a place of the output; the place behind them.
+fn put_bytes(out: &mut [u8], at: usize, bytes: &[u8]) -> usize
+    requires { ⌜ at + length (stuff (now bytes)) ≤ length (now out) ⌝ }
+    ensures { λ r. ⌜ (r ≡ at + length (stuff (now (bytes .entry)))) × (now (out .exit) ≡ sets (now (out .entry)) at (stuff (now (bytes .entry)))) ⌝ }
+{
+    let mut next = at;
+    let mut i = 0;
+    while i < bytes.len() {
+        next = put_byte(out, next, bytes[i]);
+        i += 1;
+    }
+    next
+}
+
+// A whole frame at the front of an output that has room for it; its length.
+fn put_frame(out: &mut [u8], head: [u8; 6], payload: &[u8], sum: u8) -> usize
+    requires { ⌜ length (wire (head ++ (now payload ++ sum ∷ []))) ≤ length (now out) ⌝ }
+    ensures { λ r. ⌜ (r ≡ length (wire (head ++ (now (payload .entry) ++ sum ∷ [])))) × (now (out .exit) ≡ sets (now (out .entry)) 0 (wire (head ++ (now (payload .entry) ++ sum ∷ [])))) ⌝ }
+{
+    out[0] = 255;
+    out[1] = 255;
+    let behind_head = put_bytes(out, 2, &head);
+    let behind_payload = put_bytes(out, behind_head, payload);
+    put_byte(out, behind_payload, sum)
+}
+
+// A frame whose length is at most a limit.
+fn write_within(
+    limit: usize,
+    command: u8,
+    number: u8,
+    flags: u16,
+    payload: &[u8],
+    out: &mut [u8],
+) -> Written
+    requires { ⌜ limit ≤ 65279 ⌝ }
+    ensures { λ r. ⌜ outcome (writtenRowOf r) (now (out .exit)) ≡ writeOf limit command number flags (now (payload .entry)) (now (out .entry)) ⌝ }
+{
+    let size = payload.len();
+    if limit < size + 5 {
+        return Written::Payload;
+    }
+    let head = head_of(size, command, number, flags);
+    let whole = sized(head, payload);
+    if out.len() < whole.count {
+        return Written::Room;
+    }
+    Written::Wrote {
+        count: put_frame(out, head, payload, whole.sum),
+    }
+}
+
+// A frame written at the front of the output, or refused with the output as it was.
+pub fn write(command: u8, number: u8, flags: u16, payload: &[u8], out: &mut [u8]) -> Written
+    ensures { λ r. ⌜ outcome (writtenRowOf r) (now (out .exit)) ≡ writeOf 1024 command number flags (now (payload .entry)) (now (out .entry)) ⌝ }
+{
+    write_within(LIMIT, command, number, flags, payload, out)
+}
