@@ -2,7 +2,7 @@
 """Prints what the program crates/examples has to print: a second reading of paper 01, the exact rules for the build.
 
 The reader goes by the paper's byte rules and the writer by its wire form. Nothing here is taken from the Rattle code but the
-wording of the lines.
+wording of the lines; the range of the bytes taken is that of docs/STATES.md.
 """
 
 LIMIT = 1024  # the greatest length
