@@ -62,16 +62,37 @@ sets-append (v ∷ vs) ws l i =
 pub sets-front : (vs l : List ℕ) → length vs ≤ length l → sets l 0 vs ≡ vs ++ drop (length vs) l
 sets-front vs l h = rw zero-add at (sets-eq vs l 0 (rw zero-add h))
 
--- ---- a frame is its header and the stuffed forms of its parts
+-- what is put, and more behind it, is their join put
+put-append : (out xs ys : List ℕ) (at : ℕ) {a b : List ℕ} {p q : ℕ}
+    → (p ≡ at + length (stuff xs)) × (a ≡ sets out at (stuff xs))
+    → (q ≡ p + length (stuff ys)) × (b ≡ sets a p (stuff ys))
+    → (q ≡ at + length (stuff (xs ++ ys))) × (b ≡ sets out at (stuff (xs ++ ys)))
+put-append out xs ys at e f = (rw (stuff-append, length-append) (omega arith), rw (stuff-append, sets-append) (cc))
 
-pub wire-length : (head payload : List ℕ) (sum : ℕ)
-    → length (wire (head ++ (payload ++ sum ∷ []))) ≡ 2 + length (stuff head) + length (stuff payload) + length (stuff (sum ∷ []))
-wire-length head payload sum = simp (stuff-append, length-append) (omega arith)
+-- ---- three parts, one behind the other
 
--- a frame is written where its header and its three parts are, one behind the other
-pub parts-written : (out head payload : List ℕ) (sum : ℕ) {a b c : List ℕ} {p q r : ℕ}
-    → (p ≡ 2 + length (stuff head)) × (a ≡ sets (set (set out 0 255) 1 255) 2 (stuff head))
-    → (q ≡ p + length (stuff payload)) × (b ≡ sets a p (stuff payload))
-    → (r ≡ q + length (stuff (sum ∷ []))) × (c ≡ sets b q (stuff (sum ∷ [])))
-    → (r ≡ length (wire (head ++ (payload ++ sum ∷ [])))) × (c ≡ sets out 0 (wire (head ++ (payload ++ sum ∷ []))))
-parts-written out head payload sum e f g = (omega (arith, wire-length head payload sum), rw (stuff-append, stuff-append, sets-append, sets-append) (cc))
+pub parts-length : (first second third : List ℕ) → length (first ++ (second ++ third)) ≡ length first + (length second + length third)
+parts-length first second third = simp length-append
+
+-- ---- a frame is its header and the stuffed forms of its parts: the head, the payload's three, and the sum
+
+module _ (head first second third : List ℕ) (sum : ℕ) where
+  abbrev partsOf : List ℕ
+  partsOf = head ++ ((first ++ (second ++ third)) ++ sum ∷ [])
+
+  pub wire-length : length (wire partsOf)
+      ≡ 2 + length (stuff head) + length (stuff first) + length (stuff second) + length (stuff third) + length (stuff (sum ∷ []))
+  wire-length = simp (stuff-append, length-append) (omega arith)
+
+  -- it is written where the header and the parts are, one behind the other
+  pub parts-written : (out : List ℕ) {a b c d e : List ℕ} {p q r s t : ℕ}
+      → (p ≡ 2 + length (stuff head)) × (a ≡ sets (set (set out 0 255) 1 255) 2 (stuff head))
+      → (q ≡ p + length (stuff first)) × (b ≡ sets a p (stuff first))
+      → (r ≡ q + length (stuff second)) × (c ≡ sets b q (stuff second))
+      → (s ≡ r + length (stuff third)) × (d ≡ sets c r (stuff third))
+      → (t ≡ s + length (stuff (sum ∷ []))) × (e ≡ sets d s (stuff (sum ∷ [])))
+      → (t ≡ length (wire partsOf)) × (e ≡ sets out 0 (wire partsOf))
+  parts-written out f g h i j =
+      let payload = put-append _ first _ _ g (put-append _ second third _ h i) in
+      let whole = put-append _ head _ 2 f (put-append _ _ (sum ∷ []) _ payload j) in
+      (omega arith, whole .1)

@@ -1,8 +1,9 @@
 // The parts of a body, read where they lie. Each call takes any bytes; a part that is not there reads as 0 or as empty.
 ghost use mathlib.Core.Path.{_≡_};
-ghost use Prim.Native.Nat.{_+_, _*_, _≤_, min};
+ghost use Prim.Native.Nat.{_+_, _-_, _*_, _≤_, min};
 ghost use lib.ListN.{length, getD};
-ghost use Rattle.frame.specs.Wire.{commandOf, numberOf, flagsOf, payloadOf};
+ghost use Rattle.frame.specs.Wire.{lengthOf, commandOf, numberOf, flagsOf, payloadOf};
+ghost use Rattle.frame.specs.Parts.{IsPart};
 
 // The byte at a place, or 0 behind the end.
 fn byte_at(body: &[u8], at: usize) -> u8
@@ -44,7 +45,7 @@ pub fn flags(body: &[u8]) -> u16
 }
 
 // The smaller of two numbers.
-fn least(a: usize, b: usize) -> usize
+pub(crate) fn least(a: usize, b: usize) -> usize
     ensures { λ r. ⌜ r ≡ min a b ⌝ }
 {
     if a <= b {
@@ -55,7 +56,7 @@ fn least(a: usize, b: usize) -> usize
 
 // The payload, a part of the lent body: as many bytes behind the flags as the length gives it and the body has.
 pub fn payload(body: &[u8]) -> &[u8]
-    ensures { λ r. ⌜ now r ≡ payloadOf (now (body .entry)) ⌝ }
+    ensures { λ r. ⌜ (now r ≡ payloadOf (now (body .entry))) × IsPart (body .entry) r (min 6 (length (now (body .entry)))) (lengthOf (now (body .entry)) - 5) ⌝ }
 {
     let length = two_at(body, 0) as usize;
     let from = least(6, body.len());

@@ -25,3 +25,4 @@ pub use scan::Phase;
 pub use scan::Scan;
 pub use writer::Written;
 pub use writer::write;
+pub use writer::write_parts;

@@ -1,5 +1,6 @@
 // The writer: a frame straight from its parts, with no copy of its body.
 use super::LIMIT;
+use super::body::least;
 ghost use mathlib.Core.Path.{_≡_};
 ghost use mathlib.Core.List.{[], _∷_, _++_};
 ghost use Prim.Native.Nat.{_+_, _≤_, _<_, _/_, _%_, _^_};
@@ -65,11 +66,12 @@ fn measured(from: Measure, bytes: &[u8]) -> Measure
 }
 
 // The length of a frame on the wire, and its sum.
-fn sized(head: [u8; 6], payload: &[u8]) -> Measure
-    requires { ⌜ length (now payload) ≤ 2 ^ 17 ⌝ }
-    ensures { λ r. ⌜ (r .sum ≡ (total head + total (now (payload .entry))) % 2 ^ 8) × (r .count ≡ length (wire (head ++ (now (payload .entry) ++ r .sum ∷ [])))) ⌝ }
+fn sized(head: [u8; 6], first: &[u8], second: &[u8], third: &[u8]) -> Measure
+    requires { ⌜ length (now first ++ (now second ++ now third)) ≤ 2 ^ 17 ⌝ }
+    ensures { λ r. ⌜ (r .sum ≡ (total head + total (now (first .entry) ++ (now (second .entry) ++ now (third .entry)))) % 2 ^ 8) × (r .count ≡ length (wire (head ++ ((now (first .entry) ++ (now (second .entry) ++ now (third .entry))) ++ r .sum ∷ [])))) ⌝ }
 {
-    let unsummed = measured(measured(Measure { count: 2, sum: 0 }, &head), payload);
+    let begun = measured(Measure { count: 2, sum: 0 }, &head);
+    let unsummed = measured(measured(measured(begun, first), second), third);
     let sum = unsummed.sum;
     Measure {
         count: unsummed.count + width(sum),
@@ -105,15 +107,53 @@ fn put_bytes(out: &mut [u8], at: usize, bytes: &[u8]) -> usize
 }
 
 // A whole frame at the front of an output that has room for it; its length.
-fn put_frame(out: &mut [u8], head: [u8; 6], payload: &[u8], sum: u8) -> usize
-    requires { ⌜ length (wire (head ++ (now payload ++ sum ∷ []))) ≤ length (now out) ⌝ }
-    ensures { λ r. ⌜ (r ≡ length (wire (head ++ (now (payload .entry) ++ sum ∷ [])))) × (now (out .exit) ≡ sets (now (out .entry)) 0 (wire (head ++ (now (payload .entry) ++ sum ∷ [])))) ⌝ }
+fn put_frame(
+    out: &mut [u8],
+    head: [u8; 6],
+    first: &[u8],
+    second: &[u8],
+    third: &[u8],
+    sum: u8,
+) -> usize
+    requires { ⌜ length (wire (head ++ ((now first ++ (now second ++ now third)) ++ sum ∷ []))) ≤ length (now out) ⌝ }
+    ensures { λ r. ⌜ (r ≡ length (wire (head ++ ((now (first .entry) ++ (now (second .entry) ++ now (third .entry))) ++ sum ∷ [])))) × (now (out .exit) ≡ sets (now (out .entry)) 0 (wire (head ++ ((now (first .entry) ++ (now (second .entry) ++ now (third .entry))) ++ sum ∷ [])))) ⌝ }
 {
     out[0] = 255;
     out[1] = 255;
     let behind_head = put_bytes(out, 2, &head);
-    let behind_payload = put_bytes(out, behind_head, payload);
-    put_byte(out, behind_payload, sum)
+    let behind_first = put_bytes(out, behind_head, first);
+    let behind_second = put_bytes(out, behind_first, second);
+    let behind_third = put_bytes(out, behind_second, third);
+    put_byte(out, behind_third, sum)
+}
+
+// A frame whose length is at most a limit, and whose payload is three parts, one behind the other.
+fn parts_within(
+    limit: usize,
+    command: u8,
+    number: u8,
+    flags: u16,
+    first: &[u8],
+    second: &[u8],
+    third: &[u8],
+    out: &mut [u8],
+) -> Written
+    requires { ⌜ limit ≤ 65279 ⌝ }
+    ensures { λ r. ⌜ outcome (writtenRowOf r) (now (out .exit)) ≡ writeOf limit command number flags (now (first .entry) ++ (now (second .entry) ++ now (third .entry))) (now (out .entry)) ⌝ }
+{
+    // Two lengths add up to a usize, three need not; what is past the limit is refused, however long it is.
+    let size = least(first.len() + second.len(), limit) + third.len();
+    if limit < size + 5 {
+        return Written::Payload;
+    }
+    let head = head_of(size, command, number, flags);
+    let whole = sized(head, first, second, third);
+    if out.len() < whole.count {
+        return Written::Room;
+    }
+    Written::Wrote {
+        count: put_frame(out, head, first, second, third, whole.sum),
+    }
 }
 
 // A frame whose length is at most a limit.
@@ -128,18 +168,8 @@ fn write_within(
     requires { ⌜ limit ≤ 65279 ⌝ }
     ensures { λ r. ⌜ outcome (writtenRowOf r) (now (out .exit)) ≡ writeOf limit command number flags (now (payload .entry)) (now (out .entry)) ⌝ }
 {
-    let size = payload.len();
-    if limit < size + 5 {
-        return Written::Payload;
-    }
-    let head = head_of(size, command, number, flags);
-    let whole = sized(head, payload);
-    if out.len() < whole.count {
-        return Written::Room;
-    }
-    Written::Wrote {
-        count: put_frame(out, head, payload, whole.sum),
-    }
+    let none = &payload[..0];
+    parts_within(limit, command, number, flags, payload, none, none, out)
 }
 
 // A frame written at the front of the output, or refused with the output as it was.
@@ -147,4 +177,19 @@ pub fn write(command: u8, number: u8, flags: u16, payload: &[u8], out: &mut [u8]
     ensures { λ r. ⌜ outcome (writtenRowOf r) (now (out .exit)) ≡ writeOf 1024 command number flags (now (payload .entry)) (now (out .entry)) ⌝ }
 {
     write_within(LIMIT, command, number, flags, payload, out)
+}
+
+// A frame whose payload is three parts, one behind the other, written without joining them.
+pub fn write_parts(
+    command: u8,
+    number: u8,
+    flags: u16,
+    first: &[u8],
+    second: &[u8],
+    third: &[u8],
+    out: &mut [u8],
+) -> Written
+    ensures { λ r. ⌜ outcome (writtenRowOf r) (now (out .exit)) ≡ writeOf 1024 command number flags (now (first .entry) ++ (now (second .entry) ++ now (third .entry))) (now (out .entry)) ⌝ }
+{
+    parts_within(LIMIT, command, number, flags, first, second, third, out)
 }

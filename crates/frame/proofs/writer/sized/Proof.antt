@@ -1,38 +1,52 @@
--- `sized` meets its contract: header, head and payload are measured, and then the sum's own width.
-use Prim.Native.Nat.{ℕ}
+-- `sized` meets its contract: header, head and the payload's parts are measured, and then the sum's own width.
+use Prim.Native.Nat.{ℕ, _+_, _≤_, _^_}
 use mathlib.Core.List.{List, [], _∷_}
 use native.Mathlib.Omega.{arith}
 use borrow.Author.Needs.{needs}
+use lib.ListN.{length}
+use Rattle.frame.specs.Wire.{stuff}
 use Rattle.frame.proofs.Stuffing.{stuff-bound}
-use Rattle.frame.proofs.Writing.{wire-length}
+use Rattle.frame.proofs.Sums.{sum-append}
+use Rattle.frame.proofs.Writing.{parts-length, wire-length}
 use Rattle.frame.proofs.writer.sized.Statement.{statement}
 use Rattle.frame.proofs.writer.sized.Tie as tie
 
-module _ (c : tie.After-measured2) where
-  abbrev start : tie.Start
-  start = c .before .before .before .before
-
+module _ (c : tie.Start) where
   abbrev head : List ℕ
-  head = start .args .t1
+  head = c .args .t1
 
-  abbrev payload : List ℕ
-  payload = start .args .payload .now
+  abbrev first : List ℕ
+  first = c .args .first .now
 
-  abbrev sum : ℕ
-  sum = c .measured2 .result .sum
+  abbrev second : List ℕ
+  second = c .args .second .now
+
+  abbrev third : List ℕ
+  third = c .args .third .now
+
+  -- no count on the way is past these
+  small : (length first + (length second + length third) ≤ 2 ^ 17)
+      × (length (stuff head) + length (stuff first) + length (stuff second) + length (stuff third) ≤ 2 ^ 19)
+  small = omega (arith, parts-length first second third, stuff-bound head, stuff-bound first, stuff-bound second, stuff-bound third)
 
 measured-requires-2 : tie.Need-measured-requires-2
-measured-requires-2 c κs = omega (arith, stuff-bound (c .before .before .before .args .t1))
+measured-requires-2 c κs = omega (arith, small (c .before .before .before .before .before))
 
-add-t11 : tie.Need-add-t11
-add-t11 c =
-    let m = c .before .before in
-    omega (arith, stuff-bound (head m), stuff-bound (payload m), stuff-bound (sum m ∷ []))
+measured-requires-3 : tie.Need-measured-requires-3
+measured-requires-3 c κs = omega (arith, small (c .before .before .before .before .before .before))
+
+measured-requires-4 : tie.Need-measured-requires-4
+measured-requires-4 c κs = omega (arith, small (c .before .before .before .before .before .before .before))
+
+add-t14 : tie.Need-add-t14
+add-t14 c = omega (arith, small (c .before .before .before .before .before .before .before .before .before .before), stuff-bound (c .before .before .measured4 .result .sum ∷ []))
 
 returns : tie.Need-returns
 returns c =
     let m = c .before .before in
-    omega (arith, wire-length (head m) (payload m) (sum m))
+    let s = m .before .before .before .before .before .before .before .before in
+    let payload = sum-append (first s) _ _ (m .before .before .measured2 .ensures .1) (sum-append (second s) (third s) _ (m .before .measured3 .ensures .1) (m .measured4 .ensures .1)) in
+    omega (arith, wire-length (head s) (first s) (second s) (third s) (m .measured4 .result .sum))
 
 pub sized-spec : {M : Type 1} → statement M
 sized-spec =
@@ -40,6 +54,8 @@ sized-spec =
     (tie.spec
     (λ c. search needs) (λ c κs. search needs)
     measured-requires-2
+    measured-requires-3
+    measured-requires-4
     (λ c κs. search needs)
-    add-t11
+    add-t14
     returns)

@@ -1,88 +1,23 @@
--- `write_within` meets its contract: what it measures is the frame's wire form, so it refuses and writes as the definition says.
-use Prim.Native.Nat.{ℕ, _+_, _%_, _≤_, _<_}
-use mathlib.Core.Path.{_≡_, ap, _∙_}
-use mathlib.Core.List.{List, [], _∷_, _++_}
-use native.Mathlib.Omega.{arith}
-use borrow.Author.Tests.{lt-ltb, le-ltb}
-use lib.ListN.{length}
-use lib.Seq.{sets}
-use Rattle.frame.specs.Wire.{wire, total, two, bodyOf}
-use Rattle.frame.specs.Table.{row}
-use Rattle.frame.specs.Calls.{Write, outcome, writeOf}
-use Rattle.frame.proofs.Sums.{total-append}
-use Rattle.frame.proofs.Writing.{sets-front}
+-- `write_within` meets its contract: a payload and two empty parts behind it are the payload.
+use Prim.Native.Nat.{ℕ}
+use mathlib.Core.Path.{_≡_}
+use mathlib.Core.List.{List, [], _++_, append-nil}
 use borrow.Author.Needs.{needs}
+use Rattle.frame.specs.Calls.{Write, writeOf}
 use Rattle.frame.proofs.writer.write_within.Statement.{statement}
 use Rattle.frame.proofs.writer.write_within.Tie as tie
 
--- ---- the definition's three cases
-
-module _ (c : tie.Start) where
-  abbrev payload : List ℕ
-  payload = c .args .payload .now
-
-  abbrev out : List ℕ
-  out = c .args .out .now
-
-  abbrev body : List ℕ
-  body = bodyOf (c .args .command) (c .args .number) (c .args .flags) payload
-
-  abbrev limit : ℕ
-  limit = c .args .limit
-
-  abbrev asked : Write
-  asked = writeOf limit (c .args .command) (c .args .number) (c .args .flags) payload out
-
-  too-long : limit < length payload + 5 → outcome (row 21 (0 ∷ [])) out ≡ asked
-  too-long h = rw (lt-ltb limit (length payload + 5) h)
-
-  no-room : length payload + 5 ≤ limit → length out < length (wire body) → outcome (row 22 (0 ∷ [])) out ≡ asked
-  no-room h g = rw (le-ltb limit (length payload + 5) h, lt-ltb (length out) (length (wire body)) g)
-
-  done : length payload + 5 ≤ limit → length (wire body) ≤ length out → outcome (row 0 (length (wire body) ∷ [])) (sets out 0 (wire body)) ≡ asked
-  done h g = rw (le-ltb limit (length payload + 5) h, le-ltb (length out) (length (wire body)) g, sets-front (wire body) out g)
-
--- ---- what is sized: the head, the payload and their sum are the frame's body, and the count is that of its wire form
-
-body-parts : (command number flags : ℕ) (payload head : List ℕ) (sum : ℕ) → head ≡ two (length payload + 5) (command ∷ number ∷ two flags [])
-    → sum ≡ (total head + total payload) % 256 → head ++ (payload ++ sum ∷ []) ≡ bodyOf command number flags payload
-unfolding bodyOf
-body-parts command number flags payload head sum e f = rw (f, ← total-append, e)
-
-module _ (c : tie.After-sized) where
-  abbrev start : tie.Start
-  start = c .before .before .before .before .before
-
-  abbrev head : List ℕ
-  head = c .before .head-of .result
-
-  whole : head ++ (payload start ++ c .sized .result .sum ∷ []) ≡ body start
-  whole = body-parts _ _ _ (payload start) head (c .sized .result .sum) (c .before .head-of .ensures) (c .sized .ensures .0)
-
-  count : c .sized .result .count ≡ length (wire (body start))
-  count = c .sized .ensures .1 ∙ ap (λ (b : List ℕ). length (wire b)) whole
+alone : (limit command number flags : ℕ) (payload out : List ℕ) {w : Write} → w ≡ writeOf limit command number flags (payload ++ []) out → w ≡ writeOf limit command number flags payload out
+alone limit command number flags payload out e = cc (append-nil payload)
 
 returns : tie.Need-returns
-returns c = too-long (c .before .before .before) (omega arith)
-
-returns-2 : tie.Need-returns-2
-returns-2 c =
-    let m = c .before .before in
-    no-room (start m) (omega arith) (omega (arith, count m))
-
-returns-3 : tie.Need-returns-3
-returns-3 c =
-    let m = c .before .before .before .before .before .before in
-    let put = c .before .before .put-frame .ensures in
-    rw (put .0, put .1, whole m) (done (start m) (omega arith) (omega (arith, count m)))
+returns c =
+    let args = c .before .before .before .before .before .before .before .args in
+    alone (args .limit) (args .command) (args .number) (args .flags) (args .payload .now) (args .out .now) (c .before .before .parts-within .ensures)
 
 pub write-within-spec : {M : Type 1} → statement M
 write-within-spec =
     tie.close
     (tie.spec
-    (λ c. search needs)
-    returns
-    (λ c κs. search needs) (λ c κs. search needs)
-    returns-2
-    (λ c κs. search needs) (λ c. search needs)
-    returns-3)
+    (λ c. search needs) (λ c κs. search needs) (λ c. search needs)
+    returns)

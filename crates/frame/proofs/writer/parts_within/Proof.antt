@@ -1,0 +1,108 @@
+-- `parts_within` meets its contract: what it measures is the frame's wire form, so it refuses and writes as the definition says.
+use Prim.Native.Nat.{ℕ, _+_, _%_, _≤_, _<_}
+use mathlib.Core.Path.{_≡_, ap, _∙_}
+use mathlib.Core.List.{List, [], _∷_, _++_}
+use native.Mathlib.Omega.{arith}
+use borrow.Author.Tests.{lt-ltb, le-ltb}
+use lib.ListN.{length}
+use lib.Seq.{sets}
+use Rattle.frame.specs.Wire.{wire, total, two, bodyOf}
+use Rattle.frame.specs.Table.{row}
+use Rattle.frame.specs.Calls.{Write, outcome, writeOf}
+use Rattle.frame.proofs.Sums.{total-append}
+use Rattle.frame.proofs.Writing.{parts-length, sets-front}
+use borrow.Author.Needs.{needs}
+use Rattle.frame.proofs.writer.parts_within.Statement.{statement}
+use Rattle.frame.proofs.writer.parts_within.Tie as tie
+
+-- ---- the definition's three cases
+
+module _ (c : tie.Start) where
+  abbrev payload : List ℕ
+  payload = c .args .first .now ++ (c .args .second .now ++ c .args .third .now)
+
+  payload-length : length payload ≡ length (c .args .first .now) + (length (c .args .second .now) + length (c .args .third .now))
+  payload-length = parts-length (c .args .first .now) (c .args .second .now) (c .args .third .now)
+
+  abbrev out : List ℕ
+  out = c .args .out .now
+
+  abbrev body : List ℕ
+  body = bodyOf (c .args .command) (c .args .number) (c .args .flags) payload
+
+  abbrev limit : ℕ
+  limit = c .args .limit
+
+  abbrev asked : Write
+  asked = writeOf limit (c .args .command) (c .args .number) (c .args .flags) payload out
+
+  too-long : limit < length payload + 5 → outcome (row 21 (0 ∷ [])) out ≡ asked
+  too-long h = rw (lt-ltb limit (length payload + 5) h)
+
+  no-room : length payload + 5 ≤ limit → length out < length (wire body) → outcome (row 22 (0 ∷ [])) out ≡ asked
+  no-room h g = rw (le-ltb limit (length payload + 5) h, lt-ltb (length out) (length (wire body)) g)
+
+  done : length payload + 5 ≤ limit → length (wire body) ≤ length out → outcome (row 0 (length (wire body) ∷ [])) (sets out 0 (wire body)) ≡ asked
+  done h g = rw (le-ltb limit (length payload + 5) h, le-ltb (length out) (length (wire body)) g, sets-front (wire body) out g)
+
+-- ---- what is sized: the head, the payload and their sum are the frame's body, and the count is that of its wire form
+
+body-parts : (command number flags size : ℕ) (payload head : List ℕ) (sum : ℕ) → size ≡ length payload → head ≡ two (size + 5) (command ∷ number ∷ two flags [])
+    → sum ≡ (total head + total payload) % 256 → head ++ (payload ++ sum ∷ []) ≡ bodyOf command number flags payload
+unfolding bodyOf
+body-parts command number flags size payload head sum h e f = rw (f, ← total-append, e, h)
+
+-- within the limit the size is the payload's
+module _ (c : tie.Else1) where
+  abbrev start : tie.Start
+  start = c .before .before .before .before .before .before
+
+  size : c .before .least .result + length (start .args .third .now) ≡ length (payload start)
+  size = omega (arith, payload-length start)
+
+  short : length (payload start) + 5 ≤ limit start
+  short = omega (arith, payload-length start)
+
+module _ (c : tie.After-sized) where
+  abbrev within : tie.Else1
+  within = c .before .before
+
+  abbrev head : List ℕ
+  head = c .before .head-of .result
+
+  whole : head ++ (payload (start within) ++ c .sized .result .sum ∷ []) ≡ body (start within)
+  whole = body-parts _ _ _ _ (payload (start within)) head (c .sized .result .sum) (size within) (c .before .head-of .ensures) (c .sized .ensures .0)
+
+  count : c .sized .result .count ≡ length (wire (body (start within)))
+  count = c .sized .ensures .1 ∙ ap (λ (b : List ℕ). length (wire b)) whole
+
+returns : tie.Need-returns
+returns c =
+    let s = c .before .before .before .before .before .before in
+    too-long s (omega (arith, payload-length s))
+
+sized-requires : tie.Need-sized-requires
+sized-requires c κs = omega (arith, short (c .before))
+
+returns-2 : tie.Need-returns-2
+returns-2 c =
+    let m = c .before .before in
+    no-room (start (within m)) (short (within m)) (omega (arith, count m))
+
+returns-3 : tie.Need-returns-3
+returns-3 c =
+    let m = c .before .before .before .before .before .before in
+    let put = c .before .before .put-frame .ensures in
+    rw (put .0, put .1, whole m) (done (start (within m)) (short (within m)) (omega (arith, count m)))
+
+pub parts-within-spec : {M : Type 1} → statement M
+parts-within-spec =
+    tie.close
+    (tie.spec
+    (λ c. search needs) (λ c κs. search needs) (λ c. search needs) (λ c. search needs)
+    returns
+    (λ c κs. search needs)
+    sized-requires
+    returns-2
+    (λ c κs. search needs) (λ c. search needs)
+    returns-3)
