@@ -1,0 +1,10 @@
+-- Example 4 of paper 01, by computation: the output only has to have room. Assumes nothing.
+use borrow.Author.Tests.{le-ltb}
+use lib.ListN.{length}
+use Rattle.frame.specs.Wire.{stuff, total, bodyOf}
+use Rattle.message.specs.Commands.{among, kindIn}
+use Rattle.message.specs.Claims.{Example4}
+
+pub example-4 : Example4
+unfolding stuff total bodyOf among kindIn
+example-4 out h = rw (le-ltb (length out) 19 h)

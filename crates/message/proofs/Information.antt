@@ -1,0 +1,111 @@
+-- Device information is read back from what is written: numbers, between texts and key before them and the secret behind. Assumes nothing.
+use Prim.Native.Nat.{ℕ, _+_, _≤_}
+use mathlib.Core.Path.{_≡_, refl, sym, ap, _∙_}
+use mathlib.Core.Bool.{true, cond}
+use mathlib.Core.List.{List, [], _∷_, _++_, append-assoc}
+use native.Mathlib.Omega.{arith}
+use borrow.Author.Tests.{eqb-true, le-leb, lt-leb}
+use lib.Dec.{eqb}
+use lib.ListN.{length, take, drop, length-append, length-drop, take-append-drop, drop-of-length-le}
+use lib.Seq.{length-take-le, take-append-le, drop-append-le, drop-at, take-all}
+use Rattle.frame.specs.Wire.{two}
+use Rattle.message.specs.Numbers.{eightAt, eight}
+use Rattle.message.specs.Commands.{among, sizeFits, fits}
+use Rattle.message.specs.Table.{informationIn}
+use Rattle.message.specs.Parts.{spanIn, informationSpan, bytesOf}
+use Rattle.message.specs.Writing.{informationBytes, informationNumbers, informationLent}
+use Rattle.message.specs.Claims.{lentPart}
+use Rattle.message.specs.declared.kind.Kind.the-variants as kind
+use Rattle.message.specs.declared.values.Extra.{Extra}
+use Rattle.message.specs.declared.values.Extra.the-variants as extra
+use Rattle.message.specs.declared.parts.Part.{Part}
+use Rattle.message.specs.declared.parts.Part.the-variants as part
+use Rattle.message.proofs.Numbers.{two-behind, eight-behind}
+use Rattle.message.proofs.Accepted.{Accepted, Back}
+
+-- what lies in the first of two lists
+inside : (f q : List ℕ) (start size : ℕ) → start + size ≤ length f → take size (drop start (f ++ q)) ≡ take size (drop start f)
+inside f q start size h = rw (drop-append-le start f q (omega arith)) (take-append-le size (drop start f) q (omega (arith, length-drop start f)))
+
+-- what lies in the first n of a list, whatever stands behind them
+pub in-front : (l q : List ℕ) (n start size : ℕ) → start + size ≤ n → n ≤ length l → take size (drop start (take n l ++ q)) ≡ take size (drop start l)
+in-front l q n start size h e =
+    let whole : length (take n l) ≡ n = length-take-le n l e in
+    inside (take n l) q start size (omega arith) ∙ sym (inside (take n l) (drop n l) start size (omega arith))
+    ∙ ap (λ (m : List ℕ). take size (drop start m)) (take-append-drop n l)
+
+-- how many bytes there are
+record Shape (timeout : ℕ) (more lent : List ℕ) (size : ℕ) : Type 0 where
+  enough : 64 ≤ length lent
+  sized : 2 + length more + length lent ≡ size
+
+module _ {timeout size : ℕ} {more lent : List ℕ} (s : Shape timeout more lent size) where
+  abbrev payload : List ℕ
+  payload = informationBytes (two timeout more) lent
+
+  front : length (take 64 lent) ≡ 64
+  front = length-take-le 64 lent (s .enough)
+
+  payload-length : length payload ≡ size
+  payload-length = simp (length-append, length-drop, front) (omega arith)
+
+  -- ---- values
+
+  values-back :
+      {values : List ℕ} → among size (66 ∷ 74 ∷ 106 ∷ []) ≡ true → cond (eqb size 66) [] (eightAt payload 66 ∷ []) ≡ values
+      → Accepted kind.Information 0x02 payload (0x02 ∷ size ∷ timeout ∷ values)
+  unfolding sizeFits fits
+  values-back listed rest =
+      record {
+        listed = refl;
+        sized = rw (payload-length, listed) (le-leb 0 size (omega arith));
+        allows = refl;
+        values = rw (payload-length, two-behind (take 64 lent) front timeout (more ++ drop 64 lent)) (ap (λ (l : List ℕ). 0x02 ∷ size ∷ timeout ∷ l) rest);
+      }
+
+  attributes-back : (attributes : ℕ) → more ≡ eight attributes [] → eightAt payload 66 ≡ attributes
+  attributes-back attributes e =
+      rw (e, ← append-assoc (take 64 lent) (two timeout []) (eight attributes (drop 64 lent)))
+      (eight-behind (take 64 lent ++ two timeout []) (simp (length-append, front)) attributes (drop 64 lent))
+
+  -- ---- parts
+
+  text : (start count : ℕ) → start + count ≤ 64 → bytesOf (informationSpan 0x02 payload 66 start count) payload ≡ take count (drop start lent)
+  text start count h = rw (payload-length, le-leb 66 size (omega arith)) (in-front lent _ 64 start count h (s .enough))
+
+  no-secret : size ≤ 105 → length lent ≡ 64 → bytesOf (informationSpan 0x02 payload 106 74 32) payload ≡ drop 64 lent
+  no-secret short e = rw (payload-length, lt-leb 106 size (omega arith)) (sym (drop-of-length-le lent {i = 64} (omega arith)))
+
+  secret-back : size ≡ 106 → length lent ≡ 96 → bytesOf (informationSpan 0x02 payload 106 74 32) payload ≡ drop 64 lent
+  secret-back e n =
+      rw (payload-length, le-leb 106 size (omega arith), ← append-assoc (take 64 lent) (two timeout more) (drop 64 lent))
+      (rw (drop-at (take 64 lent ++ two timeout more) (drop 64 lent) 74 (simp (length-append, front) (omega arith))) (take-all 32 (drop 64 lent) (omega (arith, length-drop 64 lent))))
+
+  parts-back : bytesOf (informationSpan 0x02 payload 106 74 32) payload ≡ drop 64 lent → (which : Part) → bytesOf (spanIn which 0x02 payload) payload ≡ lentPart which 0x02 lent
+  parts-back secret part.SerialVersion = text 0 8 (omega arith)
+  parts-back secret part.ProtocolVersion = text 8 8 (omega arith)
+  parts-back secret part.HardwareVersion = text 16 8 (omega arith)
+  parts-back secret part.SoftwareVersion = text 24 8 (omega arith)
+  parts-back secret part.ProductKey = text 32 32 (omega arith)
+  parts-back secret part.Secret = secret
+  parts-back secret part.CheckCode = refl
+  parts-back secret part.Data = refl
+
+-- ---- each shape
+
+pub information-back :
+    (timeout : ℕ) (more : Extra) (lent : List ℕ) → eqb (length lent) (informationLent more) ≡ true
+    → Back kind.Information 0x02 (informationBytes (informationNumbers timeout more) lent) (0x02 ∷ informationIn timeout more) lent
+unfolding among
+information-back timeout extra.Absent lent h =
+    let n : length lent ≡ 64 = eqb-true _ _ h in
+    let s : Shape timeout [] lent 66 = omega arith in
+    record { values = values-back s refl refl; parts = parts-back s (no-secret s (omega arith) n) }
+information-back timeout (extra.Attributes attributes) lent h =
+    let n : length lent ≡ 64 = eqb-true _ _ h in
+    let s : Shape timeout (eight attributes []) lent 74 = omega arith in
+    record { values = values-back s refl (rw (attributes-back s attributes refl)); parts = parts-back s (no-secret s (omega arith) n) }
+information-back timeout (extra.AttributesAndSecret attributes) lent h =
+    let n : length lent ≡ 96 = eqb-true _ _ h in
+    let s : Shape timeout (eight attributes []) lent 106 = omega arith in
+    record { values = values-back s refl (rw (attributes-back s attributes refl)); parts = parts-back s (secret-back s refl n) }

@@ -1,0 +1,103 @@
+-- Laws of reading: a payload's size as tests of its length, a message that is got, and a command's line that reads a payload.
+use Prim.Native.Nat.{ℕ, zero, suc, _+_}
+use mathlib.Core.Path.{_≡_, refl, sym, ap, _∙_}
+use mathlib.Core.Bool.{Bool, true, false, cond, not, _&&_}
+use mathlib.Core.List.{List, [], _∷_}
+use native.Mathlib.Omega.{arith}
+use lib.ListN.{length, getD, List·getD-eq-default}
+use lib.Dec.{eqb, leb, leb·zero, leb·suc-suc, eqb·suc-zero}
+use Rattle.frame.specs.Table.{Row}
+use Rattle.frame.proofs.Steps.{tests}
+use Rattle.message.specs.Numbers.{twoAt}
+use Rattle.message.specs.Commands.{exactly, from, counted, among, fits, sizesOf, layoutOf, sizeFits, isListed, commandsOf, kindOf}
+use Rattle.message.specs.Reading.{allowed, valuesOf, judgedOf, readAs, readOf}
+use Rattle.message.specs.declared.kind.Kind.{Kind}
+use Rattle.message.proofs.Lines.{only}
+
+-- ---- a payload's size, as tests of its length
+
+pub among-none : (x : ℕ) → among x [] ≡ false
+unfolding among
+among-none x = refl
+
+pub among-next : (x y : ℕ) (ys : List ℕ) → among x (y ∷ ys) ≡ cond (eqb x y) true (among x ys)
+unfolding among
+among-next x y ys = refl
+
+pub fits-exactly : (sizes p : List ℕ) → fits (exactly sizes) p ≡ among (length p) sizes
+unfolding fits
+fits-exactly sizes p = refl
+
+pub fits-from : (least : ℕ) (p : List ℕ) → fits (from least) p ≡ leb least (length p)
+unfolding fits
+fits-from least p = refl
+
+pub fits-any : (p : List ℕ) → fits (from 0) p ≡ true
+unfolding fits
+fits-any p = leb·zero (length p)
+
+nonempty : (n : ℕ) → leb 1 n ≡ not (eqb n 0)
+nonempty zero = refl
+nonempty (suc n) = rw (leb·suc-suc 0 n, leb·zero, eqb·suc-zero)
+
+pub fits-some : (p : List ℕ) → fits (from 1) p ≡ not (eqb (length p) 0)
+unfolding fits
+fits-some p = nonempty (length p)
+
+pub fits-counted : (before behind : ℕ) (p : List ℕ) → fits (counted before behind) p ≡ eqb (length p) (before + 2 + behind + twoAt p before)
+unfolding fits
+fits-counted before behind p = ap (eqb (length p)) (omega arith)
+
+pub size-fits : (k : Kind) (p : List ℕ) → sizeFits k p ≡ (fits (sizesOf k) p && fits (layoutOf k (getD p 0 0)) p)
+unfolding sizeFits
+size-fits k p = refl
+
+-- with these `search` takes what the tests on the way told into a kind's sizes, and so into `readAs`
+pub ruleset sizes = (size-fits, fits-any, fits-some, fits-from, fits-exactly, fits-counted, among-none, among-next, tests)
+
+-- the first byte of a payload that has none counts 0
+pub first-none : (p : List ℕ) → length p ≡ 0 → getD p 0 0 ≡ 0
+first-none p e = List·getD-eq-default p 0 (omega arith)
+
+-- ---- a kind that has one size, or a least one
+
+whole : (t : Bool) → cond t true false ≡ t
+whole true = refl
+whole false = refl
+
+and-true : (t : Bool) → (t && true) ≡ t
+and-true true = refl
+and-true false = refl
+
+module _ (k : Kind) (p : List ℕ) (any : layoutOf k (getD p 0 0) ≡ from 0) where
+  pub sized-one : (n : ℕ) → sizesOf k ≡ exactly (n ∷ []) → eqb (length p) n ≡ sizeFits k p
+  sized-one n e = sym (simp (size-fits, any, e, fits-any, fits-exactly, among-next, among-none, and-true, whole))
+
+  pub sized-from : (n : ℕ) → sizesOf k ≡ from n → leb n (length p) ≡ sizeFits k p
+  sized-from n e = sym (simp (size-fits, any, e, fits-any, fits-from, and-true))
+
+  pub sized-counted : (before behind : ℕ) → sizesOf k ≡ counted before behind → eqb (length p) (before + 2 + behind + twoAt p before) ≡ sizeFits k p
+  sized-counted before behind e = sym (simp (size-fits, any, e, fits-any, fits-counted, and-true))
+
+-- ---- a layout that the first byte chooses
+
+-- a payload of one of its line's sizes is judged by the size of that layout
+pub chosen : (k : Kind) (command n : ℕ) (p : List ℕ) {r : Row} (a : Bool) (values : List ℕ)
+    → r ≡ judgedOf (eqb (length p) n) a (command ∷ values)
+    → isListed k ≡ true → fits (sizesOf k) p ≡ true → layoutOf k (getD p 0 0) ≡ exactly (n ∷ []) → a ≡ allowed k p → values ≡ valuesOf k p
+    → r ≡ readAs k command p
+chosen k command n p a values f listed size layout allows e =
+    f ∙ simp (listed, size-fits, size, layout, fits-exactly, among-next, among-none, whole, allows, e)
+
+-- ---- a command's line
+
+module _ (k : Kind) {kind : Kind} {r : Row} (command : ℕ) (p : List ℕ) (of : kind ≡ kindOf command) (told : kind ≡ k) where
+  -- a payload is read as the command's line reads it
+  pub read-kind : r ≡ readAs k command p → r ≡ readOf command p
+  read-kind e = rw (← of, told) e
+
+  -- a line that has one command reads as that one
+  pub read-line : (n : ℕ) → commandsOf k ≡ n ∷ [] → r ≡ readAs k n p → r ≡ readOf command p
+  read-line n one e = read-kind (rw (only command k n one (sym of ∙ told)) e)
+
+pub ruleset lines = (read-kind, read-line)

@@ -1,0 +1,219 @@
+-- A message can be read back from its values, and an answer from its line of the table, so no two have the same. Assumes nothing.
+use Prim.Native.Nat.{ℕ}
+use mathlib.Core.Path.{_≡_, refl, sym, ap, _∙_}
+use mathlib.Core.Bool.{Bool, true, false, cond}
+use mathlib.Core.List.{List, [], _∷_}
+use lib.ListN.{getD, drop}
+use lib.Dec.{eqb}
+use Rattle.frame.specs.Table.{Row}
+use Rattle.message.specs.Numbers.{num}
+use Rattle.message.specs.Counter.{statusIn, controlIn}
+use Rattle.message.specs.Table.{networkIn, unixIn, timeIn, messageIn, readingRowOf, sentRowOf, replyRowOf}
+use Rattle.message.specs.Claims.{RowsTell}
+use Rattle.message.specs.declared.counter.Control.{Control}
+use Rattle.message.specs.declared.counter.Status.{Status}
+use Rattle.message.specs.declared.values.Time.{Time}
+use Rattle.message.specs.declared.values.Extra.{Extra}
+use Rattle.message.specs.declared.values.Extra.the-variants as extra
+use Rattle.message.specs.declared.values.Network.{Network}
+use Rattle.message.specs.declared.values.Unix.{Unix}
+use Rattle.message.specs.declared.values.Unix.the-variants as unix
+use Rattle.message.specs.declared.values.Message.{Message}
+use Rattle.message.specs.declared.values.Message.the-variants as message
+use Rattle.message.specs.declared.reader.Reading.{Reading}
+use Rattle.message.specs.declared.reader.Reading.the-variants as reading
+use Rattle.message.specs.declared.writer.Sent.{Sent}
+use Rattle.message.specs.declared.writer.Sent.the-variants as sent
+use Rattle.message.specs.declared.replies.Reply.{Reply}
+use Rattle.message.specs.declared.replies.Reply.the-variants as reply
+
+-- what can be read back is told apart
+told-apart : {A B : Type 0} (f : A → B) (g : B → A) → ((a : A) → g (f a) ≡ a) → (a b : A) → f a ≡ f b → a ≡ b
+told-apart f g back a b e = sym (back a) ∙ ap g e ∙ back b
+
+-- ---- the values
+
+abbrev value : List ℕ → ℕ → ℕ
+value l i = getD l i 0
+
+abbrev flag : List ℕ → ℕ → Bool
+flag l i = eqb (value l i) 1
+
+flag-back : (b : Bool) → eqb (num b) 1 ≡ b
+flag-back true = refl
+flag-back false = refl
+
+abbrev statusFrom : List ℕ → Status
+statusFrom l =
+    record {
+      feeding = flag l 0;
+      lamp = flag l 1;
+      mode = value l 2;
+      volume = value l 3;
+      leaf = value l 4;
+      double = flag l 5;
+      skipped = flag l 6;
+      fault = flag l 7;
+    }
+
+status-back : (s : Status) → statusFrom (statusIn s) ≡ s
+status-back s = simp flag-back
+
+abbrev controlFrom : List ℕ → Control
+controlFrom l =
+    record {
+      flags = record { lamp = flag l 0; mode = flag l 1; volume = flag l 2 };
+      lamp = flag l 3;
+      mode = value l 4;
+      volume = value l 5;
+    }
+
+control-back : (c : Control) → controlFrom (controlIn c) ≡ c
+control-back c = simp flag-back
+
+abbrev networkFrom : List ℕ → Network
+networkFrom l =
+    record {
+      softap = flag l 0;
+      station = flag l 1;
+      onboarding = flag l 2;
+      binding = flag l 3;
+      router = flag l 4;
+      server = flag l 5;
+      strength = value l 6;
+      app = flag l 7;
+      testing = flag l 8;
+    }
+
+network-back : (n : Network) → networkFrom (networkIn n) ≡ n
+network-back n = simp flag-back
+
+abbrev extraFrom : ℕ → ℕ → Extra
+extraFrom size attributes = cond (eqb size 66) extra.Absent (cond (eqb size 74) (extra.Attributes attributes) (extra.AttributesAndSecret attributes))
+
+abbrev unixFrom : List ℕ → Unix
+unixFrom [] = unix.Absent
+unixFrom (seconds ∷ l) = unix.Seconds seconds
+
+unix-back : (u : Unix) → unixFrom (unixIn u) ≡ u
+unix-back unix.Absent = refl
+unix-back (unix.Seconds seconds) = refl
+
+abbrev timeFrom : List ℕ → Time
+timeFrom l =
+    record {
+      year = value l 0;
+      month = value l 1;
+      day = value l 2;
+      hour = value l 3;
+      minute = value l 4;
+      second = value l 5;
+      unix = unixFrom (drop 6 l);
+    }
+
+time-back : (c : Time) → timeFrom (timeIn c) ≡ c
+time-back c = simp (unix-back (c .unix))
+
+-- ---- a message
+
+-- what stands under a number, or else
+abbrev under : {A : Type 0} → ℕ → ℕ → A → A → A
+under x n a other = cond (eqb x n) a other
+
+-- with a first value, and others
+abbrev bodied : ℕ → ℕ → List ℕ → Message
+bodied command first l =
+    under command 0x02 (message.Information (value l 0) (extraFrom first (value l 1)))
+    (under command 0x03 (under first 1 (message.Control (controlFrom l)) message.Query)
+    (under command 0x04 (message.Status (statusFrom l))
+    (under command 0x05 (message.Report (statusFrom l))
+    (under command 0x09 (message.Onboarding first)
+    (under command 0x0D (message.Network (networkFrom (first ∷ l)))
+    (under command 0x11 (message.ModuleReject first)
+    (under command 0x12 (message.BoxReject first)
+    (under command 0x18 (message.Time (timeFrom (first ∷ l)))
+    (under command 0x19 (message.Announcement first)
+    (under command 0x1B (message.Ready first) (message.Piece first (value l 0))))))))))))
+
+-- no message has no values
+abbrev messageFrom : List ℕ → Message
+messageFrom [] = message.Query
+messageFrom (command ∷ []) = message.Empty command
+messageFrom (command ∷ first ∷ l) = bodied command first l
+
+message-back : (m : Message) → messageFrom (messageIn m) ≡ m
+message-back (message.Empty command) = refl
+message-back (message.Information timeout extra.Absent) = refl
+message-back (message.Information timeout (extra.Attributes attributes)) = refl
+message-back (message.Information timeout (extra.AttributesAndSecret attributes)) = refl
+message-back (message.Control control) = ap message.Control (control-back control)
+message-back message.Query = refl
+message-back (message.Status status) = ap message.Status (status-back status)
+message-back (message.Report status) = ap message.Report (status-back status)
+message-back (message.Onboarding way) = refl
+message-back (message.Network network) = ap message.Network (network-back network)
+message-back (message.ModuleReject code) = refl
+message-back (message.BoxReject code) = refl
+message-back (message.Time time) = ap message.Time (time-back time)
+message-back (message.Announcement size) = refl
+message-back (message.Ready size) = refl
+message-back (message.Piece index total) = refl
+
+-- ---- the answers
+
+abbrev readingFrom : Row → Reading
+readingFrom r =
+    under (r .number) 0 (reading.Got (messageFrom (r .values)))
+    (under (r .number) 31 reading.Command
+    (under (r .number) 32 reading.Size reading.Field))
+
+reading-back : (a : Reading) → readingFrom (readingRowOf a) ≡ a
+reading-back (reading.Got m) = ap reading.Got (message-back m)
+reading-back reading.Command = refl
+reading-back reading.Size = refl
+reading-back reading.Field = refl
+
+abbrev sentFrom : Row → Sent
+sentFrom r =
+    under (r .number) 0 (sent.Wrote (value (r .values) 0))
+    (under (r .number) 21 sent.Payload
+    (under (r .number) 22 sent.Room
+    (under (r .number) 31 sent.Command
+    (under (r .number) 32 sent.Size sent.Field))))
+
+sent-back : (a : Sent) → sentFrom (sentRowOf a) ≡ a
+sent-back (sent.Wrote count) = refl
+sent-back sent.Payload = refl
+sent-back sent.Room = refl
+sent-back sent.Command = refl
+sent-back sent.Size = refl
+sent-back sent.Field = refl
+
+-- nothing, a count, or a command that is asked for
+abbrev doneFrom : List ℕ → Reply
+doneFrom [] = reply.Nothing
+doneFrom (count ∷ []) = reply.Acknowledged count
+doneFrom (count ∷ command ∷ []) = reply.Nothing
+doneFrom (count ∷ command ∷ value ∷ l) =
+    under command 0x02 (reply.InformationWanted value)
+    (under command 0x04 (reply.StatusWanted value) (reply.Rejected count value))
+
+abbrev replyFrom : Row → Reply
+replyFrom r = under (r .number) 22 reply.Room (doneFrom (r .values))
+
+reply-back : (a : Reply) → replyFrom (replyRowOf a) ≡ a
+reply-back reply.Nothing = refl
+reply-back (reply.InformationWanted number) = refl
+reply-back (reply.StatusWanted number) = refl
+reply-back (reply.Acknowledged count) = refl
+reply-back (reply.Rejected count code) = refl
+reply-back reply.Room = refl
+
+pub rows-tell : RowsTell
+rows-tell =
+    record {
+      messages = told-apart messageIn messageFrom message-back;
+      readings = told-apart readingRowOf readingFrom reading-back;
+      sendings = told-apart sentRowOf sentFrom sent-back;
+      replies = told-apart replyRowOf replyFrom reply-back;
+    }

@@ -1,0 +1,17 @@
+-- `counter::control_allowed` tests as the definition does, the control's bytes being those behind the payload's first.
+use borrow.Author.Needs.{needs}
+use lib.Seq.{getD-drop}
+use Rattle.frame.proofs.Steps.{tests}
+use Rattle.message.proofs.counter.control_allowed.Statement.{statement}
+use Rattle.message.proofs.counter.control_allowed.Tie as tie
+
+pub control-allowed-spec : {M : Type 1} → statement M
+control-allowed-spec =
+    tie.close
+    (tie.spec
+    (λ c κs. search needs)
+    (λ c κs. search needs)
+    (λ c. simp (getD-drop, ← (c .before .byte-at2 .ensures), ← (c .before .before .byte-at .ensures)) (search tests))
+    (λ c. simp (getD-drop, ← (c .before .before .byte-at2 .ensures), ← (c .before .before .before .byte-at .ensures)) (search tests))
+    (λ c. simp (getD-drop, ← (c .before .before .before .byte-at2 .ensures), ← (c .before .before .before .before .byte-at .ensures)) (search tests))
+    λ c. simp (getD-drop, ← (c .before .before .before .byte-at2 .ensures), ← (c .before .before .before .before .byte-at .ensures)) (search tests))

@@ -1,0 +1,23 @@
+-- `counter::status_bytes` adds up the bits of the first byte and of the last, and has the numbers between them byte by byte.
+use native.Mathlib.Nat.{mul-one}
+use borrow.Author.Needs.{needs}
+use Rattle.message.specs.Numbers.{num}
+use Rattle.message.proofs.counter.status_bytes.Statement.{statement}
+use Rattle.message.proofs.counter.status_bytes.Tie as tie
+
+returns : tie.Need-returns
+returns c =
+    let s = c .before .before .before .before .before .before .before .before .before .before .args .status in
+    cc (mul-one (num (s .feeding)), mul-one (num (s .double)))
+
+pub status-bytes-spec : {M : Type 1} → statement M
+status-bytes-spec =
+    tie.close
+    (tie.spec
+    -- the first byte and the last
+    (λ c κs. search needs) (λ c κs. search needs) (λ c. search needs) (λ c. search needs) (λ c. search needs) (λ c. search needs)
+    (λ c κs. search needs) (λ c κs. search needs) (λ c. search needs) (λ c κs. search needs) (λ c. search needs)
+    -- each byte fits
+    (λ c. search needs) (λ c. search needs) (λ c. search needs) (λ c. search needs) (λ c. search needs)
+    (λ c. search needs) (λ c. search needs) (λ c. search needs) (λ c. search needs) (λ c. search needs)
+    returns)

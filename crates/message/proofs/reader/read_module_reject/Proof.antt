@@ -1,0 +1,12 @@
+-- `reader::read_module_reject` judges one byte, the code.
+use mathlib.Core.Path.{refl}
+use borrow.Author.Needs.{needs}
+use Rattle.message.specs.declared.kind.Kind.the-variants.{ModuleReject}
+use Rattle.message.proofs.Reading.{sized-one}
+use Rattle.message.proofs.reader.read_module_reject.Statement.{statement}
+use Rattle.message.proofs.reader.read_module_reject.Tie as tie
+
+pub read-module-reject-spec : {M : Type 1} → statement M
+read-module-reject-spec = tie.close (tie.spec
+    (search needs) (search needs) (search needs)
+    λ c. cc (sized-one ModuleReject (c .before .before .before .before .args .payload .now) refl 1 refl))

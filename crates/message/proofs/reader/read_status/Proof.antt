@@ -1,0 +1,22 @@
+-- `reader::read_status` goes by the first byte, which chooses a status of 8 bytes behind it.
+use mathlib.Core.Path.{refl}
+use mathlib.Core.List.{_∷_}
+use borrow.Author.Needs.{needs}
+use Rattle.message.specs.Counter.{statusIn}
+use Rattle.message.specs.declared.kind.Kind.the-variants.{Status}
+use Rattle.message.proofs.Reading.{sizes, first-none, chosen}
+use Rattle.message.proofs.reader.read_status.Statement.{statement}
+use Rattle.message.proofs.reader.read_status.Tie as tie
+
+status : tie.Need-returns-3
+status c =
+    chosen Status 4 9 _ (c .before .status-allowed .result) (3 ∷ statusIn (c .before .before .status-of .result)) (c .judged .ensures) refl (search sizes) (search sizes) (search (sizes, c .before .status-allowed .ensures))
+    (search (sizes, c .before .before .before .if2 .left, c .before .before .status-of .ensures))
+
+pub read-status-spec : {M : Type 1} → statement M
+read-status-spec = tie.close (tie.spec
+    (λ c. search (sizes, first-none))
+    (search needs)
+    (λ c. search sizes)
+    (search needs) (search needs) (search needs)
+    status)

@@ -1,0 +1,11 @@
+-- `write_query` meets its contract: one byte, which is allowed.
+use borrow.Author.Needs.{needs}
+use Rattle.message.specs.Commands.{kindIn, among}
+use Rattle.message.proofs.writer.write_query.Statement.{statement}
+use Rattle.message.proofs.writer.write_query.Tie as tie
+
+pub write-query-spec : {M : Type 1} → statement M
+unfolding kindIn among
+write-query-spec = tie.close (tie.spec
+    (search needs) (search needs)
+    λ c. c .before .before .write-byte .ensures)

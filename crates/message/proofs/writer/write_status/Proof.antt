@@ -1,0 +1,19 @@
+-- `write_status` meets its contract: the status' bytes, where its mode is allowed.
+use mathlib.Core.Path.{refl}
+use borrow.Author.Needs.{needs}
+use borrow.Author.Tests.{eq-eqb, lt-ltb}
+use Rattle.frame.proofs.Steps.{tests}
+use Rattle.message.proofs.Sends.{sent}
+use Rattle.message.proofs.writer.write_status.Statement.{statement}
+use Rattle.message.proofs.writer.write_status.Tie as tie
+
+pub write-status-spec : {M : Type 1} → statement M
+write-status-spec =
+    tie.close
+    (tie.spec
+    (λ c. search tests)
+    (λ c. search tests)
+    (λ c κs. search needs) (λ c. search needs) (λ c κs. search needs) (λ c. search needs)
+    λ c.
+    let b = c .before .before .before .before .before in
+    sent _ _ _ _ refl (eq-eqb _ _ (b .before .before .before .if1 .left)) (lt-ltb _ _ (b .before .if2 .left)) (b .status-bytes .ensures) refl (c .before .before .write-frame .ensures))

@@ -1,0 +1,161 @@
+// The counter's own layout: status in 8 bytes and control in 4, each behind the payload's first byte.
+use super::bytes::byte_at;
+use super::bytes::flagged;
+use super::bytes::flagged_bit;
+use super::bytes::four_at;
+use super::bytes::lowest_bit;
+use super::bytes::two_at;
+ghost use mathlib.Core.Path.{_≡_};
+ghost use mathlib.Core.Bool.{true};
+ghost use mathlib.Core.List.{_∷_};
+ghost use Prim.Native.Nat.{_<_};
+ghost use lib.ListN.{drop};
+ghost use Rattle.message.specs.Counter.{statusAllowed, controlAllowed, statusValues, controlValues, statusIn, controlIn, statusBytes, controlBytes, modeAllowed};
+
+// What the counter says of itself.
+pub struct Status {
+    pub feeding: bool,
+    pub lamp: bool,
+    pub mode: u8,
+    pub volume: u16,
+    pub leaf: u32,
+    pub double: bool,
+    pub skipped: bool,
+    pub fault: bool,
+}
+
+// Which values of a control count.
+pub struct Flags {
+    pub lamp: bool,
+    pub mode: bool,
+    pub volume: bool,
+}
+
+// What the counter is told to do: the values whose flags are set.
+pub struct Control {
+    pub flags: Flags,
+    pub lamp: bool,
+    pub mode: u8,
+    pub volume: u16,
+}
+
+// Whether the status of a payload has none of the other bits and a mode that there is.
+pub(crate) fn status_allowed(payload: &[u8]) -> bool
+    ensures { λ r. ⌜ r ≡ statusAllowed (drop 1 (now (payload .entry))) ⌝ }
+{
+    let first = byte_at(payload, 1);
+    if 16 <= first {
+        return false;
+    }
+    if 8 <= byte_at(payload, 8) {
+        return false;
+    }
+    first / 4 % 4 < 3
+}
+
+// The status of a payload.
+pub(crate) fn status_of(payload: &[u8]) -> Status
+    ensures { λ r. ⌜ statusIn r ≡ statusValues (drop 1 (now (payload .entry))) ⌝ }
+{
+    let first = byte_at(payload, 1) as u16;
+    let last = byte_at(payload, 8) as u16;
+    Status {
+        feeding: lowest_bit(first),
+        lamp: lowest_bit(first / 2),
+        mode: (first / 4 % 4) as u8,
+        volume: two_at(payload, 2),
+        leaf: four_at(payload, 4),
+        double: lowest_bit(last),
+        skipped: lowest_bit(last / 2),
+        fault: lowest_bit(last / 4),
+    }
+}
+
+// Whether the control of a payload has none of the other bits, and where the mode is to be set, one that there is.
+pub(crate) fn control_allowed(payload: &[u8]) -> bool
+    ensures { λ r. ⌜ r ≡ controlAllowed (drop 1 (now (payload .entry))) ⌝ }
+{
+    let flags = byte_at(payload, 1);
+    let values = byte_at(payload, 2);
+    if 8 <= flags {
+        return false;
+    }
+    if 8 <= values {
+        return false;
+    }
+    if flags / 2 % 2 == 0 {
+        return true;
+    }
+    values / 2 % 4 < 3
+}
+
+// The control of a payload; a value whose flag is 0 is ignored and reads as 0.
+pub(crate) fn control_of(payload: &[u8]) -> Control
+    ensures { λ r. ⌜ controlIn r ≡ controlValues (drop 1 (now (payload .entry))) ⌝ }
+{
+    let bits = byte_at(payload, 1) as u16;
+    let values = byte_at(payload, 2) as u16;
+    let flags = Flags {
+        lamp: lowest_bit(bits),
+        mode: lowest_bit(bits / 2),
+        volume: lowest_bit(bits / 4),
+    };
+    Control {
+        flags,
+        lamp: flagged_bit(flags.lamp, lowest_bit(values)),
+        mode: flagged(flags.mode, values / 2 % 4) as u8,
+        volume: flagged(flags.volume, two_at(payload, 3)),
+    }
+}
+
+// A status behind the payload's first byte.
+pub(crate) fn status_bytes(action: u8, status: Status) -> [u8; 9]
+    requires { ⌜ status .mode < 3 ⌝ }
+    ensures { λ r. ⌜ r ≡ action ∷ statusBytes status ⌝ }
+{
+    let first = flagged(status.feeding, 1) + flagged(status.lamp, 2) + (status.mode as u16) * 4;
+    let last = flagged(status.double, 1) + flagged(status.skipped, 2) + flagged(status.fault, 4);
+    let high = (status.leaf / 65536) as u16;
+    let low = (status.leaf % 65536) as u16;
+    [
+        action,
+        first as u8,
+        (status.volume / 256) as u8,
+        (status.volume % 256) as u8,
+        (high / 256) as u8,
+        (high % 256) as u8,
+        (low / 256) as u8,
+        (low % 256) as u8,
+        last as u8,
+    ]
+}
+
+// Whether a control's mode is one that there is, where it is to be set.
+pub(crate) fn mode_allowed(set: bool, mode: u8) -> bool
+    ensures { λ r. ⌜ r ≡ modeAllowed set mode ⌝ }
+{
+    if set {
+        return mode < 3;
+    }
+    true
+}
+
+// A control behind the payload's first byte; a value whose flag is 0 is written as 0.
+pub(crate) fn control_bytes(action: u8, control: Control) -> [u8; 5]
+    requires { ⌜ modeAllowed (control .flags .mode) (control .mode) ≡ true ⌝ }
+    ensures { λ r. ⌜ r ≡ action ∷ controlBytes control ⌝ }
+{
+    let flags = flagged(control.flags.lamp, 1)
+        + flagged(control.flags.mode, 2)
+        + flagged(control.flags.volume, 4);
+    let lamp = flagged(control.flags.lamp, flagged(control.lamp, 1));
+    let mode = flagged(control.flags.mode, control.mode as u16);
+    let volume = flagged(control.flags.volume, control.volume);
+    [
+        action,
+        flags as u8,
+        (lamp + mode * 2) as u8,
+        (volume / 256) as u8,
+        (volume % 256) as u8,
+    ]
+}

@@ -1,0 +1,304 @@
+// A payload read: the message that it is, or why it is none. Sizes are tested before fields.
+use super::bytes::byte_at;
+use super::bytes::eight_at;
+use super::bytes::four_at;
+use super::bytes::lowest_bit;
+use super::bytes::two_at;
+use super::counter::control_allowed;
+use super::counter::control_of;
+use super::counter::status_allowed;
+use super::counter::status_of;
+use super::kind::Kind;
+use super::kind::kind_of;
+use super::values::Extra;
+use super::values::Message;
+use super::values::Network;
+use super::values::Time;
+use super::values::Unix;
+use super::values::code_allowed;
+use super::values::way_allowed;
+ghost use mathlib.Core.Path.{_≡_};
+ghost use Rattle.message.specs.Commands.{kindOf};
+ghost use Rattle.message.specs.Reading.{judgedOf, readAs, readOf, networkValues, timeValues};
+ghost use Rattle.message.specs.Table.{messageIn, readingRowOf, networkIn, timeIn, unixIn};
+ghost use Rattle.message.specs.declared.kind.Kind.the-variants as kind;
+
+// What a payload is.
+pub enum Reading {
+    Got { message: Message },
+    Command,
+    Size,
+    Field,
+}
+
+// The message, unless its size or a field is refused: sizes before fields.
+fn judged(sized: bool, allowed: bool, message: Message) -> Reading
+    ensures { λ r. ⌜ readingRowOf r ≡ judgedOf sized allowed (messageIn message) ⌝ }
+{
+    if sized {
+        if allowed {
+            return Reading::Got { message };
+        }
+        return Reading::Field;
+    }
+    Reading::Size
+}
+
+// The information's values behind its texts and its key.
+fn read_information(payload: &[u8]) -> Reading
+    ensures { λ r. ⌜ readingRowOf r ≡ readAs kind.Information 0x02 (now (payload .entry)) ⌝ }
+{
+    let size = payload.len();
+    let timeout = two_at(payload, 64);
+    if size == 66 {
+        return Reading::Got {
+            message: Message::Information {
+                timeout,
+                extra: Extra::Absent,
+            },
+        };
+    }
+    let attributes = eight_at(payload, 66);
+    if size == 74 {
+        return Reading::Got {
+            message: Message::Information {
+                timeout,
+                extra: Extra::Attributes { attributes },
+            },
+        };
+    }
+    if size == 106 {
+        return Reading::Got {
+            message: Message::Information {
+                timeout,
+                extra: Extra::AttributesAndSecret { attributes },
+            },
+        };
+    }
+    Reading::Size
+}
+
+// Control or query, by the first byte.
+fn read_action(payload: &[u8]) -> Reading
+    ensures { λ r. ⌜ readingRowOf r ≡ readAs kind.Action 0x03 (now (payload .entry)) ⌝ }
+{
+    let size = payload.len();
+    if size == 0 {
+        return Reading::Size;
+    }
+    let action = payload[0];
+    if action == 1 {
+        let control = control_of(payload);
+        return judged(
+            size == 5,
+            control_allowed(payload),
+            Message::Control { control },
+        );
+    }
+    if action == 2 {
+        return judged(size == 1, true, Message::Query);
+    }
+    Reading::Field
+}
+
+// The answer to a control, which is empty, or the status asked for.
+fn read_status(payload: &[u8]) -> Reading
+    ensures { λ r. ⌜ readingRowOf r ≡ readAs kind.Status 0x04 (now (payload .entry)) ⌝ }
+{
+    let size = payload.len();
+    if size == 0 {
+        return Reading::Got {
+            message: Message::Empty { command: 0x04 },
+        };
+    }
+    if payload[0] != 3 {
+        return Reading::Field;
+    }
+    let status = status_of(payload);
+    let allowed = status_allowed(payload);
+    judged(size == 9, allowed, Message::Status { status })
+}
+
+// A status that the box reports.
+fn read_report(payload: &[u8]) -> Reading
+    ensures { λ r. ⌜ readingRowOf r ≡ readAs kind.Report 0x05 (now (payload .entry)) ⌝ }
+{
+    let size = payload.len();
+    if size == 0 {
+        return Reading::Size;
+    }
+    if payload[0] != 4 {
+        return Reading::Field;
+    }
+    let status = status_of(payload);
+    let allowed = status_allowed(payload);
+    judged(size == 9, allowed, Message::Report { status })
+}
+
+// How the module is to be set up.
+fn read_onboarding(payload: &[u8]) -> Reading
+    ensures { λ r. ⌜ readingRowOf r ≡ readAs kind.Onboarding 0x09 (now (payload .entry)) ⌝ }
+{
+    let way = byte_at(payload, 0);
+    judged(
+        payload.len() == 1,
+        way_allowed(way),
+        Message::Onboarding { way },
+    )
+}
+
+// The bits of the module's state; the reserved ones are ignored.
+fn network_of(payload: &[u8]) -> Network
+    ensures { λ r. ⌜ networkIn r ≡ networkValues (now (payload .entry)) ⌝ }
+{
+    let bits = two_at(payload, 0);
+    Network {
+        softap: lowest_bit(bits),
+        station: lowest_bit(bits / 2),
+        onboarding: lowest_bit(bits / 4),
+        binding: lowest_bit(bits / 8),
+        router: lowest_bit(bits / 16),
+        server: lowest_bit(bits / 32),
+        strength: (bits / 256 % 8) as u8,
+        app: lowest_bit(bits / 2048),
+        testing: lowest_bit(bits / 4096),
+    }
+}
+
+// The state of the module's networks.
+fn read_network(payload: &[u8]) -> Reading
+    ensures { λ r. ⌜ readingRowOf r ≡ readAs kind.Network 0x0D (now (payload .entry)) ⌝ }
+{
+    let network = network_of(payload);
+    judged(payload.len() == 2, true, Message::Network { network })
+}
+
+// The module's word that a frame was invalid.
+fn read_module_reject(payload: &[u8]) -> Reading
+    ensures { λ r. ⌜ readingRowOf r ≡ readAs kind.ModuleReject 0x11 (now (payload .entry)) ⌝ }
+{
+    let code = byte_at(payload, 0);
+    judged(
+        payload.len() == 1,
+        code_allowed(code),
+        Message::ModuleReject { code },
+    )
+}
+
+// The box's word that a frame was invalid.
+fn read_box_reject(payload: &[u8]) -> Reading
+    ensures { λ r. ⌜ readingRowOf r ≡ readAs kind.BoxReject 0x12 (now (payload .entry)) ⌝ }
+{
+    let code = byte_at(payload, 0);
+    judged(
+        payload.len() == 1,
+        code_allowed(code),
+        Message::BoxReject { code },
+    )
+}
+
+// The time, with what it has behind the second.
+fn time_of(payload: &[u8], unix: Unix) -> Time
+    ensures { λ r. ⌜ timeIn r ≡ timeValues (now (payload .entry)) (unixIn unix) ⌝ }
+{
+    Time {
+        year: two_at(payload, 0),
+        month: byte_at(payload, 2),
+        day: byte_at(payload, 3),
+        hour: byte_at(payload, 4),
+        minute: byte_at(payload, 5),
+        second: byte_at(payload, 6),
+        unix,
+    }
+}
+
+// The network's time, handed over as read.
+fn read_time(payload: &[u8]) -> Reading
+    ensures { λ r. ⌜ readingRowOf r ≡ readAs kind.Time 0x18 (now (payload .entry)) ⌝ }
+{
+    let size = payload.len();
+    if size == 7 {
+        return Reading::Got {
+            message: Message::Time {
+                time: time_of(payload, Unix::Absent),
+            },
+        };
+    }
+    if size == 11 {
+        let seconds = four_at(payload, 7);
+        return Reading::Got {
+            message: Message::Time {
+                time: time_of(payload, Unix::Seconds { seconds }),
+            },
+        };
+    }
+    Reading::Size
+}
+
+// Data announced: its size, and a check code of a counted length behind it.
+fn read_announcement(payload: &[u8]) -> Reading
+    ensures { λ r. ⌜ readingRowOf r ≡ readAs kind.Announcement 0x19 (now (payload .entry)) ⌝ }
+{
+    let size = four_at(payload, 0);
+    let count = two_at(payload, 4) as usize;
+    judged(
+        payload.len() == 6 + count,
+        true,
+        Message::Announcement { size },
+    )
+}
+
+// Data asked for: a check code of a counted length, and the size of a piece behind it.
+fn read_ready(payload: &[u8]) -> Reading
+    ensures { λ r. ⌜ readingRowOf r ≡ readAs kind.Ready 0x1B (now (payload .entry)) ⌝ }
+{
+    let count = two_at(payload, 0) as usize;
+    let piece = two_at(payload, 2 + count);
+    judged(payload.len() == 4 + count, true, Message::Ready { piece })
+}
+
+// A piece of data: which of how many.
+fn read_piece(payload: &[u8]) -> Reading
+    ensures { λ r. ⌜ readingRowOf r ≡ readAs kind.Piece 0x1D (now (payload .entry)) ⌝ }
+{
+    let index = two_at(payload, 0);
+    let total = two_at(payload, 2);
+    judged(4 <= payload.len(), true, Message::Piece { index, total })
+}
+
+// A command without payload.
+fn read_empty(command: u8, payload: &[u8]) -> Reading
+    ensures { λ r. ⌜ readingRowOf r ≡ readAs kind.Empty command (now (payload .entry)) ⌝ }
+{
+    judged(payload.len() == 0, true, Message::Empty { command })
+}
+
+// A payload read as its command's kind says.
+fn read_as(kind: Kind, command: u8, payload: &[u8]) -> Reading
+    requires { ⌜ kind ≡ kindOf command ⌝ }
+    ensures { λ r. ⌜ readingRowOf r ≡ readOf command (now (payload .entry)) ⌝ }
+{
+    match kind {
+        Kind::Unlisted => Reading::Command,
+        Kind::Empty => read_empty(command, payload),
+        Kind::Information => read_information(payload),
+        Kind::Action => read_action(payload),
+        Kind::Status => read_status(payload),
+        Kind::Report => read_report(payload),
+        Kind::Onboarding => read_onboarding(payload),
+        Kind::Network => read_network(payload),
+        Kind::ModuleReject => read_module_reject(payload),
+        Kind::BoxReject => read_box_reject(payload),
+        Kind::Time => read_time(payload),
+        Kind::Announcement => read_announcement(payload),
+        Kind::Ready => read_ready(payload),
+        Kind::Piece => read_piece(payload),
+    }
+}
+
+// The message that a command and a payload are, or the refusal that is due.
+pub fn read(command: u8, payload: &[u8]) -> Reading
+    ensures { λ r. ⌜ readingRowOf r ≡ readOf command (now (payload .entry)) ⌝ }
+{
+    read_as(kind_of(command), command, payload)
+}

@@ -1,0 +1,364 @@
+// A message written as a frame: 31, 32 and 33 are tested before the frame writer's 21 and 22.
+use super::bytes::flagged;
+use super::counter::Control;
+use super::counter::Status;
+use super::counter::control_bytes;
+use super::counter::mode_allowed;
+use super::counter::status_bytes;
+use super::kind::is_listed;
+use super::kind::kind_of;
+use super::kind::may_be_empty;
+use super::values::Extra;
+use super::values::Message;
+use super::values::Network;
+use super::values::Time;
+use super::values::Unix;
+use super::values::code_allowed;
+use super::values::way_allowed;
+use frame::Written;
+ghost use mathlib.Core.Path.{_≡_};
+ghost use mathlib.Core.Bool.{true};
+ghost use mathlib.Core.List.{[], _∷_};
+ghost use Prim.Native.Nat.{_<_, _≤_};
+ghost use lib.ListN.{length};
+ghost use lib.Dec.{eqb, ltb};
+ghost use Rattle.frame.specs.Wire.{two};
+ghost use Rattle.frame.specs.Calls.{outcome, writeOf};
+ghost use Rattle.frame.specs.Table.{writtenRowOf};
+ghost use Rattle.message.specs.Numbers.{four, eight};
+ghost use Rattle.message.specs.Table.{sentRowOf};
+ghost use Rattle.message.specs.Counter.{statusBytes};
+ghost use Rattle.message.specs.Reading.{codeAllowed};
+ghost use Rattle.message.specs.Writing.{sendOf, sendAs, informationBytes, networkBytes, timeBytes};
+ghost use Rattle.message.specs.declared.values.Message.the-variants as message;
+ghost use Rattle.message.specs.declared.values.Extra.the-variants as extra;
+
+// What a message to be written is answered.
+pub enum Sent {
+    Wrote { count: usize },
+    Payload,
+    Room,
+    Command,
+    Size,
+    Field,
+}
+
+// The frame writer's answer, passed on.
+fn passed_on(written: Written) -> Sent
+    ensures { λ r. ⌜ sentRowOf r ≡ writtenRowOf written ⌝ }
+{
+    match written {
+        Written::Wrote { count } => Sent::Wrote { count },
+        Written::Payload => Sent::Payload,
+        Written::Room => Sent::Room,
+    }
+}
+
+// A frame with a payload in one piece.
+fn write_frame(command: u8, payload: &[u8], number: u8, flags: u16, out: &mut [u8]) -> Sent
+    ensures { λ r. ⌜ outcome (sentRowOf r) (now (out .exit)) ≡ writeOf 1024 command number flags (now (payload .entry)) (now (out .entry)) ⌝ }
+{
+    passed_on(frame::write(command, number, flags, payload, out))
+}
+
+// A command without payload.
+fn write_empty(command: u8, lent: &[u8], number: u8, flags: u16, out: &mut [u8]) -> Sent
+    ensures { λ r. ⌜ outcome (sentRowOf r) (now (out .exit)) ≡ sendOf (message.Empty command) number flags (now (lent .entry)) (now (out .entry)) ⌝ }
+{
+    let kind = kind_of(command);
+    if !is_listed(kind) {
+        return Sent::Command;
+    }
+    if lent.len() != 0 {
+        return Sent::Size;
+    }
+    if may_be_empty(kind) {
+        return write_frame(command, lent, number, flags, out);
+    }
+    Sent::Size
+}
+
+// Information without attributes, between the lent texts and key.
+fn write_short(timeout: u16, lent: &[u8], number: u8, flags: u16, out: &mut [u8]) -> Sent
+    ensures { λ r. ⌜ outcome (sentRowOf r) (now (out .exit)) ≡ sendOf (message.Information timeout extra.Absent) number flags (now (lent .entry)) (now (out .entry)) ⌝ }
+{
+    if lent.len() != 64 {
+        return Sent::Size;
+    }
+    let numbers = [(timeout / 256) as u8, (timeout % 256) as u8];
+    passed_on(frame::write_parts(0x02, number, flags, &lent[..64], &numbers, &lent[64..], out))
+}
+
+// Timeout and attributes.
+fn attribute_bytes(timeout: u16, attributes: u64) -> [u8; 10]
+    ensures { λ r. ⌜ r ≡ two timeout (eight attributes []) ⌝ }
+{
+    let high = (attributes / 4294967296) as u32;
+    let low = (attributes % 4294967296) as u32;
+    [
+        (timeout / 256) as u8,
+        (timeout % 256) as u8,
+        (high / 65536 / 256) as u8,
+        (high / 65536 % 256) as u8,
+        (high % 65536 / 256) as u8,
+        (high % 65536 % 256) as u8,
+        (low / 65536 / 256) as u8,
+        (low / 65536 % 256) as u8,
+        (low % 65536 / 256) as u8,
+        (low % 65536 % 256) as u8,
+    ]
+}
+
+// Information with attributes, between the lent texts and key and what else is lent.
+fn write_long(
+    size: usize,
+    timeout: u16,
+    attributes: u64,
+    lent: &[u8],
+    number: u8,
+    flags: u16,
+    out: &mut [u8],
+) -> Sent
+    requires { ⌜ 64 ≤ size ⌝ }
+    ensures { λ r. ⌜ outcome (sentRowOf r) (now (out .exit)) ≡ sendAs true (eqb (length (now (lent .entry))) size) true 2 number flags (informationBytes (two timeout (eight attributes [])) (now (lent .entry))) (now (out .entry)) ⌝ }
+{
+    if lent.len() != size {
+        return Sent::Size;
+    }
+    let numbers = attribute_bytes(timeout, attributes);
+    passed_on(frame::write_parts(0x02, number, flags, &lent[..64], &numbers, &lent[64..], out))
+}
+
+// Information in one of its three sizes.
+fn write_information(
+    timeout: u16,
+    extra: Extra,
+    lent: &[u8],
+    number: u8,
+    flags: u16,
+    out: &mut [u8],
+) -> Sent
+    ensures { λ r. ⌜ outcome (sentRowOf r) (now (out .exit)) ≡ sendOf (message.Information timeout extra) number flags (now (lent .entry)) (now (out .entry)) ⌝ }
+{
+    match extra {
+        Extra::Absent => write_short(timeout, lent, number, flags, out),
+        Extra::Attributes { attributes } => {
+            write_long(64, timeout, attributes, lent, number, flags, out)
+        }
+        Extra::AttributesAndSecret { attributes } => {
+            write_long(96, timeout, attributes, lent, number, flags, out)
+        }
+    }
+}
+
+// What the counter is told to do.
+fn write_control(control: Control, lent: &[u8], number: u8, flags: u16, out: &mut [u8]) -> Sent
+    ensures { λ r. ⌜ outcome (sentRowOf r) (now (out .exit)) ≡ sendOf (message.Control control) number flags (now (lent .entry)) (now (out .entry)) ⌝ }
+{
+    if lent.len() != 0 {
+        return Sent::Size;
+    }
+    if mode_allowed(control.flags.mode, control.mode) {
+        let bytes = control_bytes(1, control);
+        return write_frame(0x03, &bytes, number, flags, out);
+    }
+    Sent::Field
+}
+
+// A message whose payload is one byte, where that byte is allowed.
+fn write_byte(
+    command: u8,
+    byte: u8,
+    allowed: bool,
+    lent: &[u8],
+    number: u8,
+    flags: u16,
+    out: &mut [u8],
+) -> Sent
+    ensures { λ r. ⌜ outcome (sentRowOf r) (now (out .exit)) ≡ sendAs true (eqb (length (now (lent .entry))) 0) allowed command number flags (byte ∷ []) (now (out .entry)) ⌝ }
+{
+    if lent.len() != 0 {
+        return Sent::Size;
+    }
+    if allowed {
+        let bytes = [byte];
+        return write_frame(command, &bytes, number, flags, out);
+    }
+    Sent::Field
+}
+
+// The counter asked for its status.
+fn write_query(lent: &[u8], number: u8, flags: u16, out: &mut [u8]) -> Sent
+    ensures { λ r. ⌜ outcome (sentRowOf r) (now (out .exit)) ≡ sendOf message.Query number flags (now (lent .entry)) (now (out .entry)) ⌝ }
+{
+    write_byte(0x03, 2, true, lent, number, flags, out)
+}
+
+// A status, under its command and the payload's first byte.
+fn write_status(
+    command: u8,
+    action: u8,
+    status: Status,
+    lent: &[u8],
+    number: u8,
+    flags: u16,
+    out: &mut [u8],
+) -> Sent
+    ensures { λ r. ⌜ outcome (sentRowOf r) (now (out .exit)) ≡ sendAs true (eqb (length (now (lent .entry))) 0) (ltb (status .mode) 3) command number flags (action ∷ statusBytes status) (now (out .entry)) ⌝ }
+{
+    if lent.len() != 0 {
+        return Sent::Size;
+    }
+    if 3 <= status.mode {
+        return Sent::Field;
+    }
+    let bytes = status_bytes(action, status);
+    write_frame(command, &bytes, number, flags, out)
+}
+
+// How the module is to be set up.
+fn write_onboarding(way: u8, lent: &[u8], number: u8, flags: u16, out: &mut [u8]) -> Sent
+    ensures { λ r. ⌜ outcome (sentRowOf r) (now (out .exit)) ≡ sendOf (message.Onboarding way) number flags (now (lent .entry)) (now (out .entry)) ⌝ }
+{
+    write_byte(0x09, way, way_allowed(way), lent, number, flags, out)
+}
+
+// The bits of the module's state; the reserved ones are 0.
+fn network_bytes(network: Network) -> [u8; 2]
+    requires { ⌜ network .strength < 8 ⌝ }
+    ensures { λ r. ⌜ r ≡ networkBytes network ⌝ }
+{
+    let low = flagged(network.softap, 1)
+        + flagged(network.station, 2)
+        + flagged(network.onboarding, 4)
+        + flagged(network.binding, 8)
+        + flagged(network.router, 16)
+        + flagged(network.server, 32);
+    let high = (network.strength as u16) + flagged(network.app, 8) + flagged(network.testing, 16);
+    [high as u8, low as u8]
+}
+
+// The state of the module's networks.
+fn write_network(network: Network, lent: &[u8], number: u8, flags: u16, out: &mut [u8]) -> Sent
+    ensures { λ r. ⌜ outcome (sentRowOf r) (now (out .exit)) ≡ sendOf (message.Network network) number flags (now (lent .entry)) (now (out .entry)) ⌝ }
+{
+    if lent.len() != 0 {
+        return Sent::Size;
+    }
+    if 8 <= network.strength {
+        return Sent::Field;
+    }
+    let bytes = network_bytes(network);
+    write_frame(0x0D, &bytes, number, flags, out)
+}
+
+// Word that a frame was invalid, from the module or from the box.
+fn write_reject(command: u8, code: u8, lent: &[u8], number: u8, flags: u16, out: &mut [u8]) -> Sent
+    ensures { λ r. ⌜ outcome (sentRowOf r) (now (out .exit)) ≡ sendAs true (eqb (length (now (lent .entry))) 0) (codeAllowed code) command number flags (code ∷ []) (now (out .entry)) ⌝ }
+{
+    write_byte(command, code, code_allowed(code), lent, number, flags, out)
+}
+
+// The time without the seconds since 1970.
+fn time_bytes(time: Time) -> [u8; 7]
+    ensures { λ r. ⌜ r ≡ timeBytes time [] ⌝ }
+{
+    [
+        (time.year / 256) as u8,
+        (time.year % 256) as u8,
+        time.month,
+        time.day,
+        time.hour,
+        time.minute,
+        time.second,
+    ]
+}
+
+// The network's time.
+fn write_time(time: Time, lent: &[u8], number: u8, flags: u16, out: &mut [u8]) -> Sent
+    ensures { λ r. ⌜ outcome (sentRowOf r) (now (out .exit)) ≡ sendOf (message.Time time) number flags (now (lent .entry)) (now (out .entry)) ⌝ }
+{
+    if lent.len() != 0 {
+        return Sent::Size;
+    }
+    let unix = time.unix;
+    let bytes = time_bytes(time);
+    match unix {
+        Unix::Absent => write_frame(0x18, &bytes, number, flags, out),
+        Unix::Seconds { seconds } => {
+            let tail = four_bytes(seconds);
+            passed_on(frame::write_parts(0x18, number, flags, &bytes, lent, &tail, out))
+        }
+    }
+}
+
+// A number in four bytes, big-endian.
+fn four_bytes(value: u32) -> [u8; 4]
+    ensures { λ r. ⌜ r ≡ four value [] ⌝ }
+{
+    [
+        (value / 65536 / 256) as u8,
+        (value / 65536 % 256) as u8,
+        (value % 65536 / 256) as u8,
+        (value % 65536 % 256) as u8,
+    ]
+}
+
+// Data announced, with its check code.
+fn write_announcement(size: u32, code: &[u8], number: u8, flags: u16, out: &mut [u8]) -> Sent
+    ensures { λ r. ⌜ outcome (sentRowOf r) (now (out .exit)) ≡ sendOf (message.Announcement size) number flags (now (code .entry)) (now (out .entry)) ⌝ }
+{
+    let count = code.len();
+    if 65535 < count {
+        return Sent::Size;
+    }
+    let size_bytes = four_bytes(size);
+    let count_bytes = [(count / 256) as u8, (count % 256) as u8];
+    passed_on(frame::write_parts(0x19, number, flags, &size_bytes, &count_bytes, code, out))
+}
+
+// Data asked for, with its check code and the size of a piece.
+fn write_ready(piece: u16, code: &[u8], number: u8, flags: u16, out: &mut [u8]) -> Sent
+    ensures { λ r. ⌜ outcome (sentRowOf r) (now (out .exit)) ≡ sendOf (message.Ready piece) number flags (now (code .entry)) (now (out .entry)) ⌝ }
+{
+    let count = code.len();
+    if 65535 < count {
+        return Sent::Size;
+    }
+    let count_bytes = [(count / 256) as u8, (count % 256) as u8];
+    let size_bytes = [(piece / 256) as u8, (piece % 256) as u8];
+    passed_on(frame::write_parts(0x1B, number, flags, &count_bytes, code, &size_bytes, out))
+}
+
+// A piece of data.
+fn write_piece(index: u16, total: u16, bytes: &[u8], number: u8, flags: u16, out: &mut [u8]) -> Sent
+    ensures { λ r. ⌜ outcome (sentRowOf r) (now (out .exit)) ≡ sendOf (message.Piece index total) number flags (now (bytes .entry)) (now (out .entry)) ⌝ }
+{
+    let index_bytes = [(index / 256) as u8, (index % 256) as u8];
+    let total_bytes = [(total / 256) as u8, (total % 256) as u8];
+    passed_on(frame::write_parts(0x1D, number, flags, &index_bytes, &total_bytes, bytes, out))
+}
+
+// A message as a frame at the front of the output, or refused with the output as it was.
+pub fn write(message: Message, lent: &[u8], number: u8, flags: u16, out: &mut [u8]) -> Sent
+    ensures { λ r. ⌜ outcome (sentRowOf r) (now (out .exit)) ≡ sendOf message number flags (now (lent .entry)) (now (out .entry)) ⌝ }
+{
+    match message {
+        Message::Empty { command } => write_empty(command, lent, number, flags, out),
+        Message::Information { timeout, extra } => {
+            write_information(timeout, extra, lent, number, flags, out)
+        }
+        Message::Control { control } => write_control(control, lent, number, flags, out),
+        Message::Query => write_query(lent, number, flags, out),
+        Message::Status { status } => write_status(0x04, 3, status, lent, number, flags, out),
+        Message::Report { status } => write_status(0x05, 4, status, lent, number, flags, out),
+        Message::Onboarding { way } => write_onboarding(way, lent, number, flags, out),
+        Message::Network { network } => write_network(network, lent, number, flags, out),
+        Message::ModuleReject { code } => write_reject(0x11, code, lent, number, flags, out),
+        Message::BoxReject { code } => write_reject(0x12, code, lent, number, flags, out),
+        Message::Time { time } => write_time(time, lent, number, flags, out),
+        Message::Announcement { size } => write_announcement(size, lent, number, flags, out),
+        Message::Ready { piece } => write_ready(piece, lent, number, flags, out),
+        Message::Piece { index, total } => { write_piece(index, total, lent, number, flags, out) }
+    }
+}
