@@ -39,7 +39,7 @@ pub struct Control {
     pub volume: u16,
 }
 
-// Whether the status of a payload has none of the other bits and a mode that there is.
+// Whether a payload's status has a mode that there is, and only 0 in the bits that have no meaning.
 pub(crate) fn status_allowed(payload: &[u8]) -> bool
     ensures { λ r. ⌜ r ≡ statusAllowed (drop 1 (now (payload .entry))) ⌝ }
 {
@@ -71,7 +71,7 @@ pub(crate) fn status_of(payload: &[u8]) -> Status
     }
 }
 
-// Whether the control of a payload has none of the other bits, and where the mode is to be set, one that there is.
+// Whether a payload's control has only 0 in the bits that have no meaning and, where the mode is to be set, one that there is.
 pub(crate) fn control_allowed(payload: &[u8]) -> bool
     ensures { λ r. ⌜ r ≡ controlAllowed (drop 1 (now (payload .entry))) ⌝ }
 {

@@ -248,7 +248,7 @@ fn read_announcement(payload: &[u8]) -> Reading
     )
 }
 
-// Data asked for: a check code of a counted length, and the size of a piece behind it.
+// The box is ready for data: a check code of a counted length, and the size of a piece behind it.
 fn read_ready(payload: &[u8]) -> Reading
     ensures { λ r. ⌜ readingRowOf r ≡ readAs kind.Ready 0x1B (now (payload .entry)) ⌝ }
 {

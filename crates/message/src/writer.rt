@@ -317,7 +317,7 @@ fn write_announcement(size: u32, code: &[u8], number: u8, flags: u16, out: &mut 
     passed_on(frame::write_parts(0x19, number, flags, &size_bytes, &count_bytes, code, out))
 }
 
-// Data asked for, with its check code and the size of a piece.
+// The box is ready for data, with its check code and the size of a piece.
 fn write_ready(piece: u16, code: &[u8], number: u8, flags: u16, out: &mut [u8]) -> Sent
     ensures { λ r. ⌜ outcome (sentRowOf r) (now (out .exit)) ≡ sendOf (message.Ready piece) number flags (now (code .entry)) (now (out .entry)) ⌝ }
 {

@@ -1,4 +1,4 @@
--- `kind::kind_of` looks the command up: each arm is told some numbers, and under each of them stands the arm's line.
+-- `kind::kind_of` looks the command up: each arm is told some numbers, and under each of them stands the arm's kind.
 use Prim.Native.Nat.{ℕ, _+_, _≤_, _<_}
 use mathlib.Core.Path.{_≡_, refl}
 use mathlib.Core.List.{List, [], _∷_, map}

@@ -1,4 +1,4 @@
--- `kind::may_be_empty` says of each line whether no bytes have one of its sizes.
+-- `kind::may_be_empty` says of each kind whether no bytes have one of its sizes.
 use borrow.Author.Needs.{needs}
 use Rattle.message.specs.Commands.{among, fits, sizeFits}
 use Rattle.message.proofs.kind.may_be_empty.Statement.{statement}

@@ -19,7 +19,7 @@ listed c = rw (← c .before .before .kind-of .ensures) (sym (c .before .is-list
 abbrev start : tie.After-may-be-empty → tie.Start
 start c = c .before .before .before .before .before .before .before
 
--- with nothing lent, the size fits if the kind stands without payload
+-- with nothing lent, the size fits if the kind may be empty
 fits : (c : tie.After-may-be-empty) {t : Bool} → c .may-be-empty .result ≡ t → lentFits (message.Empty (start c .args .command)) (length (start c .args .lent .now)) ≡ t
 fits c e = rw (eq-eqb _ _ (c .before .if2 .left), ← c .before .before .before .before .kind-of .ensures) (sym (c .may-be-empty .ensures) ∙ e)
 
