@@ -97,7 +97,7 @@ pub record Decodes (m : Message) (lent : List ℕ) (command : ℕ) (p : List ℕ
 abbrev pub WrittenRead : Type 0
 WrittenRead = (m : Message) (lent : List ℕ) → Writable m lent → Decodes m lent (commandIn m) (payloadIn m lent)
 
--- ---- read-written: what is read is refused by none of 31, 32, 33 when written again, so both allow the same values
+-- ---- read-written: what is read is refused by none of 31, 32, 33 when written again; with written-read, both allow the same values
 
 -- the bytes of a payload that its message takes as they are
 abbrev pub lentOf : ℕ → List ℕ → List ℕ
@@ -120,7 +120,7 @@ abbrev pub ReadsWritten : Type 0
 ReadsWritten =
     (command : ℕ) (p : List ℕ) → ((i : ℕ) → getD p i 0 < 256) → (m : Message) → readOf command p ≡ row 0 (messageIn m) → ReadWritten command p m
 
--- ---- message-round-trip: after any calls of a reader, the calls that took what a message call wrote end in FRAME at its last byte, and the
+-- ---- message-round-trip: after any calls of a fresh reader, the calls that took what a message call wrote end in FRAME at its last byte, and the
 -- ---- body that the reader holds is read as the same message
 pub record MessageBack (start : ℕ) (m : Message) (number flags : ℕ) (lent : List ℕ) (log : List Entry) : Type 0 where
   pub frame : ReadBack start (commandIn m) number flags (payloadIn m lent) log

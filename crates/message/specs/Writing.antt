@@ -90,7 +90,7 @@ informationLent extra.Absent = 64
 informationLent (extra.Attributes attributes) = 64
 informationLent (extra.AttributesAndSecret attributes) = 96
 
--- whether so many lent bytes make one of the listed sizes
+-- whether a message is lent as many bytes as it takes; 65,535 is the most that a count in 2 bytes can say
 abbrev pub lentFits : Message → ℕ → Bool
 lentFits (message.Empty command) n = eqb n 0 && sizeFits (kindOf command) []
 lentFits (message.Information timeout more) n = eqb n (informationLent more)
@@ -107,7 +107,7 @@ lentFits (message.Announcement size) n = leb n 65535
 lentFits (message.Ready piece) n = leb n 65535
 lentFits (message.Piece index total) n = true
 
--- whether each value is allowed: those that reading allows, and a strength that has three bits
+-- whether each value is allowed: modes, ways and codes as in reading, and a strength that has three bits
 abbrev pub allowedIn : Message → Bool
 allowedIn (message.Empty command) = true
 allowedIn (message.Information timeout more) = true

@@ -39,7 +39,7 @@ fn due_for_action(payload: &[u8]) -> Due
     ensures { λ r. ⌜ r ≡ dueForAction (now (payload .entry)) ⌝ }
 {
     if byte_at(payload, 0) == 1 {
-        return Due::Acknowledge { command: 4 };
+        return Due::Acknowledge { command: 0x04 };
     }
     Due::AskStatus
 }
