@@ -15,14 +15,14 @@ use Rattle.frame.specs.declared.writer.Written.{Written}
 use Rattle.frame.specs.declared.writer.Written.the-variants as written
 
 -- what can be read back is told apart
-told-apart : {A : Type 0} (f : A → Row) (g : Row → A) → ((a : A) → g (f a) ≡ a) → (a b : A) → f a ≡ f b → a ≡ b
+pub told-apart : {A B : Type 0} (f : A → B) (g : B → A) → ((a : A) → g (f a) ≡ a) → (a b : A) → f a ≡ f b → a ≡ b
 told-apart f g back a b e = sym (back a) ∙ ap g e ∙ back b
 
 -- what stands in a line under its number, or else
-abbrev under : {A : Type 0} → Row → ℕ → A → A → A
+abbrev pub under : {A : Type 0} → Row → ℕ → A → A → A
 under r n a other = cond (eqb (r .number) n) a other
 
-abbrev value : Row → ℕ → ℕ
+abbrev pub value : Row → ℕ → ℕ
 value r i = getD (r .values) i 0
 
 abbrev answerFrom : Row → Answer

@@ -6,6 +6,7 @@ use mathlib.Core.List.{List, [], _∷_}
 use lib.ListN.{getD, drop}
 use lib.Dec.{eqb}
 use Rattle.frame.specs.Table.{Row}
+use Rattle.frame.proofs.Rows.{told-apart}
 use Rattle.message.specs.Numbers.{num}
 use Rattle.message.specs.Counter.{statusIn, controlIn}
 use Rattle.message.specs.Table.{networkIn, unixIn, timeIn, messageIn, readingRowOf, sentRowOf, replyRowOf}
@@ -26,10 +27,6 @@ use Rattle.message.specs.declared.writer.Sent.{Sent}
 use Rattle.message.specs.declared.writer.Sent.the-variants as sent
 use Rattle.message.specs.declared.replies.Reply.{Reply}
 use Rattle.message.specs.declared.replies.Reply.the-variants as reply
-
--- what can be read back is told apart
-told-apart : {A B : Type 0} (f : A → B) (g : B → A) → ((a : A) → g (f a) ≡ a) → (a b : A) → f a ≡ f b → a ≡ b
-told-apart f g back a b e = sym (back a) ∙ ap g e ∙ back b
 
 -- ---- the values
 
