@@ -1,0 +1,12 @@
+-- The laws, up to the claims of specs/Claims.antt.
+pub mod Guards
+pub mod Rows
+pub mod Sent
+pub mod Times
+pub mod Numbers
+pub mod Moves
+pub mod Waits
+pub mod History
+pub mod Found
+pub mod Refusals
+pub mod Examples

@@ -1,0 +1,31 @@
+-- The numbers in order: the first one, and the one after the k-th. Assumes nothing.
+use Prim.Native.Nat.{ℕ, suc, _+_, _-_, _%_, _≤_, _<_}
+use mathlib.Core.Path.{_≡_, ap}
+use native.Mathlib.Nat.{suc-mod, mod-lt, mod-self, add-mod-right, mod-eq-of-lt, zero-mod, add-zero}
+use native.Mathlib.Numerals.{add-one}
+use native.Mathlib.Omega.{arith}
+use borrow.Author.Tests.{eqb-true, eqb-false}
+use lib.Dec.{eqb}
+use Rattle.frame.proofs.Cases.{by-test}
+use Rattle.link.specs.Sending.{numberAt, followingOf}
+use Rattle.link.specs.Claims.{NumbersRunFrom}
+
+-- the first number is the 0-th
+pub number-first : (first : ℕ) → numberAt first 0 ≡ first
+number-first first = rw (zero-mod, add-zero)
+
+pub numbers-run : NumbersRunFrom
+numbers-run first h =
+    record {
+      rises = λ k small. let l : k < 256 - first = omega arith in rw (mod-eq-of-lt l);
+      again = λ k. ap (λ n. first + n) (add-mod-right k (256 - first));
+    }
+
+-- the number after the k-th is the next, over 255 too
+pub number-next : (first k : ℕ) → first ≤ 255 → followingOf first (numberAt first k) ≡ numberAt first (k + 1)
+number-next first k h =
+    let m : ℕ = 256 - first in
+    let small : k % m < m = mod-lt k (omega arith) in
+    rw (add-one k, suc-mod) (by-test (λ (n : ℕ). n ≡ first + suc (k % m) % m) (eqb (numberAt first k) 255)
+    (λ e. let l : suc (k % m) ≡ m = omega (arith, eqb-true) in rw (l, mod-self) (omega arith))
+    (λ e. let l : suc (k % m) < m = omega (arith, eqb-false) in rw (mod-eq-of-lt l) (omega arith)))

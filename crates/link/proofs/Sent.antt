@@ -1,0 +1,42 @@
+-- What may wait, what only the box sends, and what the module answers: each list looked up in the tables of the messages. Assumes nothing.
+use Prim.Native.Nat.{_+_}
+use mathlib.Core.Path.{_≡_, refl, sym}
+use mathlib.Core.Bool.{Bool, true, false, _&&_, _||_}
+use Rattle.message.specs.Commands.{among, boxCommands, kindIn, kindOf, isListed, fromBox}
+use Rattle.message.specs.Answers.{dueFor}
+use Rattle.message.specs.declared.replies.Due.the-variants.{Nothing}
+use Rattle.message.proofs.Lines.{agree}
+use Rattle.link.specs.Sending.{waitCommands, mayWait}
+use Rattle.link.specs.Claims.{answersModule, BoxCommands, ModuleAnswers}
+
+-- a test that is passed where one of two is, and only there
+joined : (a b d : Bool) → (a ≡ true → (b || d) ≡ true) → (b ≡ true → a ≡ true) → (d ≡ true → a ≡ true) → a ≡ (b || d)
+joined true b d f g h = sym (f refl)
+joined false true d f g h = g refl
+joined false false true f g h = h refl
+joined false false false f g h = refl
+
+-- two tests of which the first rules out the second
+apart : (b d : Bool) → (b ≡ true → d ≡ false) → (b && d) ≡ false
+apart true d f = f refl
+apart false d f = refl
+
+pub box-commands : BoxCommands
+unfolding among
+box-commands command =
+    record {
+      either = joined (fromBox command) (mayWait command) (among command answersModule)
+          (agree (λ c. mayWait c || among c answersModule) (λ _. true) boxCommands command refl)
+          (agree fromBox (λ _. true) waitCommands command refl)
+          (agree fromBox (λ _. true) answersModule command refl);
+      not-both = apart (mayWait command) _ (agree (λ c. among c answersModule) (λ _. false) waitCommands command refl);
+    }
+
+pub module-answers : ModuleAnswers
+unfolding among kindIn
+module-answers command h =
+    record {
+      listed = agree (λ c. isListed (kindOf (c + 1))) (λ _. true) waitCommands command refl h;
+      not-box = agree (λ c. fromBox (c + 1)) (λ _. false) waitCommands command refl h;
+      no-answer = λ payload. agree (λ c. dueFor (c + 1) payload) (λ _. Nothing) waitCommands command refl h;
+    }

@@ -1,0 +1,8 @@
+-- `state::following` counts on, and begins again behind 255.
+use borrow.Author.Needs.{needs}
+use Rattle.frame.proofs.Steps.{tests}
+use Rattle.link.proofs.state.following.Statement.{statement}
+use Rattle.link.proofs.state.following.Tie as tie
+
+pub following-spec : {M : Type 1} → statement M
+following-spec = tie.close (tie.spec (λ c. search tests) (search needs) λ c. search tests)

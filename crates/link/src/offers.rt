@@ -1,0 +1,68 @@
+// A command offered for sending.
+use super::state::Link;
+use super::state::Wait;
+use super::state::following;
+use super::state::in_range;
+use super::state::may_wait;
+ghost use mathlib.Core.Path.{_≡_};
+ghost use Rattle.link.specs.Table.{acceptanceRowOf};
+ghost use Rattle.link.specs.Calls.{reply, acceptOf, offerOf, offeredOf};
+
+// What an offer is answered.
+pub enum Acceptance {
+    // The command waits, under this number.
+    Accepted { number: u8 },
+    // STATE 17: a field of the link is out of its range.
+    State,
+    // UNSENT 42: not a command that may wait.
+    Unsent,
+    // BUSY 41: a command waits already.
+    Busy,
+}
+
+pub struct Offered {
+    pub answer: Acceptance,
+    pub link: Link,
+}
+
+// A refusal leaves the link as it was, and uses no number.
+fn refused(answer: Acceptance, link: Link) -> Offered
+    ensures { λ r. ⌜ offeredOf r ≡ reply (acceptanceRowOf answer) link ⌝ }
+{
+    Offered { answer, link }
+}
+
+// An idle link takes the command under its next number.
+fn accept(next: u8, command: u8, clock: u32) -> Offered
+    ensures { λ r. ⌜ offeredOf r ≡ acceptOf 1 next command clock ⌝ }
+{
+    Offered {
+        answer: Acceptance::Accepted { number: next },
+        link: Link {
+            next: following(next),
+            wait: Wait::Waiting {
+                command,
+                number: next,
+                sent: clock,
+                repeats: 0,
+            },
+        },
+    }
+}
+
+// Offers a command at a reading of the clock. Where it is accepted, the caller sends it under the number returned, and keeps the payload.
+pub fn offer(link: Link, command: u8, clock: u32) -> Offered
+    ensures { λ r. ⌜ offeredOf r ≡ offerOf 1 3 link command clock ⌝ }
+{
+    if !in_range(link) {
+        return refused(Acceptance::State, link);
+    }
+    if !may_wait(command) {
+        return refused(Acceptance::Unsent, link);
+    }
+    let wait = link.wait;
+    match wait {
+        Wait::Idle => accept(link.next, command, clock),
+        Wait::Waiting { .. } => refused(Acceptance::Busy, link),
+    }
+}

@@ -1,0 +1,92 @@
+// The link record: the next sequence number, and the command that waits.
+use super::FIRST_NUMBER;
+use super::MAX_REPEATS;
+ghost use mathlib.Core.Path.{_≡_};
+ghost use Rattle.link.specs.Sending.{mayWait, followingOf};
+ghost use Rattle.link.specs.Calls.{freshOf, inRange, idleOf};
+
+// A link, for a box's life.
+pub struct Link {
+    pub next: u8,
+    pub wait: Wait,
+}
+
+// The command that waits for its answer, with its number, the clock at its last sending and its repeats so far.
+pub enum Wait {
+    Idle,
+    Waiting {
+        command: u8,
+        number: u8,
+        sent: u32,
+        repeats: u8,
+    },
+}
+
+impl Link {
+    // A fresh link.
+    pub fn new() -> Self
+        ensures { λ r. ⌜ r ≡ freshOf 1 ⌝ }
+    {
+        Link {
+            next: FIRST_NUMBER,
+            wait: Wait::Idle,
+        }
+    }
+}
+
+// Whether a command is one that the box sends and then waits for.
+pub(crate) fn may_wait(command: u8) -> bool
+    ensures { λ r. ⌜ r ≡ mayWait command ⌝ }
+{
+    match command {
+        0x05 | 0x09 | 0x0B | 0x13 | 0x15 | 0x17 | 0x1B | 0x27 | 0x29 => true,
+        _ => false,
+    }
+}
+
+// The sequence number after another.
+pub(crate) fn following(number: u8) -> u8
+    ensures { λ r. ⌜ r ≡ followingOf 1 number ⌝ }
+{
+    if number == 255 {
+        return FIRST_NUMBER;
+    }
+    number + 1
+}
+
+// The link with nothing waiting.
+pub(crate) fn idle(link: Link) -> Link
+    ensures { λ r. ⌜ r ≡ idleOf link ⌝ }
+{
+    Link {
+        next: link.next,
+        wait: Wait::Idle,
+    }
+}
+
+// Whether each field is in its range.
+pub(crate) fn in_range(link: Link) -> bool
+    ensures { λ r. ⌜ r ≡ inRange 1 3 link ⌝ }
+{
+    if link.next < FIRST_NUMBER {
+        return false;
+    }
+    let wait = link.wait;
+    match wait {
+        Wait::Idle => true,
+        Wait::Waiting {
+            command,
+            number,
+            sent: _,
+            repeats,
+        } => {
+            if number < FIRST_NUMBER {
+                return false;
+            }
+            if MAX_REPEATS < repeats {
+                return false;
+            }
+            may_wait(command)
+        }
+    }
+}

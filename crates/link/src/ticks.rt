@@ -1,0 +1,93 @@
+// A tick of the clock: by value, and in the record's own place.
+use super::MAX_REPEATS;
+use super::clock::is_due;
+use super::state::Link;
+use super::state::Wait;
+use super::state::idle;
+use super::state::in_range;
+ghost use mathlib.Core.Path.{_≡_};
+ghost use Rattle.link.specs.Table.{retryRowOf};
+ghost use Rattle.link.specs.Calls.{reply, retryOf, tickOf, tickedOf};
+
+// What a tick is answered.
+pub enum Retry {
+    // Nothing to do.
+    Nothing,
+    // Send the command again, under the same number.
+    Again { command: u8, number: u8 },
+    // The command was sent again as often as may be, and waits no longer.
+    GivenUp { command: u8, number: u8 },
+    // STATE 17: a field of the link is out of its range.
+    State,
+}
+
+pub struct Ticked {
+    pub answer: Retry,
+    pub link: Link,
+}
+
+// A due tick of a command that was sent again so many times.
+fn due(link: Link, command: u8, number: u8, repeats: u8, clock: u32) -> Ticked
+    ensures { λ r. ⌜ tickedOf r ≡ retryOf 3 link command number repeats clock ⌝ }
+{
+    if repeats < MAX_REPEATS {
+        return Ticked {
+            answer: Retry::Again { command, number },
+            link: Link {
+                next: link.next,
+                wait: Wait::Waiting {
+                    command,
+                    number,
+                    sent: clock,
+                    repeats: repeats + 1,
+                },
+            },
+        };
+    }
+    Ticked {
+        answer: Retry::GivenUp { command, number },
+        link: idle(link),
+    }
+}
+
+// A tick of a link that is given and returned by value; a box that holds its link in one place calls `tick`.
+pub fn tick_by_value(link: Link, clock: u32) -> Ticked
+    ensures { λ r. ⌜ tickedOf r ≡ tickOf 1 3 link clock ⌝ }
+{
+    if !in_range(link) {
+        return Ticked {
+            answer: Retry::State,
+            link,
+        };
+    }
+    let wait = link.wait;
+    match wait {
+        Wait::Idle => Ticked {
+            answer: Retry::Nothing,
+            link,
+        },
+        Wait::Waiting {
+            command,
+            number,
+            sent,
+            repeats,
+        } => {
+            if is_due(clock, sent) {
+                return due(link, command, number, repeats, clock);
+            }
+            Ticked {
+                answer: Retry::Nothing,
+                link,
+            }
+        }
+    }
+}
+
+// A tick that alters the link in its own place, for a box that holds one link for its life.
+pub fn tick(link: &mut Link, clock: u32) -> Retry
+    ensures { λ r. ⌜ reply (retryRowOf r) (now (link .exit)) ≡ tickOf 1 3 (now (link .entry)) clock ⌝ }
+{
+    let ticked = tick_by_value(*link, clock);
+    *link = ticked.link;
+    ticked.answer
+}
