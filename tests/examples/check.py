@@ -4,22 +4,17 @@
 check.py FILE [SEED [COUNT]]: COUNT random streams in all, over the families below. The last line is 'N passed, M failed'.
 """
 import itertools
-import random
+import pathlib
 import sys
 
 import expected
 from expected import FF, LIMIT, STUFFED, Reader, stuff, wire
 
-passed = failed = 0
+sys.path.insert(0, str(pathlib.Path(__file__).resolve().parent.parent / "shared"))
+from checks import Checks, seed_and_count, shares
 
-
-def test(what, holds, more=""):
-    global passed, failed
-    if holds:
-        passed += 1
-    else:
-        failed += 1
-        print(f"examples: {what}{more and ': ' + more}")
+checks = Checks("examples")
+test = checks.test
 
 
 # The program's text, vector by vector.
@@ -41,7 +36,7 @@ def compare_text(path):
             text = file.read()
     except (OSError, UnicodeDecodeError) as error:
         text = ""
-        print(f"examples: {error}")
+        checks.say(error)
     theirs = in_blocks(text)
     for i, block in enumerate(expected.blocks()):
         other = theirs[i] if i < len(theirs) else ["missing"]
@@ -251,11 +246,10 @@ FAMILIES = [
 
 
 def families(seed, count):
-    print(f"examples: seed {seed}, {count} streams")
-    for name, stream, cuts, share in FAMILIES:
-        rand = random.Random(f"{seed} {name}")
+    checks.say_seed(seed, count, "stream")
+    for name, (stream, cuts), rand, share in shares(FAMILIES, seed, count):
         found, wrong = 0, ""
-        for _ in range(max(1, count * share // 1000)):
+        for _ in range(share):
             data = stream(rand)
             want = frames(data)
             found += len(want)
@@ -269,14 +263,12 @@ def families(seed, count):
 
 
 def main():
-    path = sys.argv[1]
-    seed = int(sys.argv[2]) if len(sys.argv) > 2 else 1
-    count = int(sys.argv[3]) if len(sys.argv) > 3 else 3000
+    path, *given = sys.argv[1:]
+    seed, count = seed_and_count(given, 3000)
     compare_text(path)
     stated()
     families(seed, count)
-    print(f"{passed} passed, {failed} failed")
-    return 1 if failed else 0
+    return checks.end()
 
 
 if __name__ == "__main__":

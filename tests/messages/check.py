@@ -6,24 +6,17 @@ the families below, at least one of each. The last line is 'N passed, M failed'.
 """
 import collections
 import itertools
-import os
-import random
-import subprocess
+import pathlib
 import sys
 
 import model
 from model import FF, STUFFED, wire_form
 
-passed = failed = 0
+sys.path.insert(0, str(pathlib.Path(__file__).resolve().parent.parent / "shared"))
+from checks import Checks, Program, seed_and_count
 
-
-def test(what, holds, more=""):
-    global passed, failed
-    if holds:
-        passed += 1
-    else:
-        failed += 1
-        print(f"messages: {what}{more and ': ' + more}")
+checks = Checks("messages")
+test = checks.test
 
 
 # A text against the model's.
@@ -52,19 +45,6 @@ def difference(stream, found, expected=None):
             return f"{where}, line {i}\n  {shown}\n  should be: {line}\n  is:        {said}"
         at, theirs = end, theirs[len(lines) :]
     return f"{len(theirs)} lines behind the tail"
-
-
-def compare_files(stdin, stdout):
-    try:
-        with open(stdin, "rb") as file:
-            stream = file.read()
-        with open(stdout, "rb") as file:
-            found = file.read()
-    except OSError as error:
-        test("the stored text", False, str(error))
-        return
-    wrong = difference(stream, found)
-    test("the stored text, byte for byte", not wrong, wrong)
 
 
 # The answers that the paper itself names: a name, the stream and its lines, all written by hand from the paper.
@@ -587,49 +567,27 @@ def stream_of(rand, family):
 PATIENCE = 10  # seconds
 
 
-class Dead(Exception):
-    """The program cannot be run or does not end."""
-
-
-def printed(program, stream):
-    """What the program prints, and what is wrong with its end or ''."""
-    try:
-        done = subprocess.run([program], input=stream, capture_output=True, timeout=PATIENCE)
-    except OSError as error:
-        raise Dead(error) from error
-    except subprocess.TimeoutExpired as error:
-        raise Dead(f"it does not end in {PATIENCE} seconds") from error
-    return done.stdout, f"it ends with status {done.returncode}" if done.returncode else ""
-
-
 def run_stated(program):
     for name, stream, *lines in STATED:
         expected = "".join(line + "\n" for line in lines) + STATED_TAIL
-        found, wrong = printed(program, bytes.fromhex(stream))
+        found, wrong = program.printed(bytes.fromhex(stream))
         test(f"the program's answer to {name}", found == expected.encode("ascii") and not wrong, wrong or f"stream {stream}")
 
 
 def run_families(program, seed, count):
-    shares = [(name, family, max(1, count * share // 1000)) for name, family, share in FAMILIES]
-    print(f"messages: seed {seed}, {sum(share for _, _, share in shares)} streams")
-    seen, shown = collections.Counter(), False
-    for name, family, share in shares:
-        rand = random.Random(f"{seed} {name}")
-        for i in range(share):
-            stream = stream_of(rand, family)
-            expected = model.text(stream)
-            for line in expected.splitlines():
-                word, _, rest = line.partition(" ")
-                if word in ("frame", "sum"):
-                    seen[word] += 1
-                elif word == "read":
-                    seen["read", *rest.split(" ")[:2]] += 1
-            found, ended = printed(program, stream)
-            wrong = ", ".join(filter(None, [ended, difference(stream, found, expected)]))
-            # The first difference is shown whole, of the others the place.
-            test(f"seed {seed}, {name}, stream {i}", not wrong, wrong.partition("\n")[0] if shown else wrong)
-            shown = shown or bool(wrong)
-    print(f"messages: {seen['frame']} frames and {seen['sum']} wrong sums were tried")
+    seen = collections.Counter()
+    for place, rand, family in checks.inputs(FAMILIES, seed, count, "stream"):
+        stream = stream_of(rand, family)
+        expected = model.text(stream)
+        for line in expected.splitlines():
+            word, _, rest = line.partition(" ")
+            if word in ("frame", "sum"):
+                seen[word] += 1
+            elif word == "read":
+                seen["read", *rest.split(" ")[:2]] += 1
+        _, wrong = program.compared(stream, expected)
+        checks.test_random(place, wrong)
+    checks.say(f"{seen['frame']} frames and {seen['sum']} wrong sums were tried")
     # Streams without them would show nothing.
     for row in ("31", "32", "33"):
         test(f"that a message refused by {row} was tried", seen["read", row] > 0)
@@ -639,22 +597,15 @@ def run_families(program, seed, count):
 
 
 def main():
-    program, stdin, stdout = sys.argv[1:4]
-    seed = int(sys.argv[4]) if len(sys.argv) > 4 else 1
-    count = int(sys.argv[5]) if len(sys.argv) > 5 else 400
-    compare_files(stdin, stdout)
+    path, stdin, stdout, *given = sys.argv[1:]
+    seed, count = seed_and_count(given, 400)
+    checks.compare_files(stdin, stdout, difference)
     stated()
-    if os.path.isfile(program) and os.access(program, os.X_OK):
-        program = os.path.abspath(program)
-        try:
-            run_stated(program)
-            run_families(program, seed, count)
-        except Dead as error:
-            test("the program", False, str(error))
-    else:
-        test("the program", False, f"there is none at {program}")
-    print(f"{passed} passed, {failed} failed")
-    return 1 if failed else 0
+    with checks.unless_dead():
+        program = Program(path, PATIENCE, difference)
+        run_stated(program)
+        run_families(program, seed, count)
+    return checks.end()
 
 
 if __name__ == "__main__":
