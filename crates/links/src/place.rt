@@ -1,0 +1,13 @@
+// A tick in place: the link lies in a local, and the call alters it there.
+use link::Link;
+use link::Ticked;
+ghost use mathlib.Core.Path.{_≡_};
+ghost use Rattle.link.specs.Calls.{tickOf, tickedOf};
+
+pub(crate) fn tick_in_place(link: Link, clock: u32) -> Ticked
+    ensures { λ r. ⌜ tickedOf r ≡ tickOf 1 3 link clock ⌝ }
+{
+    let mut held = link;
+    let answer = link::tick(&mut held, clock);
+    Ticked { answer, link: held }
+}
