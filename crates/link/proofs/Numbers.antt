@@ -17,7 +17,7 @@ number-first first = rw (zero-mod, add-zero)
 pub numbers-run : NumbersRunFrom
 numbers-run first h =
     record {
-      rises = λ k small. let l : k < 256 - first = omega arith in rw (mod-eq-of-lt l);
+      rises = λ k small. ap (λ (n : ℕ). first + n) (mod-eq-of-lt (omega arith));
       again = λ k. ap (λ n. first + n) (add-mod-right k (256 - first));
     }
 

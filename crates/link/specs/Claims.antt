@@ -69,7 +69,7 @@ ElapsedTimes = (clock since : ℕ) → clock < 2 ^ 32 → since < 2 ^ 32 → Ela
 
 -- ---- due-ahead: a clock that went on by less than 2^32 is due just from 200 to below 2^31, over a wrap too
 abbrev pub DueAhead : Type 0
-DueAhead = (sent by : ℕ) → sent < 2 ^ 32 → by < 2 ^ 32 → isDue ((sent + by) % 2 ^ 32) sent ≡ leb 200 by && ltb by (2 ^ 31)
+DueAhead = (sent by : ℕ) → sent < 2 ^ 32 → by < 2 ^ 32 → isDue ((sent + by) % 2 ^ 32) sent ≡ (leb 200 by && ltb by (2 ^ 31))
 
 -- ---- never-behind: "so a clock up to 2^31 behind the last sending is never due"
 abbrev pub NeverBehind : Type 0
