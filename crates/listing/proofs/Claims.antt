@@ -1,0 +1,77 @@
+-- The claims of specs/Claims.antt but that of decimal text. Assumes nothing.
+use Prim.Native.Nat.{ℕ, zero, suc, _+_, _*_, _^_, _≤_, _<_}
+use mathlib.Core.Path.{_≡_, refl}
+use Prim.Native.String.{String}
+use mathlib.Core.Bool.{cond}
+use mathlib.Core.List.{List, [], _∷_, _++_}
+use native.Mathlib.Omega.{arith}
+use borrow.Author.Tests.{ltb-false}
+use lib.ListN.{length, getD, length-append}
+use lib.Dec.{ltb, eqb}
+use Rattle.frame.specs.Table.{Row, row, countOf}
+use Rattle.frame.specs.Calls.{Write, outcome, onto, runOf, zeros}
+use Rattle.frame.specs.Logs.{logOf, offer}
+use Rattle.frame.proofs.Cases.{by-test}
+use Rattle.listing.specs.Decimal.{decimalOf, digitsIn, columnsOf}
+use Rattle.listing.specs.Lines.{textOf, ascii, placesOf, partsOf, refusedText, lineOf, lastOf}
+use Rattle.listing.specs.Calls.{placed}
+use Rattle.listing.specs.Claims.{Within, Below, Longest, PaperListing, textsOf}
+use Rattle.listing.proofs.Digits.{count-most}
+
+pub within : Within
+within text out =
+    by-test (λ (w : Write). countOf (w .row) ≤ length out) (ltb (length out) (length text)) (λ e. omega arith) (λ e. ltb-false (length out) (length text) e)
+
+-- ---- longest
+
+-- each column has at most 21 bytes
+columns-most : (l : List ℕ) → Below (2 ^ 64) l → length (columnsOf l) ≤ 21 * length l
+unfolding columnsOf
+columns-most [] h = omega arith
+columns-most (n ∷ l) h =
+    let digits = count-most 19 n (omega arith) in
+    rw length-append (omega (arith, columns-most l (h .1)))
+
+-- a line is at most so long
+text-most : (word numbers rest : List ℕ) → Below (2 ^ 64) numbers → length (textOf word numbers rest) ≤ length word + 21 * length numbers + length rest
+text-most word numbers rest h =
+    let columns = columns-most numbers h in
+    simp length-append (omega arith)
+
+-- a value of a row, where it is there
+value-below : (l : List ℕ) (i : ℕ) → Below (2 ^ 64) l → getD l i 0 < 2 ^ 64
+value-below [] i h = omega arith
+value-below (n ∷ l) zero h = h .0
+value-below (n ∷ l) (suc i) h = value-below l i (h .1)
+
+-- short enough
+abbrev Short : List ℕ → Type 0
+Short t = length t ≤ 132
+
+line-short : (r : Row) (body : List ℕ) → Below (2 ^ 64) (placesOf r ++ partsOf body) → Short (lineOf r body)
+line-short r body h =
+    pick Short 1 (omega (arith, text-most (ascii "frame") (placesOf r ++ partsOf body) (ascii "\n") h))
+    (pick Short 11 (omega (arith, refused "short"))
+    (pick Short 12 (omega (arith, refused "long"))
+    (pick Short 13 (omega (arith, refused "stuff"))
+    (pick Short 14 (omega (arith, refused "cut"))
+    (pick Short 15 (omega (arith, refused "sum")) (omega arith))))))
+  where
+    pick : (P : List ℕ → Type 0) (n : ℕ) {x y : List ℕ} → P x → P y → P (cond (eqb (r .number) n) x y)
+    pick P n f g = by-test P (eqb (r .number) n) (λ e. f) (λ e. g)
+
+    refused : (name : String) → length (refusedText name r) ≤ length (ascii name) + 42 + 9
+    refused name = text-most (ascii name) (placesOf r) (ascii " - - - -\n") (h .0, (h .1 .0, tt))
+
+last-short : (r : Row) → Below (2 ^ 64) (r .values) → Short (lastOf r)
+last-short r h =
+    by-test Short (eqb (r .number) 2) (λ e. omega (arith, text-most (ascii "clean") (getD (r .values) 0 0 ∷ []) (ascii "\n") (value-below (r .values) 0 h, tt)))
+    (λ e. by-test Short (eqb (r .number) 16)
+    (λ f. omega (arith, text-most (ascii "open") (getD (r .values) 1 0 ∷ []) (ascii "\n") (value-below (r .values) 1 h, tt))) (λ f. omega arith))
+
+pub longest : Longest
+longest = record { lines = line-short; lasts = last-short; heading = omega arith }
+
+pub paper-listing : PaperListing
+unfolding logOf offer runOf zeros textsOf columnsOf decimalOf digitsIn
+paper-listing = refl

@@ -1,0 +1,5 @@
+-- The laws of digits, columns and stores.
+pub mod Digits
+pub mod Puts
+pub mod Values
+pub mod Claims

@@ -1,0 +1,97 @@
+-- Laws of stores: what is put byte by byte, from the front or from the back.
+use Prim.Native.Nat.{ℕ, suc, _+_, _/_, _%_, _≤_, _<_}
+use mathlib.Core.Path.{_≡_, refl, _∙_}
+use mathlib.Core.List.{List, [], _∷_, _++_}
+use native.Mathlib.Nat.{add-zero}
+use native.Mathlib.Numerals.{add-one}
+use native.Mathlib.Omega.{arith}
+use lib.ListN.{length, getD, drop, set, length-append, drop-of-length-le}
+use lib.Seq.{drop-cons, sets, set-comm}
+use borrow.Author.Tests.{lt-ltb, le-ltb}
+use Rattle.frame.specs.Table.{row}
+use Rattle.frame.specs.Calls.{outcome}
+use Rattle.frame.proofs.Writing.{sets-append, sets-front}
+use Rattle.listing.specs.Decimal.{digit, decimalOf, columnsOf}
+use Rattle.listing.specs.Calls.{placed}
+use Rattle.listing.proofs.Digits.{decimal-last, decimal-more, count-last, count-more}
+
+-- ---- from the back
+
+-- a store behind a run of stores may come before it
+set-behind : (vs l : List ℕ) (i j v : ℕ) → i + length vs ≤ j → sets (set l j v) i vs ≡ set (sets l i vs) j v
+set-behind [] l i j v h = refl
+set-behind (a ∷ vs) l i j v h =
+    rw (set-comm l j i v a (λ e. omega arith)) (set-behind vs (set l i a) (suc i) j v (omega arith))
+
+-- a last byte stored first
+pub sets-last : (vs l : List ℕ) (i v : ℕ) → sets (set l (i + length vs) v) i vs ≡ sets l i (vs ++ v ∷ [])
+sets-last vs l i v = set-behind vs l i (i + length vs) v (omega arith) ∙ rw sets-append
+
+-- the digits of a number: the last one stored, and those of a tenth before it; or the only one
+module _ (out : List ℕ) (at n i : ℕ) (e : i + 1 ≡ at + length (decimalOf n)) where
+  pub digits-back : 9 < n → sets (set out i (digit (n % 10))) at (decimalOf (n / 10)) ≡ sets out at (decimalOf n)
+  digits-back h =
+      let place : i ≡ at + length (decimalOf (n / 10)) = omega (arith, count-more n h) in
+      rw (place, decimal-more n h) (sets-last (decimalOf (n / 10)) out at (digit (n % 10)))
+
+  pub digits-done : n ≤ 9 → set out i (digit n) ≡ sets out at (decimalOf n)
+  digits-done h =
+      let place : i ≡ at = omega (arith, count-last n h) in
+      rw (place, decimal-last n h)
+
+-- ---- one run of stores behind another
+
+-- what is put, and more behind it, is their join put
+pub put-join : (out xs ys : List ℕ) (at : ℕ) {a b : List ℕ} {p q : ℕ}
+    → (p ≡ at + length xs) × (a ≡ sets out at xs)
+    → (q ≡ p + length ys) × (b ≡ sets a p ys)
+    → (q ≡ at + length (xs ++ ys)) × (b ≡ sets out at (xs ++ ys))
+put-join out xs ys at e f = (rw length-append (omega arith), rw sets-append (cc))
+
+-- ---- a text at the front of an output
+
+module _ (text out : List ℕ) where
+  pub too-long : length out < length text → outcome (row 22 (0 ∷ [])) out ≡ placed text out
+  too-long h = rw (lt-ltb (length out) (length text) h)
+
+  pub fitting : length text ≤ length out → outcome (row 0 (length text ∷ [])) (sets out 0 text) ≡ placed text out
+  fitting h = rw (le-ltb (length out) (length text) h, sets-front text out h)
+
+pub nothing-put : (out : List ℕ) → outcome (row 0 (0 ∷ [])) out ≡ placed [] out
+nothing-put out = fitting [] out (omega arith)
+
+-- ---- from the front: bytes from the i-th on, put at their place behind at
+
+module _ (bytes out : List ℕ) (at : ℕ) where
+  pub put-first : sets out (at + 0) (drop 0 bytes) ≡ sets out at bytes
+  put-first = rw add-zero
+
+  pub put-next : (i : ℕ) → i < length bytes
+      → sets (set out (at + i) (getD bytes i 0)) (at + (i + 1)) (drop (i + 1) bytes) ≡ sets out (at + i) (drop i bytes)
+  put-next i h =
+      let e : at + suc i ≡ suc (at + i) = omega arith in
+      rw (add-one, e, drop-cons bytes i 0)
+
+  pub put-none : (i : ℕ) → length bytes ≤ i → sets out (at + i) (drop i bytes) ≡ out
+  put-none i h = rw (drop-of-length-le bytes h)
+
+-- ---- columns from the i-th on
+
+module _ (l : List ℕ) (i : ℕ) (h : i < length l) where
+  -- a space, a number, and the others
+  pub columns-left : columnsOf (drop i l) ≡ 32 ∷ (decimalOf (getD l i 0) ++ columnsOf (drop (i + 1) l))
+  unfolding columnsOf
+  columns-left = rw (add-one, drop-cons l i 0)
+
+  pub columns-count : length (columnsOf (drop i l)) ≡ 1 + length (decimalOf (getD l i 0)) + length (columnsOf (drop (i + 1) l))
+  columns-count = rw (columns-left, length-append) (omega arith)
+
+  -- what is put: the space, the number, and the others behind it
+  pub columns-put : (out : List ℕ) (next : ℕ)
+      → sets (sets (set out next 32) (next + 1) (decimalOf (getD l i 0))) (next + 1 + length (decimalOf (getD l i 0))) (columnsOf (drop (i + 1) l))
+          ≡ sets out next (columnsOf (drop i l))
+  columns-put out next = rw (columns-left, add-one next, sets-append)
+
+pub columns-none : (l : List ℕ) (i : ℕ) → length l ≤ i → columnsOf (drop i l) ≡ []
+unfolding columnsOf
+columns-none l i h = rw (drop-of-length-le l h)

@@ -1,0 +1,60 @@
+-- decimal-text: a number's text says the number, in digits alone, with no 0 before others. Assumes nothing.
+use Prim.Native.Nat.{ℕ, zero, suc, _+_, _*_, _-_, _/_, _%_, _≤_, _<_}
+use mathlib.Core.Path.{_≡_, _∙_}
+use mathlib.Core.List.{List, [], _∷_, _++_, List·Memᴰ, List·Memᴰ·append-cases, List·Memᴰ·eq-of-singleton}
+use mathlib.Core.Logic.{⊎-elim}
+use native.Mathlib.Nat.{div-add-mod', mod-lt}
+use native.Mathlib.Omega.{arith}
+use lib.ListN.{length, getD, length-append}
+use Rattle.listing.specs.Decimal.{digit, decimalOf}
+use Rattle.listing.specs.Claims.{valueFrom, IsDigit, DecimalText, DecimalTexts}
+use Rattle.listing.proofs.Digits.{by-size, tenth, decimal-last, decimal-more}
+
+-- a digit behind a text
+value-more : (n : ℕ) (ds : List ℕ) (d : ℕ) → valueFrom n (ds ++ digit d ∷ []) ≡ 10 * valueFrom n ds + d
+unfolding valueFrom
+value-more n [] d = omega arith
+value-more n (x ∷ ds) d = value-more (10 * n + (x - 48)) ds d
+
+-- the byte of a digit
+is-digit : (d b : ℕ) → d < 10 → List·Memᴰ b (digit d ∷ []) → IsDigit b
+is-digit d b h m = rw (List·Memᴰ·eq-of-singleton m) (record { from = omega arith; to = omega arith })
+
+-- one digit
+one : (n : ℕ) → n ≤ 9 → DecimalText n (digit n ∷ [])
+unfolding valueFrom
+one n h =
+    record {
+      value = omega arith;
+      digits = λ b m. is-digit n b (omega arith) m;
+      some = omega arith;
+      shortest = λ l. absurd (omega arith);
+    }
+
+-- the first digit of a tenth that is not 0 is not 0
+first : (t : List ℕ) (q : ℕ) → 1 ≤ q → DecimalText q t → (rest : List ℕ) → 49 ≤ getD (t ++ rest) 0 0
+unfolding valueFrom
+first [] q h t rest = absurd (let none = t .some in omega arith)
+first (d ∷ []) q h t rest = let value = t .value in omega arith
+first (d ∷ e ∷ ds) q h t rest = t .shortest (omega arith)
+
+-- a tenth's digits, and one more
+more : (n : ℕ) → 9 < n → (t : List ℕ) → DecimalText (n / 10) t → DecimalText n (t ++ digit (n % 10) ∷ [])
+more n h t front =
+    let last : n % 10 < 10 = mod-lt n (omega arith) in
+    record {
+      value = value-more 0 t (n % 10) ∙ rw (front .value) (omega (arith, div-add-mod' n 10));
+      digits = λ b m. ⊎-elim (front .digits b) (is-digit (n % 10) b last) (List·Memᴰ·append-cases t m);
+      some = rw length-append (omega arith);
+      shortest = λ l. first t (n / 10) (omega (arith, div-add-mod' n 10)) front (digit (n % 10) ∷ []);
+    }
+
+-- by as many steps as are enough
+texts : (k n : ℕ) → n < k → DecimalText n (decimalOf n)
+texts zero n h = absurd (omega arith)
+texts (suc k) n h =
+    by-size n _ (λ s. rw (decimal-last n s) (one n s))
+    (λ l. rw (decimal-more n l) (more n l (decimalOf (n / 10)) (texts k (n / 10) (tenth n k l h))))
+
+pub decimal-text : DecimalTexts
+decimal-text n = texts (suc n) n (omega arith)

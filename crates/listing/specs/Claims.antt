@@ -1,0 +1,81 @@
+-- What is proved beside the calls' equations. proofs/ has a theorem for each claim, of the name given here.
+use Prim.Native.Nat.{ℕ, _+_, _*_, _-_, _^_, _≤_, _<_}
+use mathlib.Core.Path.{_≡_}
+use mathlib.Core.List.{List, [], _∷_, _++_, List·Memᴰ}
+use lib.ListN.{length, getD}
+use Rattle.frame.specs.Table.{Row, row, rowOf, endRowOf, countOf}
+use Rattle.frame.specs.Calls.{freshOf}
+use Rattle.frame.specs.Logs.{Call, give, ask, Entry, logOf, offer}
+use Rattle.listing.specs.Decimal.{decimalOf}
+use Rattle.listing.specs.Lines.{ascii, headingText, placesOf, partsOf, lineOf, lastOf}
+use Rattle.listing.specs.Calls.{placed}
+
+-- ---- decimal-text: what a number's text is, apart from how it is made
+
+-- a text of digits, read from the left on
+unfoldable pub valueFrom : ℕ → List ℕ → ℕ
+valueFrom n [] = n
+valueFrom n (d ∷ ds) = valueFrom (10 * n + (d - 48)) ds
+
+-- each byte is an ASCII digit
+pub record IsDigit (d : ℕ) : Type 0 where
+  pub from : 48 ≤ d
+  pub to : d ≤ 57
+
+-- it says the number, in digits alone, and has no 0 before others
+pub record DecimalText (n : ℕ) (text : List ℕ) : Type 0 where
+  pub value : valueFrom 0 text ≡ n
+  pub digits : (d : ℕ) → List·Memᴰ d text → IsDigit d
+  pub some : 1 ≤ length text
+  pub shortest : 1 < length text → 49 ≤ getD text 0 0
+
+-- of every number
+abbrev pub DecimalTexts : Type 0
+DecimalTexts = (n : ℕ) → DecimalText n (decimalOf n)
+
+-- ---- within: no call counts more bytes than the output has
+abbrev pub Within : Type 0
+Within = (text out : List ℕ) → countOf (placed text out .row) ≤ length out
+
+-- ---- longest: of places below 2^64 and bytes of a body no line is longer than 132 bytes, so an output of so many has room for any
+
+-- each number of a list is below a bound
+abbrev pub Below : ℕ → List ℕ → Type 0
+Below m [] = Unit {0}
+Below m (n ∷ l) = (n < m) × Below m l
+
+-- the line of each answer, the last line and the heading
+pub record Longest : Type 0 where
+  pub lines : (r : Row) (body : List ℕ) → Below (2 ^ 64) (placesOf r ++ partsOf body) → length (lineOf r body) ≤ 132
+  pub lasts : (r : Row) → Below (2 ^ 64) (r .values) → length (lastOf r) ≤ 132
+  pub heading : length headingText ≤ 132
+
+-- ---- paper-listing: "Given FF, example 1, FF FF 00 05 07, example 3, it prints exactly"
+
+-- the text of a call: the line of what it was answered, or the last line
+abbrev pub textIn : Call → Entry → List ℕ
+textIn (give bytes) e = lineOf (e .row) (e .held)
+textIn ask e = lastOf (e .row)
+
+-- of a list of calls
+unfoldable pub textsOf : List Entry → List ℕ
+textsOf [] = []
+textsOf (e ∷ es) = textIn (e .call) e ++ textsOf es
+
+-- the listing of calls of a fresh reader
+abbrev pub listingOf : List Call → List ℕ
+listingOf calls = headingText ++ textsOf (logOf 1024 (freshOf 1024) calls)
+
+-- the stream of the example
+abbrev pub paperStream : List ℕ
+paperStream =
+    0xFF
+    ∷ 0xFF ∷ 0xFF ∷ 0x00 ∷ 0x05 ∷ 0x07 ∷ 0x01 ∷ 0x00 ∷ 0x00 ∷ 0x0D
+    ∷ 0xFF ∷ 0xFF ∷ 0x00 ∷ 0x05 ∷ 0x07
+    ∷ 0xFF ∷ 0xFF ∷ 0x00 ∷ 0x05 ∷ 0x07 ∷ 0xF3 ∷ 0x00 ∷ 0x00 ∷ 0xFF ∷ 0x55 ∷ []
+
+-- it is offered until it is taken, and then the end is asked
+abbrev pub PaperListing : Type 0
+PaperListing =
+    listingOf (offer 1024 3 (freshOf 1024) paperStream ++ ask ∷ [])
+    ≡ ascii "kind start end cmd sn flags payload\nframe 1 10 7 1 0 0\ncut 10 17 - - - -\nframe 15 25 7 243 0 0\nclean 25\n"

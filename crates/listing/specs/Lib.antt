@@ -1,0 +1,6 @@
+-- What a reader of this crate has to believe: a number as decimal text, the lines of the listing, the calls, then the claims.
+pub mod Decimal
+pub mod Lines
+pub mod Table
+pub mod Calls
+pub mod Claims

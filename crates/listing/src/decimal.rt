@@ -1,0 +1,36 @@
+// A number as decimal text.
+ghost use mathlib.Core.Path.{_≡_};
+ghost use Prim.Native.Nat.{_+_, _≤_};
+ghost use lib.ListN.{length};
+ghost use lib.Seq.{sets};
+ghost use Rattle.listing.specs.Decimal.{decimalOf};
+
+// How many digits a number has.
+pub(crate) fn width(n: u64) -> usize
+    ensures { λ r. ⌜ (r ≡ length (decimalOf n)) × (r ≤ 20) ⌝ }
+{
+    let mut rest = n;
+    let mut count: usize = 1;
+    while 9 < rest {
+        rest /= 10;
+        count += 1;
+    }
+    count
+}
+
+// A number's digits at a place of the output, from the last to the first; the place behind them.
+pub(crate) fn put_decimal(out: &mut [u8], at: usize, n: u64) -> usize
+    requires { ⌜ at + length (decimalOf n) ≤ length (now out) ⌝ }
+    ensures { λ r. ⌜ (r ≡ at + length (decimalOf n)) × (now (out .exit) ≡ sets (now (out .entry)) at (decimalOf n)) ⌝ }
+{
+    let end = at + width(n);
+    let mut rest = n;
+    let mut i = end - 1;
+    while 9 < rest {
+        out[i] = 48 + (rest % 10) as u8;
+        rest /= 10;
+        i -= 1;
+    }
+    out[i] = 48 + rest as u8;
+    end
+}
