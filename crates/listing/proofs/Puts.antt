@@ -89,7 +89,7 @@ module _ (l : List ℕ) (i : ℕ) (h : i < length l) where
   -- what is put: the space, the number, and the others behind it
   pub columns-put : (out : List ℕ) (next : ℕ)
       → sets (sets (set out next 32) (next + 1) (decimalOf (getD l i 0))) (next + 1 + length (decimalOf (getD l i 0))) (columnsOf (drop (i + 1) l))
-          ≡ sets out next (columnsOf (drop i l))
+      ≡ sets out next (columnsOf (drop i l))
   columns-put out next = rw (columns-left, add-one next, sets-append)
 
 pub columns-none : (l : List ℕ) (i : ℕ) → length l ≤ i → columnsOf (drop i l) ≡ []
