@@ -1,0 +1,67 @@
+/*
+ * A box that reports its status: the counter at volume 3, leaf 255, gathering and feeding, in a frame with number 2.
+ * It prints the frame's bytes in hex; a real box would send them over its serial line.
+ *
+ * Build it at the top of the repository:
+ *     rt staticlib firmware
+ *     gcc -std=c99 -Iinclude examples/box.c target/staticlib/libfirmware.a -o target/box
+ */
+#include <stdio.h>
+
+#include "trogonreed.h"
+
+enum { REPORT = 0x05, REPORT_STATUS = 0x04, STATUS_SIZE = 9 };
+enum { FEEDING = 1 << 0, GATHER = 1 << 2 };
+
+struct status {
+    uint8_t bits;
+    uint16_t volume;
+    uint32_t leaf;
+    uint8_t alarms;
+};
+
+/* A report's payload: its first byte, then the status; numbers are big-endian. */
+static void put_status(const struct status *status, uint8_t payload[STATUS_SIZE])
+{
+    payload[0] = REPORT_STATUS;
+    payload[1] = status->bits;
+    payload[2] = (uint8_t)(status->volume >> 8);
+    payload[3] = (uint8_t)status->volume;
+    payload[4] = (uint8_t)(status->leaf >> 24);
+    payload[5] = (uint8_t)(status->leaf >> 16);
+    payload[6] = (uint8_t)(status->leaf >> 8);
+    payload[7] = (uint8_t)status->leaf;
+    payload[8] = status->alarms;
+}
+
+static const char *refusal(uint32_t returned)
+{
+    switch (returned) {
+    case TROGONREED_REFUSED_PAYLOAD:
+        return "the payload is too long";
+    case TROGONREED_REFUSED_ROOM:
+        return "the frame does not fit into the output";
+    default:
+        return "unknown";
+    }
+}
+
+int main(void)
+{
+    const struct status status = {FEEDING | GATHER, 3, 255, 0};
+    const uint8_t number = 2;
+    uint8_t payload[STATUS_SIZE];
+    uint8_t frame[TROGONREED_MAX_FRAME];
+    uint32_t count, i;
+
+    put_status(&status, payload);
+    count = trogonreed_write_frame(REPORT, number, 0, payload, sizeof payload, frame, sizeof frame);
+    if (trogonreed_is_refused(count)) {
+        fprintf(stderr, "refused: %s\n", refusal(count));
+        return 1;
+    }
+    for (i = 0; i < count; i++)
+        printf("%s%02X", i == 0 ? "" : " ", frame[i]);
+    printf("\n");
+    return 0;
+}

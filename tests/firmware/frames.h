@@ -1,0 +1,31 @@
+/* What a call is given, and one call on fenced memory. */
+#ifndef FRAMES_H
+#define FRAMES_H
+
+#include "fenced.h"
+
+enum { MOST_PAYLOAD = 65536, MOST_OUT = 4096, UNTOUCHED = 0xAA };
+
+struct frame {
+    uint8_t command;
+    uint8_t number;
+    uint16_t flags;
+    const uint8_t *payload;
+    size_t payload_len;
+};
+
+/* The memory that calls are made on. */
+struct memory {
+    struct fenced payload;
+    struct fenced out;
+};
+
+struct memory memory_new(void);
+
+/* A call with `room` bytes of output, each UNTOUCHED before it, at one side of their memory. `*out` is where the output lies. */
+uint32_t call(struct memory memory, enum side side, const struct frame *frame, size_t room, uint8_t **out);
+
+/* The mode `random`: a line for each call. */
+int print_random(uint64_t seed, unsigned long count);
+
+#endif
