@@ -1,0 +1,100 @@
+//! The program `calls`: a script of single calls to the reader and the writer.
+
+use crate::reader::{Answer, Ending, Reader, Verdict};
+use crate::text;
+use crate::writer;
+use std::io::{self, Read, Write};
+
+/// Operations of a script; any other takes a fresh reader.
+pub const FEED: u8 = 1;
+pub const FINISH: u8 = 2;
+pub const SET: u8 = 3;
+pub const WRITE: u8 = 4;
+
+pub const MOST_DATA: usize = 4_096;
+pub const MOST_ROOM: usize = 2_100;
+/// Each output byte before the call, so that bytes left alone can be told from bytes written.
+pub const UNTOUCHED: u8 = 0xAA;
+
+/// Plays the script to its end, or to the first record that is too large or incomplete.
+pub fn play(input: &mut impl Read, output: &mut impl Write) -> io::Result<()> {
+    let mut reader = Reader::new();
+    let mut line = Vec::new();
+    while let Some((operation, data)) = record(input) {
+        match operation {
+            FEED => feed(&mut reader, &data, &mut line),
+            FINISH => finish(&reader, &mut line),
+            SET => {
+                reader = Reader::having_taken(number(&data, 0, 8));
+                line.extend_from_slice(b"set");
+            }
+            WRITE => write(&data, &mut line),
+            _ => {
+                reader = Reader::new();
+                line.extend_from_slice(b"fresh");
+            }
+        }
+        line.push(b'\n');
+        output.write_all(&line)?;
+        line.clear();
+    }
+    output.flush()
+}
+
+fn record(input: &mut impl Read) -> Option<(u8, Vec<u8>)> {
+    let mut head = [0; 3];
+    input.read_exact(&mut head).ok()?;
+    let [operation, high, low] = head;
+    let size = usize::from(u16::from_be_bytes([high, low]));
+    if size > MOST_DATA {
+        return None;
+    }
+    let mut data = vec![0; size];
+    input.read_exact(&mut data).ok()?;
+    Some((operation, data))
+}
+
+/// Big-endian, from a place on; missing bytes count as 0.
+fn number(data: &[u8], place: usize, size: usize) -> u64 {
+    let byte = |place: usize| u64::from(data.get(place).copied().unwrap_or(0));
+    (place..place + size).fold(0, |number, place| number << 8 | byte(place))
+}
+
+fn feed(reader: &mut Reader, data: &[u8], line: &mut Vec<u8>) {
+    line.extend_from_slice(b"feed");
+    match reader.feed(data) {
+        Answer::More { count } => text::numbers(line, &[0, count as u64]),
+        Answer::Decided { verdict, count, start, end } => {
+            text::numbers(line, &[verdict as u64, count as u64, start, end]);
+            if matches!(verdict, Verdict::Frame | Verdict::Sum) {
+                line.extend_from_slice(b" :");
+                text::spaced_bytes(line, reader.body());
+            }
+        }
+        Answer::State => text::numbers(line, &[17, 0]),
+        Answer::Used => text::numbers(line, &[18, 0]),
+    }
+}
+
+fn finish(reader: &Reader, line: &mut Vec<u8>) {
+    line.extend_from_slice(b"end");
+    match reader.finish() {
+        Ending::Clean { taken } => text::numbers(line, &[2, taken]),
+        Ending::Open { taken, start } => text::numbers(line, &[16, taken, start]),
+        Ending::State => text::numbers(line, &[17, 0]),
+    }
+}
+
+fn write(data: &[u8], line: &mut Vec<u8>) {
+    let room = (number(data, 4, 2) as usize).min(MOST_ROOM);
+    let (command, sequence, flags) = (number(data, 0, 1) as u8, number(data, 1, 1) as u8, number(data, 2, 2) as u16);
+    let payload = data.get(6..).unwrap_or(&[]);
+    let mut out = vec![UNTOUCHED; room];
+    line.extend_from_slice(b"write");
+    match writer::write(command, sequence, flags, payload, &mut out) {
+        Ok(count) => text::numbers(line, &[0, count as u64]),
+        Err(refusal) => text::numbers(line, &[refusal as u64, 0]),
+    }
+    line.extend_from_slice(b" :");
+    text::spaced_bytes(line, &out);
+}

@@ -1,0 +1,89 @@
+//! The program `links`: records played on one link.
+
+use crate::link::{self, Link, Refusal, Tick, Waiting};
+use crate::listing::read_some;
+use crate::text;
+use std::io::{self, Read, Write};
+
+pub const RECORD_SIZE: usize = 9;
+
+/// Plays the input; each line is written before more is read.
+pub fn play(input: &mut impl Read, output: &mut impl Write) -> io::Result<()> {
+    let mut link = Link::new();
+    let mut bytes = vec![0; RECORD_SIZE * 4_096];
+    let mut kept = 0;
+    loop {
+        let size = read_some(input, &mut bytes[kept..])?;
+        if size == 0 {
+            return Ok(());
+        }
+        let end = kept + size;
+        let whole = end - end % RECORD_SIZE;
+        let mut lines = Vec::new();
+        for record in bytes[..whole].chunks_exact(RECORD_SIZE) {
+            play_record(&mut link, record, &mut lines);
+        }
+        bytes.copy_within(whole..end, 0);
+        kept = end - whole;
+        output.write_all(&lines)?;
+        output.flush()?;
+    }
+}
+
+pub fn play_record(link: &mut Link, record: &[u8], out: &mut Vec<u8>) {
+    let &[operation, a, b, c, d, clock_a, clock_b, clock_c, clock_d] = record else { return };
+    let clock = u32::from_be_bytes([clock_a, clock_b, clock_c, clock_d]);
+    match operation {
+        0 => answer(out, "offer", link.offer(a, clock).map(|number| vec![number.into()])),
+        1 | 6 => answer(out, "tick", link.tick(clock).map(tick_values)),
+        2 => answer(out, "answer", link.arrive(a, b).map(|(command, number)| vec![command.into(), number.into()])),
+        3 => {
+            *link = Link { next: a, waiting: None };
+            out.extend_from_slice(b"set");
+        }
+        4 => {
+            *link = Link { next: a, waiting: Some(Waiting { command: b, number: c, sent: clock, repeats: d }) };
+            out.extend_from_slice(b"set");
+        }
+        5 => {
+            let since = u32::from_be_bytes([a, b, c, d]);
+            out.extend_from_slice(b"elapsed");
+            text::numbers(out, &[link::elapsed(clock, since).into(), link::is_due(clock, since).into()]);
+        }
+        _ => {
+            *link = Link::new();
+            out.extend_from_slice(b"fresh");
+        }
+    }
+    state(out, link);
+}
+
+fn tick_values(tick: Tick) -> Vec<u64> {
+    match tick {
+        Tick::Nothing => vec![],
+        Tick::Again { command, number } => vec![1, command.into(), number.into()],
+        Tick::GivenUp { command, number } => vec![2, command.into(), number.into()],
+    }
+}
+
+fn answer(out: &mut Vec<u8>, word: &str, result: Result<Vec<u64>, Refusal>) {
+    out.extend_from_slice(word.as_bytes());
+    match result {
+        Ok(values) => {
+            text::numbers(out, &[0]);
+            text::numbers(out, &values);
+        }
+        // STATE has a count, which is 0.
+        Err(Refusal::State) => text::numbers(out, &[Refusal::State as u64, 0]),
+        Err(refusal) => text::numbers(out, &[refusal as u64]),
+    }
+}
+
+fn state(out: &mut Vec<u8>, link: &Link) {
+    out.extend_from_slice(b" :");
+    text::numbers(out, &[link.next.into()]);
+    if let Some(Waiting { command, number, sent, repeats }) = link.waiting {
+        text::numbers(out, &[command.into(), number.into(), sent.into(), repeats.into()]);
+    }
+    out.push(b'\n');
+}

@@ -1,0 +1,113 @@
+//! The serial protocol once more, written from the paper, to be compared with the first implementation.
+
+mod answers;
+mod calls;
+mod compare;
+mod counter;
+mod families;
+mod generate;
+mod link;
+mod link_scripts;
+mod links;
+mod listing;
+mod messages;
+mod payloads;
+mod process;
+mod random;
+mod reader;
+mod scripts;
+mod streams;
+mod text;
+mod transcript;
+mod vectors;
+mod writer;
+mod written;
+
+use std::io::{self, BufReader, BufWriter, Read, Write};
+use std::path::Path;
+use std::process::ExitCode;
+
+const USAGE: &str = "usage: second list | messages | links | calls | written
+       second generate reports|ff|noise SEED COUNT
+       second compare FOLDER [SEED [COUNT]]
+       second input PROGRAM SEED FAMILY INDEX";
+
+const DEFAULT_SEED: u64 = 1;
+const DEFAULT_COUNT: u64 = 200;
+
+fn main() -> ExitCode {
+    let words: Vec<String> = std::env::args().skip(1).collect();
+    let words: Vec<&str> = words.iter().map(String::as_str).collect();
+    let done = match words[..] {
+        ["list"] => listing::list(&mut io::stdin().lock(), &mut io::stdout().lock()).map_err(not_read),
+        ["messages"] => messages(),
+        ["links"] => links::play(&mut io::stdin().lock(), &mut io::stdout().lock()).map_err(not_read),
+        ["calls"] => {
+            let mut output = BufWriter::new(io::stdout().lock());
+            calls::play(&mut BufReader::new(io::stdin().lock()), &mut output).map_err(not_read)
+        }
+        ["written"] => written(),
+        ["generate", kind, seed, count] => generate(kind, seed, count),
+        ["compare", folder] => compare(folder, None, None),
+        ["compare", folder, seed] => compare(folder, Some(seed), None),
+        ["compare", folder, seed, count] => compare(folder, Some(seed), Some(count)),
+        ["input", program, seed, family, index] => input(program, seed, family, index),
+        _ => Err(USAGE.into()),
+    };
+    match done {
+        Ok(()) => ExitCode::SUCCESS,
+        Err(fault) => {
+            if !fault.is_empty() {
+                eprintln!("{fault}");
+            }
+            ExitCode::FAILURE
+        }
+    }
+}
+
+fn not_read(error: io::Error) -> String {
+    format!("second: {error}")
+}
+
+fn messages() -> Result<(), String> {
+    let mut stream = Vec::new();
+    io::stdin().lock().take(transcript::MOST_INPUT).read_to_end(&mut stream).map_err(not_read)?;
+    io::stdout().lock().write_all(&transcript::lines(&stream)).map_err(not_read)
+}
+
+/// Both outcomes are what this program prints.
+fn written() -> Result<(), String> {
+    match written::check(io::stdin().lock()) {
+        Ok(lines) => {
+            println!("{lines} lines agree");
+            Ok(())
+        }
+        Err(fault) => {
+            println!("{fault}");
+            Err(String::new())
+        }
+    }
+}
+
+fn generate(kind: &str, seed: &str, count: &str) -> Result<(), String> {
+    let kind = generate::Kind::named(kind).ok_or(USAGE)?;
+    generate::generate(kind, number(seed)?, number(count)?, &mut io::stdout().lock()).map_err(not_read)
+}
+
+fn compare(folder: &str, seed: Option<&str>, count: Option<&str>) -> Result<(), String> {
+    let seed = seed.map_or(Ok(DEFAULT_SEED), number)?;
+    let count = count.map_or(Ok(DEFAULT_COUNT), number)?;
+    // The score's line must be the last one, so nothing is said behind it.
+    compare::compare(Path::new(folder), seed, count).then_some(()).ok_or(String::new())
+}
+
+/// Writes the input of one test, to try it by hand.
+fn input(program: &str, seed: &str, family: &str, index: &str) -> Result<(), String> {
+    let program = families::Program::named(program).ok_or(USAGE)?;
+    let test = families::Test::named(program, family, number(index)?).ok_or("no such family or index")?;
+    io::stdout().lock().write_all(&test.input(number(seed)?)).map_err(not_read)
+}
+
+fn number(word: &str) -> Result<u64, String> {
+    word.parse().map_err(|_| format!("not a number: {word}"))
+}

@@ -1,0 +1,250 @@
+//! The streaming reader: raw bytes in, at most one decision for each call, places counted over the whole stream.
+
+/// The greatest length field of a frame.
+pub const LIMIT: usize = 1_024;
+/// A body: the length field itself (2 bytes) and what it counts.
+pub const BODY_SIZE: usize = LIMIT + 2;
+/// The least length: command, sequence number, flags and checksum.
+const LEAST_LENGTH: usize = 5;
+/// The most bytes that one reader takes.
+const MOST_TAKEN: u64 = 1 << 62;
+
+/// What the reader remembers of the last raw byte, and whether a frame is open.
+#[derive(Clone, Copy, PartialEq, Eq)]
+enum Phase {
+    /// No frame open, the last byte is no FF.
+    Idle,
+    /// No frame open, the last byte is FF.
+    Half,
+    /// The last two bytes are a header, no body byte yet.
+    Header,
+    /// A frame is open, the last byte is no FF.
+    Open,
+    /// A frame is open, an FF of its body waits for its stuffing byte.
+    Escape,
+}
+
+/// What is decided about a frame, with the number of the table of answers.
+#[derive(Clone, Copy, PartialEq, Eq, Debug)]
+pub enum Verdict {
+    Frame = 1,
+    Short = 11,
+    Long = 12,
+    Stuff = 13,
+    Cut = 14,
+    Sum = 15,
+}
+
+#[derive(Clone, Copy, PartialEq, Eq, Debug)]
+pub enum Answer {
+    More { count: usize },
+    Decided { verdict: Verdict, count: usize, start: u64, end: u64 },
+    State,
+    Used,
+}
+
+#[derive(Clone, Copy, PartialEq, Eq, Debug)]
+pub enum Ending {
+    Clean { taken: u64 },
+    Open { taken: u64, start: u64 },
+    State,
+}
+
+pub struct Reader {
+    phase: Phase,
+    taken: u64,
+    start: u64,
+    have: usize,
+    length: usize,
+    sum: u8,
+    body: [u8; BODY_SIZE],
+}
+
+impl Reader {
+    pub fn new() -> Reader {
+        Reader::having_taken(0)
+    }
+
+    /// Fresh but for the count of bytes taken; out of range above 2^62.
+    pub fn having_taken(taken: u64) -> Reader {
+        Reader { phase: Phase::Idle, taken, start: 0, have: 0, length: 0, sum: 0, body: [0; BODY_SIZE] }
+    }
+
+    /// Bytes given: takes them up to the byte that decides something.
+    pub fn feed(&mut self, bytes: &[u8]) -> Answer {
+        if self.taken > MOST_TAKEN {
+            return Answer::State;
+        }
+        if self.taken + bytes.len() as u64 > MOST_TAKEN {
+            return Answer::Used;
+        }
+        let mut count = 0;
+        loop {
+            count += self.take_run(&bytes[count..]);
+            let Some(&byte) = bytes.get(count) else { return Answer::More { count } };
+            count += 1;
+            if let Some((verdict, start)) = self.take_byte(byte) {
+                return Answer::Decided { verdict, count, start, end: self.taken };
+            }
+        }
+    }
+
+    /// End asked: changes nothing.
+    pub fn finish(&self) -> Ending {
+        match self.phase {
+            _ if self.taken > MOST_TAKEN => Ending::State,
+            Phase::Idle | Phase::Half => Ending::Clean { taken: self.taken },
+            _ => Ending::Open { taken: self.taken, start: self.start },
+        }
+    }
+
+    /// The body of the frame just completed.
+    pub fn body(&self) -> &[u8] {
+        &self.body[..self.length + 2]
+    }
+
+    /// Takes the bytes at the front that can decide nothing, in one go, because most bytes are such.
+    fn take_run(&mut self, bytes: &[u8]) -> usize {
+        let run = match self.phase {
+            Phase::Idle => bytes.iter().take_while(|&&byte| byte != 0xFF).count(),
+            Phase::Open if self.have >= 2 => self.store_run(bytes),
+            _ => 0,
+        };
+        self.taken += run as u64;
+        run
+    }
+
+    /// Stores body bytes, each stuffed FF with its 55, but never the checksum: that one decides.
+    fn store_run(&mut self, bytes: &[u8]) -> usize {
+        let free = &mut self.body[self.have..self.length + 1];
+        let (mut raw, mut stored, mut sum) = (0, 0, self.sum);
+        while stored < free.len() && raw < bytes.len() {
+            let byte = bytes[raw];
+            if byte == 0xFF {
+                if bytes.get(raw + 1) != Some(&0x55) {
+                    break;
+                }
+                raw += 1;
+            }
+            raw += 1;
+            free[stored] = byte;
+            stored += 1;
+            sum = sum.wrapping_add(byte);
+        }
+        self.have += stored;
+        self.sum = sum;
+        raw
+    }
+
+    /// Takes one raw byte; a decision comes with the start of the frame that it is about.
+    fn take_byte(&mut self, byte: u8) -> Option<(Verdict, u64)> {
+        let place = self.taken;
+        self.taken += 1;
+        match (self.phase, byte) {
+            (Phase::Idle | Phase::Half, _) if byte != 0xFF => self.phase = Phase::Idle,
+            (Phase::Idle, _) => self.phase = Phase::Half,
+            (Phase::Half, _) => self.open(place - 1),
+            // One more FF behind a header: the header is now the last two.
+            (Phase::Header, 0xFF) => self.start += 1,
+            (Phase::Open, 0xFF) => self.phase = Phase::Escape,
+            (Phase::Escape, 0xFF) => {
+                let cut = self.start;
+                self.open(place - 1);
+                return Some((Verdict::Cut, cut));
+            }
+            (Phase::Escape, 0x55) => return self.body_byte(0xFF),
+            (Phase::Escape, _) => return Some(self.close(Verdict::Stuff)),
+            (Phase::Header | Phase::Open, _) => return self.body_byte(byte),
+        }
+        None
+    }
+
+    fn open(&mut self, start: u64) {
+        self.phase = Phase::Header;
+        self.start = start;
+        self.have = 0;
+        self.sum = 0;
+    }
+
+    /// The deciding byte is never FF here, so no half header is left behind.
+    fn close(&mut self, verdict: Verdict) -> (Verdict, u64) {
+        self.phase = Phase::Idle;
+        (verdict, self.start)
+    }
+
+    /// Stores one body byte, stuffing removed.
+    fn body_byte(&mut self, byte: u8) -> Option<(Verdict, u64)> {
+        self.phase = Phase::Open;
+        self.body[self.have] = byte;
+        self.have += 1;
+        if self.have == 2 {
+            self.length = usize::from(u16::from_be_bytes([self.body[0], byte]));
+            if self.length < LEAST_LENGTH {
+                return Some(self.close(Verdict::Short));
+            }
+            if self.length > LIMIT {
+                return Some(self.close(Verdict::Long));
+            }
+        } else if self.have > 2 && self.have == self.length + 2 {
+            let verdict = if byte == self.sum { Verdict::Frame } else { Verdict::Sum };
+            return Some(self.close(verdict));
+        }
+        self.sum = self.sum.wrapping_add(byte);
+        None
+    }
+}
+
+#[cfg(test)]
+mod tests {
+    use super::*;
+
+    fn first_answer(bytes: &[u8]) -> Answer {
+        Reader::new().feed(bytes)
+    }
+
+    fn decided(verdict: Verdict, count: usize, start: u64, end: u64) -> Answer {
+        Answer::Decided { verdict, count, start, end }
+    }
+
+    const HEARTBEAT: [u8; 9] = [0xFF, 0xFF, 0, 5, 7, 1, 0, 0, 0x0D];
+
+    #[test]
+    fn frames() {
+        assert_eq!(first_answer(&HEARTBEAT), decided(Verdict::Frame, 9, 0, 9));
+        let number_ff = [0xFF, 0xFF, 0, 5, 7, 0xFF, 0x55, 0, 0, 0x0B];
+        assert_eq!(first_answer(&number_ff), decided(Verdict::Frame, 10, 0, 10));
+        let sum_ff = [0xFF, 0xFF, 0, 5, 7, 0xF3, 0, 0, 0xFF, 0x55];
+        assert_eq!(first_answer(&sum_ff), decided(Verdict::Frame, 10, 0, 10));
+        assert_eq!(first_answer(&sum_ff[..9]), Answer::More { count: 9 });
+        let report = [0xFF, 0xFF, 0, 14, 5, 2, 0, 0, 4, 5, 0, 3, 0, 0, 0, 0xFF, 0x55, 0, 0x20];
+        assert_eq!(first_answer(&report), decided(Verdict::Frame, 19, 0, 19));
+        let behind_ff = [&[0xFF][..], &HEARTBEAT].concat();
+        assert_eq!(first_answer(&behind_ff), decided(Verdict::Frame, 10, 1, 10));
+    }
+
+    #[test]
+    fn refusals() {
+        assert_eq!(first_answer(&[0xFF, 0xFF, 0, 4]), decided(Verdict::Short, 4, 0, 4));
+        assert_eq!(first_answer(&[0xFF, 0xFF, 0, 5]), Answer::More { count: 4 });
+        assert_eq!(first_answer(&[0xFF, 0xFF, 4, 1]), decided(Verdict::Long, 4, 0, 4));
+        assert_eq!(first_answer(&[0xFF, 0xFF, 4, 0]), Answer::More { count: 4 });
+        assert_eq!(first_answer(&[0xFF, 0xFF, 0xFF, 0x55, 0]), decided(Verdict::Long, 5, 1, 5));
+        assert_eq!(first_answer(&[0xFF, 0xFF, 0, 5, 7, 0xFF, 0]), decided(Verdict::Stuff, 7, 0, 7));
+        let mut wrong = HEARTBEAT;
+        wrong[8] = 0x0E;
+        assert_eq!(first_answer(&wrong), decided(Verdict::Sum, 9, 0, 9));
+    }
+
+    #[test]
+    fn limits() {
+        let mut reader = Reader::having_taken(MOST_TAKEN - 1);
+        assert_eq!(reader.feed(&[0, 0]), Answer::Used);
+        assert_eq!(reader.feed(&[0]), Answer::More { count: 1 });
+        assert_eq!(reader.finish(), Ending::Clean { taken: MOST_TAKEN });
+        assert_eq!(reader.feed(&[]), Answer::More { count: 0 });
+        assert_eq!(reader.feed(&[0]), Answer::Used);
+        let mut beyond = Reader::having_taken(MOST_TAKEN + 1);
+        assert_eq!(beyond.feed(&[]), Answer::State);
+        assert_eq!(beyond.finish(), Ending::State);
+    }
+}

@@ -1,0 +1,77 @@
+//! The program `messages`: each frame of the input read, written again and answered.
+
+use crate::answers::{self, Reply};
+use crate::messages::{self, Message};
+use crate::reader::{Answer, Reader, Verdict};
+use crate::text;
+use crate::writer::wire_form;
+
+/// The most bytes of input that the program reads.
+pub const MOST_INPUT: u64 = 65_536;
+
+/// The lines about a stream.
+pub fn lines(mut stream: &[u8]) -> Vec<u8> {
+    let mut reader = Reader::new();
+    let mut out = Vec::new();
+    while !stream.is_empty() {
+        let Answer::Decided { verdict, count, .. } = reader.feed(stream) else { break };
+        stream = &stream[count..];
+        match verdict {
+            Verdict::Frame => frame_lines(reader.body(), &mut out),
+            Verdict::Sum => sum_lines(reader.body(), &mut out),
+            _ => {}
+        }
+    }
+    out
+}
+
+fn frame_lines(body: &[u8], out: &mut Vec<u8>) {
+    let (command, number) = (body[2], body[3]);
+    let flags = u16::from_be_bytes([body[4], body[5]]);
+    let payload = &body[6..body.len() - 1];
+    line(out, "frame", &[command.into(), number.into(), flags.into(), payload.len() as u64], None);
+    match messages::read(command, payload) {
+        Err(refusal) => line(out, "read", &[refusal as u64], None),
+        Ok(message) => message_lines(&message, number, flags, out),
+    }
+    answer_line(answers::to_frame(command, number, payload), number, out);
+}
+
+fn message_lines(message: &Message, number: u8, flags: u16, out: &mut Vec<u8>) {
+    let values = [vec![0, message.command().into()], message.values()].concat();
+    line(out, "read", &values, None);
+    for (place, part) in message.parts() {
+        if !part.is_empty() {
+            line(out, "part", &[place], Some(part));
+        }
+    }
+    let wire = wire_form(message.command(), number, flags, &message.payload());
+    line(out, "write", &[0, wire.len() as u64], Some(&wire));
+}
+
+fn sum_lines(body: &[u8], out: &mut Vec<u8>) {
+    let number = body[3];
+    line(out, "sum", &[number.into()], None);
+    answer_line(answers::to_wrong_sum(number), number, out);
+}
+
+fn answer_line(reply: Reply, number: u8, out: &mut Vec<u8>) {
+    match reply {
+        Reply::Nothing => line(out, "answer", &[0], None),
+        Reply::Wanted { command } => line(out, "answer", &[0, 0, command.into(), number.into()], None),
+        Reply::Acknowledged { wire } => line(out, "answer", &[0, wire.len() as u64], Some(&wire)),
+        Reply::Rejected { code, wire } => {
+            line(out, "answer", &[0, wire.len() as u64, 0x12, code.into()], Some(&wire));
+        }
+    }
+}
+
+fn line(out: &mut Vec<u8>, word: &str, numbers: &[u64], bytes: Option<&[u8]>) {
+    out.extend_from_slice(word.as_bytes());
+    text::numbers(out, numbers);
+    if let Some(bytes) = bytes {
+        out.extend_from_slice(b" :");
+        text::spaced_bytes(out, bytes);
+    }
+    out.push(b'\n');
+}

@@ -1,0 +1,45 @@
+//! Streams written down by hand, from the papers.
+
+use crate::scripts;
+use crate::text;
+
+const FILES: [(&str, &str); 2] =
+    [("01.hex", include_str!("../vectors/01.hex")), ("003.hex", include_str!("../vectors/003.hex"))];
+
+/// The listing's own example, with the exact text that is to be printed for it.
+pub const LISTED: [u8; 25] = [
+    0xFF, 0xFF, 0xFF, 0x00, 0x05, 0x07, 0x01, 0x00, 0x00, 0x0D, 0xFF, 0xFF, 0x00, 0x05, 0x07, 0xFF, 0xFF, 0x00, 0x05,
+    0x07, 0xF3, 0x00, 0x00, 0xFF, 0x55,
+];
+pub const LISTING: &str = "\
+kind start end cmd sn flags payload
+frame 1 10 7 1 0 0
+cut 10 17 - - - -
+frame 15 25 7 243 0 0
+clean 25
+";
+
+/// All vectors, in the order of the files.
+pub fn all() -> Vec<Vec<u8>> {
+    let lines = FILES.iter().flat_map(|(name, file)| file.lines().map(move |line| (name, line)));
+    let streams = lines.map(|(name, line)| {
+        let hex = line.split('#').next().unwrap_or("");
+        text::from_hex(hex).unwrap_or_else(|| panic!("{name}: not hex: {line}"))
+    });
+    streams.filter(|stream| !stream.is_empty()).collect()
+}
+
+/// Those that can be cut in every way.
+pub fn short() -> Vec<Vec<u8>> {
+    all().into_iter().filter(|stream| scripts::is_short(stream)).collect()
+}
+
+#[cfg(test)]
+mod tests {
+    use super::*;
+
+    #[test]
+    fn files_are_hex_and_hold_the_listed_stream() {
+        assert!(all().contains(&LISTED.to_vec()));
+    }
+}
