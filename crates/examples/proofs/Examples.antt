@@ -1,0 +1,28 @@
+-- Paper 01's counted examples, by computation: the answers of the whole list, as one equation. Assumes nothing.
+use mathlib.Core.Path.{_≡_, refl}
+use mathlib.Core.Logic.{_⊎_, inl, inr}
+use mathlib.Core.List.{List, [], _∷_, map, List·Memᴰ, List·Memᴰ·not-nil, List·Memᴰ·cases-cons}
+use Rattle.frame.specs.Wire.{stuff, total, bodyOf}
+use Rattle.frame.specs.Calls.{zeros, runOf}
+use Rattle.message.specs.Commands.{among, kindIn, fits, sizeFits}
+use Rattle.examples.specs.Examples.{Example, Answer, answerTo, examples, CountedExamples}
+
+-- what an entry is answered, and what it states
+abbrev found : Example → Answer
+found e = answerTo (e .asked)
+
+abbrev stated : Example → Answer
+stated e = e .stated
+
+-- where two lists of answers are equal, so are the two answers of each entry
+each : (l : List Example) → map found l ≡ map stated l → (e : Example) → List·Memᴰ e l → found e ≡ stated e
+each [] p e m = absurd (List·Memᴰ·not-nil m)
+each (x ∷ xs) p e m = step (each xs (cc) e) (List·Memᴰ·cases-cons m)
+  where
+    step : (List·Memᴰ e xs → found e ≡ stated e) → (e ≡ x) ⊎ List·Memᴰ e xs → found e ≡ stated e
+    step below (inl q) = rw q (cc)
+    step below (inr later) = below later
+
+pub counted-examples : CountedExamples
+unfolding stuff total bodyOf zeros runOf among kindIn fits sizeFits examples
+counted-examples = each examples refl

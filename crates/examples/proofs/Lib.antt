@@ -1,0 +1,2 @@
+-- The claim of specs/Examples.antt.
+pub mod Examples
