@@ -12,11 +12,25 @@ use Rattle.frame.specs.Table.{Row, row, countOf}
 use Rattle.frame.specs.Calls.{Write, outcome, onto, runOf, zeros}
 use Rattle.frame.specs.Logs.{logOf, offer}
 use Rattle.frame.proofs.Cases.{by-test}
+use Rattle.frame.proofs.Rows.{told-apart, under, value}
 use Rattle.listing.specs.Decimal.{decimalOf, digitsIn, columnsOf}
 use Rattle.listing.specs.Lines.{textOf, ascii, placesOf, partsOf, refusedText, lineOf, lastOf}
+use Rattle.listing.specs.Table.{linedRowOf}
 use Rattle.listing.specs.Calls.{placed}
-use Rattle.listing.specs.Claims.{Within, Below, Longest, PaperListing, textsOf}
+use Rattle.listing.specs.declared.text.Lined.{Lined}
+use Rattle.listing.specs.declared.text.Lined.the-variants as lined
+use Rattle.listing.specs.Claims.{RowsTell, Within, Below, Longest, PaperListing, textsOf}
 use Rattle.listing.proofs.Digits.{count-most}
+
+abbrev linedFrom : Row → Lined
+linedFrom r = under r 0 (lined.Wrote (value r 0)) lined.Room
+
+lined-back : (a : Lined) → linedFrom (linedRowOf a) ≡ a
+lined-back (lined.Wrote n) = refl
+lined-back lined.Room = refl
+
+pub rows-tell : RowsTell
+rows-tell = told-apart linedRowOf linedFrom lined-back
 
 pub within : Within
 within text out =

@@ -3,3 +3,4 @@ pub mod Digits
 pub mod Puts
 pub mod Values
 pub mod Claims
+pub mod Listed

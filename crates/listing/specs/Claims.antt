@@ -6,9 +6,12 @@ use lib.ListN.{length, getD}
 use Rattle.frame.specs.Table.{Row, row, rowOf, endRowOf, countOf}
 use Rattle.frame.specs.Calls.{freshOf}
 use Rattle.frame.specs.Logs.{Call, give, ask, Entry, logOf, offer}
+use Rattle.frame.specs.Lines.{Line, linesOf}
 use Rattle.listing.specs.Decimal.{decimalOf}
 use Rattle.listing.specs.Lines.{ascii, headingText, placesOf, partsOf, lineOf, lastOf}
+use Rattle.listing.specs.Table.{linedRowOf}
 use Rattle.listing.specs.Calls.{placed}
+use Rattle.listing.specs.declared.text.Lined.{Lined}
 
 -- ---- decimal-text: what a number's text is, apart from how it is made
 
@@ -32,6 +35,10 @@ pub record DecimalText (n : ℕ) (text : List ℕ) : Type 0 where
 -- of every number
 abbrev pub DecimalTexts : Type 0
 DecimalTexts = (n : ℕ) → DecimalText n (decimalOf n)
+
+-- ---- rows-tell: two answers never have the same number and values
+abbrev pub RowsTell : Type 0
+RowsTell = (a b : Lined) → linedRowOf a ≡ linedRowOf b → a ≡ b
 
 -- ---- within: no call counts more bytes than the output has
 abbrev pub Within : Type 0
@@ -79,3 +86,29 @@ abbrev pub PaperListing : Type 0
 PaperListing =
     listingOf (offer 1024 3 (freshOf 1024) paperStream ++ ask ∷ [])
     ≡ ascii "kind start end cmd sn flags payload\nframe 1 10 7 1 0 0\ncut 10 17 - - - -\nframe 15 25 7 243 0 0\nclean 25\n"
+
+-- ---- each-listed: of every list of calls of a fresh reader, the lines printed are the table's lines over the bytes taken, in order: frame's claim
+-- `each-line` says that `linesOf` has them all, each once, nothing else
+
+-- the text of the answers to bytes given, which stands between the heading and the last line
+abbrev pub givenIn : Call → Entry → List ℕ
+givenIn (give bytes) e = lineOf (e .row) (e .held)
+givenIn ask e = []
+
+-- of a list of calls
+unfoldable pub givenText : List Entry → List ℕ
+givenText [] = []
+givenText (e ∷ es) = givenIn (e .call) e ++ givenText es
+
+-- the text of a line over the stream: its number, its places and, at FRAME, the parts of its body
+abbrev pub lineText : Line → List ℕ
+lineText l = lineOf (row (l .number) (0 ∷ l .start ∷ l .end ∷ [])) (l .body)
+
+-- of several
+unfoldable pub linesText : List Line → List ℕ
+linesText [] = []
+linesText (l ∷ ls) = lineText l ++ linesText ls
+
+-- of every list of calls
+abbrev pub EachListed : Type 0
+EachListed = (calls : List Call) → givenText (logOf 1024 (freshOf 1024) calls) ≡ linesText (linesOf (logOf 1024 (freshOf 1024) calls))

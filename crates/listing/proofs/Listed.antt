@@ -1,0 +1,128 @@
+-- each-listed: the lines printed are those that frame's claim `each-line` speaks of. Assumes nothing.
+use Prim.Native.Nat.{ℕ, _+_, _≤_, _<_}
+use mathlib.Core.Path.{_≡_, refl, sym, ap, _∙_}
+use mathlib.Core.Bool.{Bool, true, false, cond}
+use mathlib.Core.List.{List, [], _∷_, _++_, List·Memᴰ, List·Memᴰ·head, List·Memᴰ·tail}
+use native.Mathlib.Omega.{arith}
+use borrow.Author.Tests.{eqb-true}
+use lib.ListN.{length, getD, take, drop, length-take, length-drop}
+use lib.Seq.{getD-take}
+use lib.Dec.{eqb}
+use Rattle.frame.specs.Wire.{lengthOf, commandOf, numberOf, flagsOf, payloadOf}
+use Rattle.frame.specs.Frames.{frontBody}
+use Rattle.frame.specs.Table.{Row}
+use Rattle.frame.specs.Rules.{inRangeOf}
+use Rattle.frame.specs.Calls.{Reply, endingRow, freshOf, feedOf, finishOf}
+use Rattle.frame.specs.Logs.{Call, give, ask, callOf, Entry, logOf, decided}
+use Rattle.frame.specs.Lines.{Line, Decides, is-frame, is-short, is-long, is-stuff, is-cut, is-sum, linesOf, heldUnder, lineOf as lineIn}
+use Rattle.frame.specs.declared.scan.Phase.{Phase}
+use Rattle.frame.specs.declared.scan.Phase.the-variants.{Idle, Half, Header, Open, Escape}
+use Rattle.frame.specs.declared.scan.Scan.{Scan}
+use Rattle.frame.specs.declared.reader.Reader.{Reader}
+use Rattle.frame.proofs.Cases.{by-test}
+use Rattle.frame.proofs.Lines.{each-line}
+use Rattle.listing.specs.Lines.{partsOf, lineOf}
+use Rattle.listing.specs.Claims.{EachListed, givenText, lineText, linesText}
+
+-- ---- the parts of a body stand in its first L + 2 bytes
+
+-- a byte among them
+front-at : (b : List ℕ) (i : ℕ) → i < lengthOf b + 2 → getD (frontBody b) i 0 ≡ getD b i 0
+front-at b i h = getD-take (lengthOf b + 2) b i 0 h
+
+front-length : (b : List ℕ) → lengthOf (frontBody b) ≡ lengthOf b
+front-length b = rw (front-at b 0 (omega arith), front-at b 1 (omega arith))
+
+front-payload : (b : List ℕ) → 5 ≤ lengthOf b → length (payloadOf (frontBody b)) ≡ length (payloadOf b)
+front-payload b h = rw front-length (simp (length-take, length-drop) (omega arith))
+
+parts-front : (b : List ℕ) → 5 ≤ lengthOf b → partsOf (frontBody b) ≡ partsOf b
+parts-front b h =
+    rw (front-payload b h, front-at b 2 (omega arith), front-at b 3 (omega arith), front-at b 4 (omega arith), front-at b 5 (omega arith))
+
+-- ---- an answer that decides nothing has no line
+
+-- a number that decides is no number that does not
+other : (n k : ℕ) → decided n ≡ false → decided k ≡ true → eqb n k ≡ false
+other n k f t = go (eqb n k) refl
+  where
+    go : (e : Bool) → eqb n k ≡ e → e ≡ false
+    go false p = refl
+    go true p = let z : true ≡ false = sym t ∙ (ap decided (sym (eqb-true n k p)) ∙ f) in z
+
+no-line : (r : Row) (body : List ℕ) → decided (r .number) ≡ false → lineOf r body ≡ []
+no-line r body f =
+    rw (other (r .number) 1 f refl, other (r .number) 11 f refl, other (r .number) 12 f refl, other (r .number) 13 f refl, other (r .number) 14 f refl, other (r .number) 15 f refl)
+
+-- an end asked decides nothing
+ending-undecided : (f : Phase) (s : Scan) → decided (endingRow f s .number) ≡ false
+ending-undecided Idle s = refl
+ending-undecided Half s = refl
+ending-undecided Header s = refl
+ending-undecided Open s = refl
+ending-undecided Escape s = refl
+
+asked-undecided : (limit : ℕ) (r : Reader) → decided (finishOf limit r .row .number) ≡ false
+asked-undecided limit r =
+    by-test (λ (y : Reply). decided (y .row .number) ≡ false) (inRangeOf limit (r .scan)) (λ e. ending-undecided (r .scan .phase) (r .scan)) (λ e. refl)
+
+-- ---- an answer that decides has the line's text
+
+-- where a test picks, the two picked are equal
+same-picked : (t : Bool) (x y z : List ℕ) → (t ≡ true → x ≡ y) → cond t x z ≡ cond t y z
+same-picked true x y z f = f refl
+same-picked false x y z f = refl
+
+-- at FRAME the body is what its length says
+abbrev Long : Line → Type 0
+Long l = l .number ≡ 1 → 5 ≤ lengthOf (l .body)
+
+entry-text : (e : Entry) → Long (lineIn e) → lineOf (e .row) (e .held) ≡ lineText (lineIn e)
+entry-text e h =
+    same-picked (eqb (e .row .number) 1) _ _ _
+    (λ t.
+    let frame = eqb-true (e .row .number) 1 t in
+    let held : heldUnder (e .row .number) (e .held) ≡ frontBody (e .held) = ap (λ (n : ℕ). heldUnder n (e .held)) frame in
+    let long : 5 ≤ lengthOf (e .held) = rw (held, front-length (e .held)) at (h frame) in
+    rw (held, parts-front (e .held) long))
+
+-- ---- over a list of calls
+
+abbrev AllLong : List Line → Type 0
+AllLong ls = (l : Line) → List·Memᴰ l ls → Long l
+
+-- a call's line before those of the others, or none
+one-more : (e : Entry) (ls : List Line) (text : List ℕ) → (AllLong ls → text ≡ linesText ls)
+    → (t : Bool) → decided (e .row .number) ≡ t → AllLong (cond t (lineIn e ∷ ls) ls)
+    → lineOf (e .row) (e .held) ++ text ≡ linesText (cond t (lineIn e ∷ ls) ls)
+unfolding linesText
+one-more e ls text f true d h = rw (entry-text e (h (lineIn e) (List·Memᴰ·head refl)), f (λ l m. h l (List·Memᴰ·tail m)))
+one-more e ls text f false d h = rw (no-line (e .row) (e .held) d) (f h)
+
+none-more : (l : Line) (ls : List Line) (text : List ℕ) → (AllLong ls → text ≡ linesText ls)
+    → (t : Bool) → t ≡ false → AllLong (cond t (l ∷ ls) ls) → text ≡ linesText (cond t (l ∷ ls) ls)
+none-more l ls text f true d h = let z : _≡_ {A = ℕ} 0 1 = cc in absurd (omega arith)
+none-more l ls text f false d h = f h
+
+listed : (calls : List Call) (r : Reader) → AllLong (linesOf (logOf 1024 r calls)) → givenText (logOf 1024 r calls) ≡ linesText (linesOf (logOf 1024 r calls))
+unfolding logOf linesOf givenText linesText
+listed [] r h = refl
+listed (give bytes ∷ cs) r h =
+    one-more (record { call = give bytes; row = feedOf 1024 r bytes .row; held = feedOf 1024 r bytes .reader .body }) _ _
+    (λ a. listed cs (feedOf 1024 r bytes .reader) a) (decided (feedOf 1024 r bytes .row .number)) refl h
+listed (ask ∷ cs) r h =
+    none-more _ _ _ (λ a. listed cs (finishOf 1024 r .reader) a) (decided (finishOf 1024 r .row .number)) (asked-undecided 1024 r) h
+
+-- a line of number 1 is a frame, and its length is at least 5
+frame-long : (limit : ℕ) (raw body : List ℕ) (n : ℕ) → Decides limit raw n body → n ≡ 1 → 5 ≤ lengthOf body
+frame-long limit raw body n (is-frame b e f w g) one = rw f (g .least)
+frame-long limit raw body n (is-short b e f w g h) one = absurd (omega arith)
+frame-long limit raw body n (is-long b e f w g h i j) one = absurd (omega arith)
+frame-long limit raw body n (is-stuff b x e f w g h i) one = absurd (omega arith)
+frame-long limit raw body n (is-cut b e f w g) one = absurd (omega arith)
+frame-long limit raw body n (is-sum b e f w g h i j) one = absurd (omega arith)
+
+pub each-listed : EachListed
+each-listed calls =
+    listed calls (freshOf 1024)
+    (λ l m. let line = each-line 1024 (omega arith) calls .sound l m in frame-long 1024 (line .raw) (l .body) (l .number) (line .decides))
