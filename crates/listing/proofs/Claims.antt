@@ -8,14 +8,14 @@ use native.Mathlib.Omega.{arith}
 use borrow.Author.Tests.{ltb-false}
 use lib.ListN.{length, getD, length-append}
 use lib.Dec.{ltb, eqb}
-use Rattle.frame.specs.Table.{Row, row, countOf}
+use Rattle.frame.specs.Table.{Row, row}
 use Rattle.frame.specs.Calls.{Write, outcome, onto, runOf, zeros}
 use Rattle.frame.specs.Logs.{logOf, offer}
 use Rattle.frame.proofs.Cases.{by-test}
 use Rattle.frame.proofs.Rows.{told-apart, under, value}
 use Rattle.listing.specs.Decimal.{decimalOf, digitsIn, columnsOf}
-use Rattle.listing.specs.Lines.{textOf, ascii, placesOf, partsOf, refusedText, lineOf, lastOf}
-use Rattle.listing.specs.Table.{linedRowOf}
+use Rattle.listing.specs.Lines.{textOf, ascii, placesOf, partsOf, refusedText, answerText, lastOf}
+use Rattle.listing.specs.Table.{linedRowOf, writtenIn}
 use Rattle.listing.specs.Calls.{placed}
 use Rattle.listing.specs.declared.text.Lined.{Lined}
 use Rattle.listing.specs.declared.text.Lined.the-variants as lined
@@ -34,7 +34,7 @@ rows-tell = told-apart linedRowOf linedFrom lined-back
 
 pub within : Within
 within text out =
-    by-test (λ (w : Write). countOf (w .row) ≤ length out) (ltb (length out) (length text)) (λ e. omega arith) (λ e. ltb-false (length out) (length text) e)
+    by-test (λ (w : Write). writtenIn (w .row) ≤ length out) (ltb (length out) (length text)) (λ e. omega arith) (λ e. ltb-false (length out) (length text) e)
 
 -- ---- longest
 
@@ -62,7 +62,7 @@ value-below (n ∷ l) (suc i) h = value-below l i (h .1)
 abbrev Short : List ℕ → Type 0
 Short t = length t ≤ 132
 
-line-short : (r : Row) (body : List ℕ) → Below (2 ^ 64) (placesOf r ++ partsOf body) → Short (lineOf r body)
+line-short : (r : Row) (body : List ℕ) → Below (2 ^ 64) (placesOf r ++ partsOf body) → Short (answerText r body)
 line-short r body h =
     pick Short 1 (omega (arith, text-most (ascii "frame") (placesOf r ++ partsOf body) (ascii "\n") h))
     (pick Short 11 (omega (arith, refused "short"))

@@ -21,7 +21,7 @@ use Rattle.frame.specs.declared.scan.Scan.{Scan}
 use Rattle.frame.specs.declared.reader.Reader.{Reader}
 use Rattle.frame.proofs.Cases.{by-test}
 use Rattle.frame.proofs.Lines.{each-line}
-use Rattle.listing.specs.Lines.{partsOf, lineOf}
+use Rattle.listing.specs.Lines.{partsOf, answerText}
 use Rattle.listing.specs.Claims.{EachListed, givenText, lineText, linesText}
 
 -- ---- the parts of a body stand in its first L + 2 bytes
@@ -50,7 +50,7 @@ other n k f t = go (eqb n k) refl
     go false p = refl
     go true p = let z : true ≡ false = sym t ∙ (ap decided (sym (eqb-true n k p)) ∙ f) in z
 
-no-line : (r : Row) (body : List ℕ) → decided (r .number) ≡ false → lineOf r body ≡ []
+no-line : (r : Row) (body : List ℕ) → decided (r .number) ≡ false → answerText r body ≡ []
 no-line r body f =
     rw (other (r .number) 1 f refl, other (r .number) 11 f refl, other (r .number) 12 f refl, other (r .number) 13 f refl, other (r .number) 14 f refl, other (r .number) 15 f refl)
 
@@ -77,7 +77,7 @@ same-picked false x y z f = refl
 abbrev Long : Line → Type 0
 Long l = l .number ≡ 1 → 5 ≤ lengthOf (l .body)
 
-entry-text : (e : Entry) → Long (lineIn e) → lineOf (e .row) (e .held) ≡ lineText (lineIn e)
+entry-text : (e : Entry) → Long (lineIn e) → answerText (e .row) (e .held) ≡ lineText (lineIn e)
 entry-text e h =
     same-picked (eqb (e .row .number) 1) _ _ _
     (λ t.
@@ -94,7 +94,7 @@ AllLong ls = (l : Line) → List·Memᴰ l ls → Long l
 -- a call's line before those of the others, or none
 one-more : (e : Entry) (ls : List Line) (text : List ℕ) → (AllLong ls → text ≡ linesText ls)
     → (t : Bool) → decided (e .row .number) ≡ t → AllLong (cond t (lineIn e ∷ ls) ls)
-    → lineOf (e .row) (e .held) ++ text ≡ linesText (cond t (lineIn e ∷ ls) ls)
+    → answerText (e .row) (e .held) ++ text ≡ linesText (cond t (lineIn e ∷ ls) ls)
 unfolding linesText
 one-more e ls text f true d h = rw (entry-text e (h (lineIn e) (List·Memᴰ·head refl)), f (λ l m. h l (List·Memᴰ·tail m)))
 one-more e ls text f false d h = rw (no-line (e .row) (e .held) d) (f h)

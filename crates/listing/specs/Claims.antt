@@ -3,13 +3,13 @@ use Prim.Native.Nat.{ℕ, _+_, _*_, _-_, _^_, _≤_, _<_}
 use mathlib.Core.Path.{_≡_}
 use mathlib.Core.List.{List, [], _∷_, _++_, List·Memᴰ}
 use lib.ListN.{length, getD}
-use Rattle.frame.specs.Table.{Row, row, rowOf, endRowOf, countOf}
+use Rattle.frame.specs.Table.{Row, row}
 use Rattle.frame.specs.Calls.{freshOf}
 use Rattle.frame.specs.Logs.{Call, give, ask, Entry, logOf, offer}
 use Rattle.frame.specs.Lines.{Line, linesOf}
 use Rattle.listing.specs.Decimal.{decimalOf}
-use Rattle.listing.specs.Lines.{ascii, headingText, placesOf, partsOf, lineOf, lastOf}
-use Rattle.listing.specs.Table.{linedRowOf}
+use Rattle.listing.specs.Lines.{ascii, headingText, placesOf, partsOf, answerText, lastOf}
+use Rattle.listing.specs.Table.{linedRowOf, writtenIn}
 use Rattle.listing.specs.Calls.{placed}
 use Rattle.listing.specs.declared.text.Lined.{Lined}
 
@@ -42,7 +42,7 @@ RowsTell = (a b : Lined) → linedRowOf a ≡ linedRowOf b → a ≡ b
 
 -- ---- within: no call counts more bytes than the output has
 abbrev pub Within : Type 0
-Within = (text out : List ℕ) → countOf (placed text out .row) ≤ length out
+Within = (text out : List ℕ) → writtenIn (placed text out .row) ≤ length out
 
 -- ---- longest: of places below 2^64 and bytes of a body no line is longer than 132 bytes, so an output of so many has room for any
 
@@ -53,7 +53,7 @@ Below m (n ∷ l) = (n < m) × Below m l
 
 -- the line of each answer, the last line and the heading
 pub record Longest : Type 0 where
-  pub lines : (r : Row) (body : List ℕ) → Below (2 ^ 64) (placesOf r ++ partsOf body) → length (lineOf r body) ≤ 132
+  pub lines : (r : Row) (body : List ℕ) → Below (2 ^ 64) (placesOf r ++ partsOf body) → length (answerText r body) ≤ 132
   pub lasts : (r : Row) → Below (2 ^ 64) (r .values) → length (lastOf r) ≤ 132
   pub heading : length headingText ≤ 132
 
@@ -61,7 +61,7 @@ pub record Longest : Type 0 where
 
 -- the text of a call: the line of what it was answered, or the last line
 abbrev pub textIn : Call → Entry → List ℕ
-textIn (give bytes) e = lineOf (e .row) (e .held)
+textIn (give bytes) e = answerText (e .row) (e .held)
 textIn ask e = lastOf (e .row)
 
 -- of a list of calls
@@ -87,12 +87,12 @@ PaperListing =
     listingOf (offer 1024 3 (freshOf 1024) paperStream ++ ask ∷ [])
     ≡ ascii "kind start end cmd sn flags payload\nframe 1 10 7 1 0 0\ncut 10 17 - - - -\nframe 15 25 7 243 0 0\nclean 25\n"
 
--- ---- each-listed: of every list of calls of a fresh reader, the lines printed are the table's lines over the bytes taken, in order: frame's claim
+-- ---- each-listed: of every list of calls of a fresh reader, the lines' text is that of the table's lines over the bytes taken, in order: frame's claim
 -- `each-line` says that `linesOf` has them all, each once, nothing else
 
 -- the text of the answers to bytes given, which stands between the heading and the last line
 abbrev pub givenIn : Call → Entry → List ℕ
-givenIn (give bytes) e = lineOf (e .row) (e .held)
+givenIn (give bytes) e = answerText (e .row) (e .held)
 givenIn ask e = []
 
 -- of a list of calls
@@ -102,7 +102,7 @@ givenText (e ∷ es) = givenIn (e .call) e ++ givenText es
 
 -- the text of a line over the stream: its number, its places and, at FRAME, the parts of its body
 abbrev pub lineText : Line → List ℕ
-lineText l = lineOf (row (l .number) (0 ∷ l .start ∷ l .end ∷ [])) (l .body)
+lineText l = answerText (row (l .number) (0 ∷ l .start ∷ l .end ∷ [])) (l .body)
 
 -- of several
 unfoldable pub linesText : List Line → List ℕ

@@ -8,7 +8,7 @@ use lib.Dec.{ltb}
 abbrev pub digit : ℕ → ℕ
 digit d = 48 + d
 
--- the digits of n, the most significant first, where so many are enough
+-- the last digits of n, the most significant first: all of them, where so many are enough
 unfoldable pub digitsIn : ℕ → ℕ → List ℕ
 digitsIn zero n = []
 digitsIn (suc k) n = cond (ltb n 10) [] (digitsIn k (n / 10)) ++ digit (n % 10) ∷ []

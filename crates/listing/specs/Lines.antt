@@ -10,7 +10,7 @@ use Rattle.frame.specs.Wire.{commandOf, numberOf, flagsOf, payloadOf}
 use Rattle.frame.specs.Table.{Row}
 use Rattle.listing.specs.Decimal.{columnsOf}
 
--- a text's bytes, in ASCII
+-- a text's bytes, in ASCII: every character here is below 128
 abbrev pub ascii : String → List ℕ
 ascii []ˢ = []
 ascii (c ∷ˢ s) = code c ∷ ascii s
@@ -39,9 +39,9 @@ frameText r body = textOf (ascii "frame") (placesOf r ++ partsOf body) (ascii "\
 abbrev pub refusedText : String → Row → List ℕ
 refusedText name r = textOf (ascii name) (placesOf r) (ascii " - - - -\n")
 
--- the line of an answer, by the table's numbers; MORE, STATE and USED have none
-abbrev pub lineOf : Row → List ℕ → List ℕ
-lineOf r body =
+-- the line of an answer, by the table's numbers. Paper 01 names no line for MORE, STATE and USED, and they have none
+abbrev pub answerText : Row → List ℕ → List ℕ
+answerText r body =
     cond (eqb (r .number) 1) (frameText r body)
     (cond (eqb (r .number) 11) (refusedText "short" r)
     (cond (eqb (r .number) 12) (refusedText "long" r)
@@ -49,7 +49,7 @@ lineOf r body =
     (cond (eqb (r .number) 14) (refusedText "cut" r)
     (cond (eqb (r .number) 15) (refusedText "sum" r) [])))))
 
--- "the last line is `clean` with the bytes taken, or `open` with the start"; STATE has none
+-- "the last line is `clean` with the bytes taken, or `open` with the start". STATE has none, as paper 01 names none
 abbrev pub lastOf : Row → List ℕ
 lastOf r =
     cond (eqb (r .number) 2) (textOf (ascii "clean") (getD (r .values) 0 0 ∷ []) (ascii "\n"))

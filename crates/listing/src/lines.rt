@@ -10,7 +10,7 @@ ghost use Prim.Native.Nat.{_≤_};
 ghost use lib.ListN.{length};
 ghost use Rattle.frame.specs.Table.{row, rowOf, endRowOf};
 ghost use Rattle.frame.specs.Calls.{outcome};
-ghost use Rattle.listing.specs.Lines.{ascii, textOf, partsOf, headingText, lineOf, lastOf};
+ghost use Rattle.listing.specs.Lines.{ascii, textOf, partsOf, headingText, answerText, lastOf};
 ghost use Rattle.listing.specs.Table.{linedRowOf};
 ghost use Rattle.listing.specs.Calls.{placed};
 
@@ -44,9 +44,10 @@ fn refused_line(name: &[u8], start: WirePlace, end: WirePlace, out: &mut [u8]) -
     put_line(name, &[start.0, end.0], b" - - - -\n", out)
 }
 
-// The line of what the reader said, and of the body that it holds; MORE, STATE and USED have none.
+// The line of what the reader said, and of the body that it holds; MORE, STATE and USED have none. Of another body than the one held the
+// contract still says what is listed; paper 01 leaves that free.
 pub fn line(said: Answer, body: &[u8], out: &mut [u8]) -> Lined
-    ensures { λ r. ⌜ outcome (linedRowOf r) (now (out .exit)) ≡ placed (lineOf (rowOf said) (now (body .entry))) (now (out .entry)) ⌝ }
+    ensures { λ r. ⌜ outcome (linedRowOf r) (now (out .exit)) ≡ placed (answerText (rowOf said) (now (body .entry))) (now (out .entry)) ⌝ }
 {
     match said {
         Answer::Frame {

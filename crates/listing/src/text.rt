@@ -5,11 +5,10 @@ ghost use mathlib.Core.Path.{_≡_};
 ghost use Prim.Native.Nat.{_+_, _*_, _≤_};
 ghost use lib.ListN.{length};
 ghost use lib.Seq.{sets};
-ghost use Rattle.frame.specs.Table.{countOf};
 ghost use Rattle.frame.specs.Calls.{outcome};
 ghost use Rattle.listing.specs.Decimal.{columnsOf};
 ghost use Rattle.listing.specs.Lines.{textOf};
-ghost use Rattle.listing.specs.Table.{linedRowOf};
+ghost use Rattle.listing.specs.Table.{linedRowOf, writtenIn};
 ghost use Rattle.listing.specs.Calls.{placed};
 
 // What a text to be put at the front of an output is answered.
@@ -21,7 +20,7 @@ pub enum Lined {
 impl Lined {
     // The bytes that were written.
     pub fn count(self) -> usize
-        ensures { λ r. ⌜ r ≡ countOf (linedRowOf self) ⌝ }
+        ensures { λ r. ⌜ r ≡ writtenIn (linedRowOf self) ⌝ }
     {
         match self {
             Lined::Wrote { count } => count,
