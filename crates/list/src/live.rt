@@ -13,7 +13,7 @@ struct Turn {
     goes_on: bool,
 }
 
-// A call that takes nothing would come again for ever; none does before 2^62 bytes.
+// A call that takes nothing would come again for ever; none does unless more than 2^62 bytes come in all.
 fn give_up(reader: Reader, out: &[u8], used: usize) -> Turn {
     flush(out, used);
     io::write_all(STDERR_FILENO, b"standard input: too many bytes\n");

@@ -1,0 +1,25 @@
+-- `list::waiting::add_line` meets its contract: what is written has room behind what waits. Assumes nothing.
+use native.Mathlib.Omega.{arith}
+use borrow.Author.Needs.{needs}
+use Rattle.list.proofs.waiting.add_line.Statement.{statement}
+use Rattle.list.proofs.waiting.add_line.Tie as tie
+
+add-t10 : tie.Need-add-t10
+add-t10 c =
+    let fits = rw (c .before .count .given .1) at (c .before .before .before .before .before .add .ensures) in
+    omega arith
+
+returns-2 : tie.Need-returns-2
+returns-2 c =
+    let fits = rw (c .before .count .given .1) at (c .before .before .before .before .before .add .ensures) in
+    omega arith
+
+pub add-line-spec : {M : Type 1} → statement M
+add-line-spec =
+    tie.close
+    (tie.spec
+    (λ c κs. search needs) (λ c. search needs)
+    add-t10
+    (λ c. search needs) (λ c κs. search needs) (λ c. search needs) (λ c. search needs) (λ c κs. search needs) (λ c. search needs)
+    returns-2
+    (λ c. search needs) (λ c. search needs))
