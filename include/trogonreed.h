@@ -1,8 +1,9 @@
 /*
  * Trogonreed: frames of the Gizwits serial protocol for a box's firmware.
  *
- * The code behind this header is proved (crate `firmware`): wherever the caller keeps what it owes, the call below returns and writes
- * exactly what is said here. It keeps nothing between calls and allocates nothing, so several threads may use it at once.
+ * The function behind this header is proved to meet its contract (crate `firmware`): what it returns and what it writes, for every input.
+ * That this declaration and these numbers agree with it, and how a slice of bytes is passed from C, is trusted and tested. It keeps nothing
+ * between calls and allocates nothing, so several threads may use it at once.
  * `rt staticlib firmware` builds target/staticlib/libfirmware.a, for x86-64 Linux; examples/box.c shows a program that links it.
  * C99 or later, and C++.
  */
@@ -19,7 +20,7 @@ extern "C" {
 /* The most bytes that a payload may have. */
 #define TROGONREED_MAX_PAYLOAD 1019ul
 
-/* No frame is longer, stuffed bytes and header included: an output of this many bytes is never refused. */
+/* No frame is longer, stuffed bytes and header included: an output of this many bytes is never too short. (2 and twice 1,026.) */
 #define TROGONREED_MAX_FRAME 2054ul
 
 /* A returned number below this one is a count of bytes; from it on, a refusal: this number plus the refusal's own. */
@@ -42,7 +43,7 @@ extern "C" {
  *
  * The caller owes, and nothing here can test:
  *   - `payload` may be read for `payload_len` bytes, and `out` written for `out_len`;
- *   - the two do not overlap, and no other thread writes to them during the call.
+ *   - the two do not overlap, and during the call no other thread writes to either or reads `out`.
  * A length of 0 asks nothing of its pointer, which may then be null. `payload` is never written.
  */
 uint32_t trogonreed_write_frame(uint8_t command, uint8_t number, uint16_t flags, const uint8_t *payload, size_t payload_len,

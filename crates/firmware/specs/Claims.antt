@@ -40,7 +40,8 @@ pub record CodeTells : Type 0 where
 abbrev pub RefusalUnchanged : Type 0
 RefusalUnchanged = (g : Given) → refused ≤ codeFor g → answered g .out ≡ g .out
 
--- ---- code-when: the table's "Given exactly when" of 21 and 22, and the count otherwise, in the numbers that C gets
+-- ---- code-when: the table's "Given exactly when" of 21 and 22, and the count otherwise, in the numbers that C gets. The three cases are all there
+-- are and, by counts-below, their numbers differ, so each comes only then
 pub record CodeWhen (g : Given) : Type 0 where
   pub payload : 1019 < length (g .payload) → codeFor g ≡ 65557
   pub room : length (g .payload) ≤ 1019 → length (g .out) < length (wireFor g) → codeFor g ≡ 65558
