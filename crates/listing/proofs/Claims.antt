@@ -1,4 +1,4 @@
--- The claims of specs/Claims.antt but that of decimal text. Assumes nothing.
+-- The claims of specs/Claims.antt but those of decimal text (Values) and of every listing (Listed, Whole). Assumes nothing.
 use Prim.Native.Nat.{ℕ, zero, suc, _+_, _*_, _^_, _≤_, _<_}
 use mathlib.Core.Path.{_≡_, refl}
 use Prim.Native.String.{String}
@@ -6,8 +6,9 @@ use mathlib.Core.Bool.{cond}
 use mathlib.Core.List.{List, [], _∷_, _++_}
 use native.Mathlib.Omega.{arith}
 use borrow.Author.Tests.{ltb-false}
-use lib.ListN.{length, getD, length-append}
+use lib.ListN.{length, getD, length-append, length-take}
 use lib.Dec.{ltb, eqb}
+use Rattle.frame.specs.Wire.{lengthOf, payloadOf}
 use Rattle.frame.specs.Table.{Row, row}
 use Rattle.frame.specs.Calls.{Write, outcome, onto, runOf, zeros}
 use Rattle.frame.specs.Logs.{logOf, offer}
@@ -19,7 +20,7 @@ use Rattle.listing.specs.Table.{linedRowOf, writtenIn}
 use Rattle.listing.specs.Calls.{placed}
 use Rattle.listing.specs.declared.text.Lined.{Lined}
 use Rattle.listing.specs.declared.text.Lined.the-variants as lined
-use Rattle.listing.specs.Claims.{RowsTell, Within, Below, Longest, PaperListing, textsOf}
+use Rattle.listing.specs.Claims.{RowsTell, Within, Below, Longest, PaperListing, EachKind, textsOf}
 use Rattle.listing.proofs.Digits.{count-most}
 
 abbrev linedFrom : Row → Lined
@@ -62,9 +63,13 @@ value-below (n ∷ l) (suc i) h = value-below l i (h .1)
 abbrev Short : List ℕ → Type 0
 Short t = length t ≤ 132
 
-line-short : (r : Row) (body : List ℕ) → Below (2 ^ 64) (placesOf r ++ partsOf body) → Short (answerText r body)
-line-short r body h =
-    pick Short 1 (omega (arith, text-most (ascii "frame") (placesOf r ++ partsOf body) (ascii "\n") h))
+-- the payload is no longer than the body's length says
+payload-most : (body : List ℕ) → length (payloadOf body) ≤ lengthOf body
+payload-most body = rw length-take (omega arith)
+
+line-short : (r : Row) (body : List ℕ) → Below (2 ^ 64) (placesOf r) → ((i : ℕ) → getD body i 0 < 256) → Short (answerText r body)
+line-short r body h bytes =
+    pick Short 1 (omega (arith, text-most (ascii "frame") (placesOf r ++ partsOf body) (ascii "\n") (h .0, (h .1 .0, parts))))
     (pick Short 11 (omega (arith, refused "short"))
     (pick Short 12 (omega (arith, refused "long"))
     (pick Short 13 (omega (arith, refused "stuff"))
@@ -73,6 +78,10 @@ line-short r body h =
   where
     pick : (P : List ℕ → Type 0) (n : ℕ) {x y : List ℕ} → P x → P y → P (cond (eqb (r .number) n) x y)
     pick P n f g = by-test P (eqb (r .number) n) (λ e. f) (λ e. g)
+
+    -- one byte, one byte, two bytes, and a payload under a length of two bytes
+    parts : Below (2 ^ 64) (partsOf body)
+    parts = (omega (arith, bytes 2), (omega (arith, bytes 3), (omega (arith, bytes 4, bytes 5), (omega (arith, bytes 0, bytes 1, payload-most body), tt))))
 
     refused : (name : String) → length (refusedText name r) ≤ length (ascii name) + 42 + 9
     refused name = text-most (ascii name) (placesOf r) (ascii " - - - -\n") (h .0, (h .1 .0, tt))
@@ -89,3 +98,7 @@ longest = record { lines = line-short; lasts = last-short; heading = omega arith
 pub paper-listing : PaperListing
 unfolding logOf offer runOf zeros textsOf columnsOf decimalOf digitsIn
 paper-listing = refl
+
+pub each-kind : EachKind
+unfolding logOf runOf zeros textsOf columnsOf decimalOf digitsIn
+each-kind = record { short = refl; long = refl; stuff = refl; sum = refl; left-open = refl }

@@ -1,13 +1,13 @@
--- decimal-text: a number's text says the number, in digits alone, with no 0 before others. Assumes nothing.
+-- decimal-text, one-decimal: a number's text says the number, in digits alone, with no 0 before others; no other text does. Assumes nothing.
 use Prim.Native.Nat.{ℕ, zero, suc, _+_, _*_, _-_, _/_, _%_, _≤_, _<_}
-use mathlib.Core.Path.{_≡_, _∙_}
-use mathlib.Core.List.{List, [], _∷_, _++_, List·Memᴰ, List·Memᴰ·append-cases, List·Memᴰ·eq-of-singleton}
+use mathlib.Core.Path.{_≡_, refl, sym, ap, _∙_}
+use mathlib.Core.List.{List, [], _∷_, _++_, append-nil, append-assoc, List·Memᴰ, List·Memᴰ·head, List·Memᴰ·tail, List·Memᴰ·append-cases, List·Memᴰ·eq-of-singleton}
 use mathlib.Core.Logic.{⊎-elim}
 use native.Mathlib.Nat.{div-add-mod', mod-lt}
 use native.Mathlib.Omega.{arith}
 use lib.ListN.{length, getD, length-append}
 use Rattle.listing.specs.Decimal.{digit, decimalOf}
-use Rattle.listing.specs.Claims.{valueFrom, IsDigit, DecimalText, DecimalTexts}
+use Rattle.listing.specs.Claims.{valueFrom, IsDigit, DecimalText, DecimalTexts, OneDecimal}
 use Rattle.listing.proofs.Digits.{by-size, tenth, decimal-last, decimal-more}
 
 -- a digit behind a text
@@ -58,3 +58,41 @@ texts (suc k) n h =
 
 pub decimal-text : DecimalTexts
 decimal-text n = texts (suc n) n (omega arith)
+
+-- ---- no other text
+
+-- a digit behind the digits of a number that is not 0
+decimal-behind : (m c : ℕ) → 1 ≤ m → c ≤ 9 → decimalOf (10 * m + c) ≡ decimalOf m ++ digit c ∷ []
+decimal-behind m c h g =
+    let last : (10 * m + c) % 10 < 10 = mod-lt (10 * m + c) (omega arith) in
+    let q : (10 * m + c) / 10 ≡ m = omega (arith, div-add-mod' (10 * m + c) 10) in
+    let r : (10 * m + c) % 10 ≡ c = omega (arith, div-add-mod' (10 * m + c) 10) in
+    decimal-more (10 * m + c) (omega arith) ∙ rw (q, r)
+
+-- digits behind the digits of a number that is not 0
+decimals-behind : (m : ℕ) (ds : List ℕ) → 1 ≤ m → ((d : ℕ) → List·Memᴰ d ds → IsDigit d) → decimalOf (valueFrom m ds) ≡ decimalOf m ++ ds
+unfolding valueFrom
+decimals-behind m [] h g = sym (append-nil (decimalOf m))
+decimals-behind m (d ∷ ds) h g =
+    let first : IsDigit d = g d (List·Memᴰ·head refl) in
+    let same : digit (d - 48) ≡ d = omega (arith, first .from) in
+    decimals-behind (10 * m + (d - 48)) ds (omega arith) (λ x k. g x (List·Memᴰ·tail k))
+    ∙ rw (decimal-behind m (d - 48) h (omega (arith, first .to)), same, append-assoc)
+
+-- by the first digit: alone, or not 0
+pub one-decimal : OneDecimal
+unfolding valueFrom
+one-decimal n [] t = absurd (let none = t .some in omega arith)
+one-decimal n (d ∷ []) t =
+    let first : IsDigit d = t .digits d (List·Memᴰ·head refl) in
+    let same : digit n ≡ d = omega (arith, first .from, t .value) in
+    sym (decimal-last n (omega (arith, first .to, t .value)) ∙ rw same)
+one-decimal n (d ∷ e ∷ ds) t =
+    let first : IsDigit d = t .digits d (List·Memᴰ·head refl) in
+    let least : 49 ≤ d = t .shortest (omega arith) in
+    let same : digit (d - 48) ≡ d = omega arith in
+    let only : decimalOf (d - 48) ≡ d ∷ [] = decimal-last (d - 48) (omega (arith, first .to)) ∙ rw same in
+    let from : d - 48 ≡ 10 * 0 + (d - 48) = omega arith in
+    let value : valueFrom (d - 48) (e ∷ ds) ≡ n = ap (λ (k : ℕ). valueFrom k (e ∷ ds)) from ∙ t .value in
+    let all = decimals-behind (d - 48) (e ∷ ds) (omega arith) (λ x k. t .digits x (List·Memᴰ·tail k)) in
+    sym (ap decimalOf (sym value) ∙ (all ∙ rw only))

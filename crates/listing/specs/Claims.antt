@@ -5,10 +5,10 @@ use mathlib.Core.List.{List, [], _∷_, _++_, List·Memᴰ}
 use lib.ListN.{length, getD}
 use Rattle.frame.specs.Table.{Row, row}
 use Rattle.frame.specs.Calls.{freshOf}
-use Rattle.frame.specs.Logs.{Call, give, ask, Entry, logOf, offer}
-use Rattle.frame.specs.Lines.{Line, linesOf}
+use Rattle.frame.specs.Logs.{Call, give, ask, Entry, logOf, stream, offer, send, joined}
+use Rattle.frame.specs.Lines.{Line, linesOf, Answers, IsOpen}
 use Rattle.listing.specs.Decimal.{decimalOf}
-use Rattle.listing.specs.Lines.{ascii, headingText, placesOf, partsOf, answerText, lastOf}
+use Rattle.listing.specs.Lines.{ascii, headingText, placesOf, answerText, lastOf}
 use Rattle.listing.specs.Table.{linedRowOf, writtenIn}
 use Rattle.listing.specs.Calls.{placed}
 use Rattle.listing.specs.declared.text.Lined.{Lined}
@@ -36,6 +36,10 @@ pub record DecimalText (n : ℕ) (text : List ℕ) : Type 0 where
 abbrev pub DecimalTexts : Type 0
 DecimalTexts = (n : ℕ) → DecimalText n (decimalOf n)
 
+-- ---- one-decimal: no other text is so
+abbrev pub OneDecimal : Type 0
+OneDecimal = (n : ℕ) (text : List ℕ) → DecimalText n text → text ≡ decimalOf n
+
 -- ---- rows-tell: two answers never have the same number and values
 abbrev pub RowsTell : Type 0
 RowsTell = (a b : Lined) → linedRowOf a ≡ linedRowOf b → a ≡ b
@@ -44,7 +48,7 @@ RowsTell = (a b : Lined) → linedRowOf a ≡ linedRowOf b → a ≡ b
 abbrev pub Within : Type 0
 Within = (text out : List ℕ) → writtenIn (placed text out .row) ≤ length out
 
--- ---- longest: of places below 2^64 and bytes of a body no line is longer than 132 bytes, so an output of so many has room for any
+-- ---- longest: where places are below 2^64 and a body's values are bytes, no line is longer than 132 bytes, so an output of so many has room for any
 
 -- each number of a list is below a bound
 abbrev pub Below : ℕ → List ℕ → Type 0
@@ -53,7 +57,7 @@ Below m (n ∷ l) = (n < m) × Below m l
 
 -- the line of each answer, the last line and the heading
 pub record Longest : Type 0 where
-  pub lines : (r : Row) (body : List ℕ) → Below (2 ^ 64) (placesOf r ++ partsOf body) → length (answerText r body) ≤ 132
+  pub lines : (r : Row) (body : List ℕ) → Below (2 ^ 64) (placesOf r) → ((i : ℕ) → getD body i 0 < 256) → length (answerText r body) ≤ 132
   pub lasts : (r : Row) → Below (2 ^ 64) (r .values) → length (lastOf r) ≤ 132
   pub heading : length headingText ≤ 132
 
@@ -87,6 +91,14 @@ PaperListing =
     listingOf (offer 1024 3 (freshOf 1024) paperStream ++ ask ∷ [])
     ≡ ascii "kind start end cmd sn flags payload\nframe 1 10 7 1 0 0\ncut 10 17 - - - -\nframe 15 25 7 243 0 0\nclean 25\n"
 
+-- ---- each-kind: a listing for each kind of line that the paper's example lacks
+pub record EachKind : Type 0 where
+  pub short : listingOf (give (0xFF ∷ 0xFF ∷ 0x00 ∷ 0x04 ∷ []) ∷ ask ∷ []) ≡ headingText ++ ascii "short 0 4 - - - -\nclean 4\n"
+  pub long : listingOf (give (0xFF ∷ 0xFF ∷ 0xFF ∷ 0x55 ∷ 0x00 ∷ []) ∷ ask ∷ []) ≡ headingText ++ ascii "long 1 5 - - - -\nclean 5\n"
+  pub stuff : listingOf (give (0xFF ∷ 0xFF ∷ 0x00 ∷ 0x05 ∷ 0x07 ∷ 0xFF ∷ 0x00 ∷ []) ∷ ask ∷ []) ≡ headingText ++ ascii "stuff 0 7 - - - -\nclean 7\n"
+  pub sum : listingOf (give (0xFF ∷ 0xFF ∷ 0x00 ∷ 0x05 ∷ 0x07 ∷ 0x01 ∷ 0x00 ∷ 0x00 ∷ 0x0E ∷ []) ∷ ask ∷ []) ≡ headingText ++ ascii "sum 0 9 - - - -\nclean 9\n"
+  pub left-open : listingOf (give (0xFF ∷ 0xFF ∷ 0xFF ∷ 0x00 ∷ 0x05 ∷ []) ∷ ask ∷ []) ≡ headingText ++ ascii "open 1\n"
+
 -- ---- each-listed: of every list of calls of a fresh reader, the lines' text is that of the table's lines over the bytes taken, in order: frame's claim
 -- `each-line` says that `linesOf` has them all, each once, nothing else
 
@@ -112,3 +124,38 @@ linesText (l ∷ ls) = lineText l ++ linesText ls
 -- of every list of calls
 abbrev pub EachListed : Type 0
 EachListed = (calls : List Call) → givenText (logOf 1024 (freshOf 1024) calls) ≡ linesText (linesOf (logOf 1024 (freshOf 1024) calls))
+
+-- ---- whole-listing: the bytes taken alone decide the listing, in whatever pieces they were given
+
+-- the text is the listing of the stream t: heading, the table's lines over t, and the last line
+pub record IsListing (t text : List ℕ) : Type 0 where
+  pub lines : List Line
+  pub answers : Answers 1024 t lines
+  pub left-open : (start : ℕ) → IsOpen 1024 t start → text ≡ headingText ++ (linesText lines ++ lastOf (row 16 (length t ∷ start ∷ [])))
+  pub left-clean : ((start : ℕ) → IsOpen 1024 t start → ⊥) → text ≡ headingText ++ (linesText lines ++ lastOf (row 2 (length t ∷ [])))
+
+-- the calls give bytes, and none asks the end
+abbrev pub OnlyGive : List Call → Type 0
+OnlyGive [] = Unit {0}
+OnlyGive (give bytes ∷ cs) = OnlyGive cs
+OnlyGive (ask ∷ cs) = ⊥
+
+-- of all calls that give bytes, with the end asked behind them
+abbrev pub WholeListing : Type 0
+WholeListing = (calls : List Call) → OnlyGive calls → IsListing (stream (logOf 1024 (freshOf 1024) calls)) (listingOf (calls ++ ask ∷ []))
+
+-- ---- one-listing: a stream has one listing
+abbrev pub OneListing : Type 0
+OneListing = (t a b : List ℕ) → IsListing t a → IsListing t b → a ≡ b
+
+-- ---- sent-listing: a sender that offers each piece until it is taken gets the listing of all its bytes, up to 2^62
+abbrev pub SentListing : Type 0
+SentListing =
+    (pieces : List (List ℕ)) → length (joined pieces) ≤ 2 ^ 62 → IsListing (joined pieces) (listingOf (send 1024 (freshOf 1024) pieces ++ ask ∷ []))
+
+-- ---- any-cut: the same bytes have the same listing, however they are cut: into calls that took them, or into pieces that are sent
+pub record AnyCut : Type 0 where
+  pub calls : (ps qs : List Call) → OnlyGive ps → OnlyGive qs → stream (logOf 1024 (freshOf 1024) ps) ≡ stream (logOf 1024 (freshOf 1024) qs)
+      → listingOf (ps ++ ask ∷ []) ≡ listingOf (qs ++ ask ∷ [])
+  pub pieces : (ps qs : List (List ℕ)) → joined ps ≡ joined qs → length (joined ps) ≤ 2 ^ 62
+      → listingOf (send 1024 (freshOf 1024) ps ++ ask ∷ []) ≡ listingOf (send 1024 (freshOf 1024) qs ++ ask ∷ [])
