@@ -63,11 +63,18 @@ pub sets-front : (vs l : List ℕ) → length vs ≤ length l → sets l 0 vs �
 sets-front vs l h = rw zero-add at (sets-eq vs l 0 (rw zero-add h))
 
 -- what is put, and more behind it, is their join put
+pub put-join : (out xs ys : List ℕ) (at : ℕ) {a b : List ℕ} {p q : ℕ}
+    → (p ≡ at + length xs) × (a ≡ sets out at xs)
+    → (q ≡ p + length ys) × (b ≡ sets a p ys)
+    → (q ≡ at + length (xs ++ ys)) × (b ≡ sets out at (xs ++ ys))
+put-join out xs ys at e f = (rw length-append (omega arith), rw sets-append (cc))
+
+-- the same of stuffed bytes
 put-append : (out xs ys : List ℕ) (at : ℕ) {a b : List ℕ} {p q : ℕ}
     → (p ≡ at + length (stuff xs)) × (a ≡ sets out at (stuff xs))
     → (q ≡ p + length (stuff ys)) × (b ≡ sets a p (stuff ys))
     → (q ≡ at + length (stuff (xs ++ ys))) × (b ≡ sets out at (stuff (xs ++ ys)))
-put-append out xs ys at e f = (rw (stuff-append, length-append) (omega arith), rw (stuff-append, sets-append) (cc))
+put-append out xs ys at e f = rw stuff-append (put-join out (stuff xs) (stuff ys) at e f)
 
 -- ---- three parts, one behind the other
 

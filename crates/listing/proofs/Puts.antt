@@ -39,15 +39,6 @@ module _ (out : List ℕ) (at n i : ℕ) (e : i + 1 ≡ at + length (decimalOf n
       let place : i ≡ at = omega (arith, count-last n h) in
       rw (place, decimal-last n h)
 
--- ---- one run of stores behind another
-
--- what is put, and more behind it, is their join put
-pub put-join : (out xs ys : List ℕ) (at : ℕ) {a b : List ℕ} {p q : ℕ}
-    → (p ≡ at + length xs) × (a ≡ sets out at xs)
-    → (q ≡ p + length ys) × (b ≡ sets a p ys)
-    → (q ≡ at + length (xs ++ ys)) × (b ≡ sets out at (xs ++ ys))
-put-join out xs ys at e f = (rw length-append (omega arith), rw sets-append (cc))
-
 -- ---- a text at the front of an output
 
 module _ (text out : List ℕ) where

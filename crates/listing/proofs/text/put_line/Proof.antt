@@ -6,9 +6,10 @@ use native.Mathlib.Nat.{zero-add}
 use native.Mathlib.Omega.{arith}
 use borrow.Author.Needs.{needs}
 use lib.ListN.{length, length-append}
+use Rattle.frame.proofs.Writing.{put-join}
 use Rattle.listing.specs.Decimal.{columnsOf}
 use Rattle.listing.specs.Lines.{textOf}
-use Rattle.listing.proofs.Puts.{put-join, too-long, fitting}
+use Rattle.listing.proofs.Puts.{too-long, fitting}
 use Rattle.listing.proofs.text.put_line.Statement.{statement}
 use Rattle.listing.proofs.text.put_line.Tie as tie
 
