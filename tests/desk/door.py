@@ -151,11 +151,9 @@ def play(live, steps):
 SILENT = ()  # no lines, and some time is spent on seeing that there are none
 
 
-def hung_up(found, name, end_line):
-    """Whether a run ended as it should when its terminal is hung up: the kernel gives an end of input or a read error."""
-    if found.status == 0:
-        return found.is_quiet(end_line.encode() + b"\n")
-    return found.is_refusal(name, "Input/output error", status=1)
+def hung_up(found, end_line):
+    """Whether a run ended as it should when its terminal is hung up; the kernel gives an end of input or a read error, and both are the end."""
+    return found.is_quiet(end_line.encode() + b"\n")
 
 
 def terminal(raw):

@@ -103,16 +103,16 @@ def terminal_as_input(test, door, name, steps, end):
         test(name, not wrong, wrong)
         live.close_wire()
         found = live.ended()
-        test(f"{name}, its hangup", hung_up(found, "standard input", end), str(found))
+        test(f"{name}, its hangup", hung_up(found, end), str(found))
 
 
 def listen(test, door, name, steps, end):
     master, slave, device = terminal(raw=False)
+    os.close(slave)
     with Live([door, "listen", device], wire=master) as live:
         # The heading is the first step.
         wrong = play(live, steps[:1])
-        settings = wrong or unlike_a_wire(termios.tcgetattr(slave))
-        os.close(slave)
+        settings = wrong or unlike_a_wire(settings_of(device))
         test(f"{name}, its settings", not settings, settings)
         wrong = wrong or play(live, steps[1:])
         test(name, not wrong, wrong)
@@ -120,7 +120,15 @@ def listen(test, door, name, steps, end):
         test(f"{name}, nothing is sent back", not echoed)
         live.close_wire()
         found = live.ended()
-        test(f"{name}, its hangup", hung_up(found, device, end), str(found))
+        test(f"{name}, its hangup", hung_up(found, end), str(found))
+
+
+def settings_of(device):
+    opened = os.open(device, os.O_RDONLY | os.O_NOCTTY)
+    try:
+        return termios.tcgetattr(opened)
+    finally:
+        os.close(opened)
 
 
 def unlike_a_wire(settings):
@@ -152,7 +160,7 @@ def session_leader(test, door):
         os.close(slave)
         live.close_wire()
         found = live.ended()
-        test("a session of its own", not wrong and hung_up(found, device, "clean 10"), wrong or str(found))
+        test("a session of its own", not wrong and hung_up(found, "clean 10"), wrong or str(found))
 
 
 # Signals: the run ends at once, and the program behind the front door with it.

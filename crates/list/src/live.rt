@@ -2,6 +2,7 @@
 use super::waiting::add_line;
 use super::waiting::flush;
 use frame::Reader;
+use libc::EIO;
 use libc::STDERR_FILENO;
 use libc::STDIN_FILENO;
 ghost use Prim.Native.Nat.{_≤_};
@@ -64,23 +65,38 @@ fn last(reader: Reader, out: &mut [u8]) {
     flush(out, count);
 }
 
-// One read, whatever it gives; the input's end and a read that fails end the listing.
-fn one_read(reader: Reader, input: &mut [u8], out: &mut [u8]) -> Turn {
+// The input's end.
+fn end(reader: Reader, out: &mut [u8]) -> Turn {
+    last(reader, out);
+    Turn {
+        reader,
+        goes_on: false,
+    }
+}
+
+// A read that failed. A serial line that is hung up fails with EIO where it might as well end, and is taken to end.
+fn broken(reader: Reader, is_line: bool, out: &mut [u8]) -> Turn {
+    if is_line {
+        if os::errno() == EIO {
+            return end(reader, out);
+        }
+    }
+    os::fail(b"standard input");
+    Turn {
+        reader,
+        goes_on: false,
+    }
+}
+
+// One read, whatever it gives.
+fn one_read(reader: Reader, is_line: bool, input: &mut [u8], out: &mut [u8]) -> Turn {
     let got = libc::read(STDIN_FILENO, input);
     if got < 0 {
-        os::fail(b"standard input");
-        return Turn {
-            reader,
-            goes_on: false,
-        };
+        return broken(reader, is_line, out);
     }
     let n = io::count(got, input);
     if n == 0 {
-        last(reader, out);
-        return Turn {
-            reader,
-            goes_on: false,
-        };
+        return end(reader, out);
     }
     feed_all(reader, &input[..n], out)
 }
@@ -90,10 +106,11 @@ pub(crate) fn list(input: &mut [u8], out: &mut [u8]) {
     if !heading(out) {
         return;
     }
+    let is_line = libc::isatty(STDIN_FILENO) == 1;
     let mut reader = Reader::new();
     let mut turns = u64::MAX;
     while turns > 0 {
-        let t = one_read(reader, input, out);
+        let t = one_read(reader, is_line, input, out);
         if !t.goes_on {
             return;
         }

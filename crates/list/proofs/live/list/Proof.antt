@@ -6,10 +6,10 @@ use Rattle.list.proofs.live.list.Statement.{statement}
 use Rattle.list.proofs.live.list.Tie as tie
 
 abbrev Inv-loop : tie.InvT-loop
-Inv-loop input₀ out₀ reader₀ turns₀ input out reader turns = (length input ≡ length input₀) × (length out ≡ length out₀)
+Inv-loop input₀ out₀ is-line reader₀ turns₀ input out reader turns = (length input ≡ length input₀) × (length out ≡ length out₀)
 
 abbrev μ-loop : tie.MeasureT-loop
-μ-loop input₀ out₀ reader₀ turns₀ input out reader turns = turns
+μ-loop input₀ out₀ is-line reader₀ turns₀ input out reader turns = turns
 
 pub list-spec : {M : Type 1} → statement M
 list-spec =
@@ -17,6 +17,6 @@ list-spec =
     (tie.spec
     Inv-loop
     μ-loop
-    (λ c κs. search needs) (λ c. search needs) (λ c. search needs) (λ c κs. search needs) (λ c. search needs) (λ c κs. search needs)
+    (λ c κs. search needs) (λ c. search needs) (λ c. search needs) (λ c κs. search needs) (λ c κs. search needs) (λ c. search needs) (λ c κs. search needs)
     (λ c. search needs) (λ c. search needs) (λ c. search needs) (λ c. search needs) (λ c. search needs) (λ c. search needs)
     (λ c. search needs) (λ c. search needs) (λ c. search needs))
