@@ -10,7 +10,7 @@
 
 #include "trogonreed.h"
 
-enum { REPORT = 0x05, REPORT_STATUS = 0x04, STATUS_SIZE = 9 };
+enum { REPORT = 0x05, REPORT_STATUS = 0x04, REPORT_SIZE = 9 };
 enum { FEEDING = 1 << 0, GATHER = 1 << 2 };
 
 struct status {
@@ -21,7 +21,7 @@ struct status {
 };
 
 /* A report's payload: its first byte, then the status; numbers are big-endian. */
-static void put_status(const struct status *status, uint8_t payload[STATUS_SIZE])
+static void put_report(const struct status *status, uint8_t payload[REPORT_SIZE])
 {
     payload[0] = REPORT_STATUS;
     payload[1] = status->bits;
@@ -50,11 +50,11 @@ int main(void)
 {
     const struct status status = {FEEDING | GATHER, 3, 255, 0};
     const uint8_t number = 2;
-    uint8_t payload[STATUS_SIZE];
+    uint8_t payload[REPORT_SIZE];
     uint8_t frame[TROGONREED_MAX_FRAME];
     uint32_t count, i;
 
-    put_status(&status, payload);
+    put_report(&status, payload);
     count = trogonreed_write_frame(REPORT, number, 0, payload, sizeof payload, frame, sizeof frame);
     if (trogonreed_is_refused(count)) {
         fprintf(stderr, "refused: %s\n", refusal(count));

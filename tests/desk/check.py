@@ -161,9 +161,9 @@ def broken_ends(door, room):
     data = model.wire(7, 1)
     with open("/dev/full", "wb") as full:
         found = door("list", data=data, stdout=full)
-    test("standard output is full", found.status is not None and found.err == b"", str(found))
+    test("standard output is full", (found.status, found.err) == (0, b""), str(found))
     found = run(["sh", "-c", '"$0" list >&-', door.path], data=data)
-    test("standard output is closed", found.status is not None and found.err == b"", str(found))
+    test("standard output is closed", (found.status, found.err) == (0, b""), str(found))
     unread(door, "nobody reads the listing any more", data)
     ignores = {"preexec_fn": lambda: signal.signal(signal.SIGPIPE, signal.SIG_IGN), "restore_signals": False}
     unread(door, "the same where the signal of a broken pipe is ignored", data, **ignores)
@@ -191,8 +191,8 @@ def command_line(door, room):
     words = [b"list [FILE]", b"listen DEVICE", b"--help"]
     test("--help", usage.status == 0 and usage.err == b"" and all(word in usage.out for word in words), str(usage))
     test("--help fits a terminal of 80 columns", max(map(len, usage.out.splitlines())) <= 80)
-    for word in ("-h", "help"):
-        found = door(word)
+    for word in ("-h", "help", "list --help", "listen --help"):
+        found = door(*word.split())
         test(f"{word} is --help", (found.status, found.out, found.err) == (0, usage.out, b""), str(found))
 
     (room / "plain").write_bytes(b"")
@@ -200,6 +200,7 @@ def command_line(door, room):
     refused = [
         ("no words", [], "usage", "list [FILE]", "listen DEVICE"),
         ("an unknown word", ["lost"], "lost", "--help"),
+        ("a word behind --help", ["--help", "list"], "--help"),
         ("an empty word", [""], "--help"),
         ("an unknown option", ["--lost"], "--lost"),
         ("an unknown option of list", ["list", "--lost"], "--lost"),

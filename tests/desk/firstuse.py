@@ -10,6 +10,7 @@ from door import PATIENCE, Live, is_line, run
 
 SOURCES = ["crates.txt", "crates/frame/src/lib.rt", "crates/listing/specs/Lines.antt", "crates/list/src/main.rt"]
 OTHER_SOURCE = "crates/message/src/lib.rt"
+NO_SOURCES = ["crates/frame/must-fail/fault.edit", "crates/list/stdout"]  # in the folders of sources
 TOOLS = "sh cat cp dirname find flock mkdir mktemp readlink rm rmdir sleep stty touch tr".split()
 STREAM = model.wire(7, 1)
 LISTING = model.listing(STREAM).encode()
@@ -128,6 +129,9 @@ def rebuilds(test, fresh):
             fresh.tries(test, f"{name} is {what}: built again", [BUILDING], 1, True)
             fresh.tries(test, f"{name} was {what}: not again", [], 0, True)
     os.utime(fresh.place / OTHER_SOURCE)
+    for name in NO_SOURCES:
+        (fresh.place / name).parent.mkdir(exist_ok=True)
+        (fresh.place / name).write_text("")
     fresh.tries(test, "what it is not made of is newer: not again", [], 0, True)
     make_older(fresh.place, 1000)
     os.utime(fresh.place / SOURCES[0], (time.time() - 500,) * 2)

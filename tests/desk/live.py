@@ -1,6 +1,7 @@
 """The wire while it is live: each line comes at its deciding byte, before any further byte is sent."""
 import fcntl
 import itertools
+import itertools
 import os
 import random
 import select
@@ -166,32 +167,45 @@ def session_leader(test, door):
 # Signals: the run ends at once, and the program behind the front door with it.
 
 
-def signals(test, door):
-    for word in ("SIGINT", "SIGTERM", "SIGHUP", "SIGQUIT"):
-        number = getattr(signal, word)
-        for who, send in [("the front door", os.kill), ("all of the run, as by a terminal", os.killpg)]:
-            with Live([door, "list"], start_new_session=True) as live:
-                live.line()
-                program = child_of(live.process.pid)
-                send(live.process.pid, number)
-                found = live.ended()
-                # Some shells ignore SIGQUIT themselves; the front door then ends with status 1.
-                ends = (-number, 1) if number == signal.SIGQUIT else (-number,)
-                test(f"{word} to {who}", found.status in ends and found.out + found.err == b"", str(found))
-                test(f"{word} to {who} ends the program", program and not os.path.exists(f"/proc/{program}"))
-    control_c(test, door)
+def ends_by(test, door, word, who, send):
+    """A signal to the front door, or to all of the run, ends both it and the program at once."""
+    number = getattr(signal, word)
     with Live([door, "list"], start_new_session=True) as live:
-        for number in (signal.SIGSTOP, signal.SIGCONT):
-            os.killpg(live.process.pid, number)
+        live.line()
+        program = child_of(live.process.pid)
+        send(live.process.pid, number)
+        found = live.ended()
+        # Some shells ignore SIGQUIT themselves; the front door then ends with status 1.
+        ends = (-number, 1) if number == signal.SIGQUIT else (-number,)
+        test(f"{word} to {who}", found.status in ends and found.out + found.err == b"", str(found))
+        test(f"{word} to {who} ends the program", program and not os.path.exists(f"/proc/{program}"))
+
+
+def stopped(test, door):
+    with Live([door, "list"], start_new_session=True) as live:
+        os.killpg(live.process.pid, signal.SIGSTOP)
+        os.killpg(live.process.pid, signal.SIGCONT)
         wrong = play(live, stated_steps()[:3])
         live.close_wire()
         found = live.ended()
         test("a run that was stopped goes on", not wrong and found.is_quiet(b"clean 10\n"), wrong or str(found))
+
+
+def dies(test, door):
     with Live([door, "list"]) as live:
         live.line()
         os.kill(child_of(live.process.pid), signal.SIGSEGV)
         found = live.ended()
         test("a program that dies is reported", found.status == 1 and found.out == b"" and is_line(found.err), str(found))
+
+
+def signals(test, door):
+    receivers = [("the front door", os.kill), ("all of the run, as by a terminal", os.killpg)]
+    for word, receiver in itertools.product(("SIGINT", "SIGTERM", "SIGHUP", "SIGQUIT"), receivers):
+        ends_by(test, door, word, *receiver)
+    control_c(test, door)
+    stopped(test, door)
+    dies(test, door)
 
 
 def control_c(test, door):

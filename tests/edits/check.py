@@ -4,6 +4,7 @@ An edit is tried over the crate's incremental folder, in seconds where a check f
 same folder proves the crate without the edit first. Edits that only a claim refuses stand in crates/NAME/must-fail and are tried from nothing.
 """
 import concurrent.futures
+import itertools
 import pathlib
 import re
 import shutil
@@ -45,6 +46,11 @@ def edited(crate, edit):
     return texts
 
 
+def write(crate, texts):
+    for file, text in texts.items():
+        (crate / file).write_text(text, encoding="utf-8")
+
+
 def prove(room, name):
     """What the quick check says, and whether it proved the crate, refused it, or neither."""
     done = subprocess.run(["rt", "dev", name], cwd=room, capture_output=True, text=True, timeout=PATIENCE)
@@ -67,12 +73,10 @@ def wrong_with(room, name, edit):
         texts = edited(crate, edit)
     except (OSError, ValueError) as error:
         return str(error), ""
-    kept = {file: (crate / file).read_bytes() for file in texts}
-    for file, text in texts.items():
-        (crate / file).write_text(text, encoding="utf-8")
+    kept = {file: (crate / file).read_text(encoding="utf-8") for file in texts}
+    write(crate, texts)
     said, verdict = prove(room, name)
-    for file, text in kept.items():
-        (crate / file).write_bytes(text)
+    write(crate, kept)
     if verdict != "refused":
         return f"it is {verdict}, and must be refused: {said[-300:]}", ""
     error = first_error(said)
@@ -105,11 +109,10 @@ def main():
     # The crates that take longest come first, so that both cores are busy to the end.
     names = sorted((d.name for d in HERE.iterdir() if any(d.glob("*.edit"))), key=lambda n: -len(list((ROOT / "crates" / n / "proofs").rglob("*.antt"))))
     with concurrent.futures.ThreadPoolExecutor(2) as pool:
-        for results in pool.map(try_crate, names):
-            for what, wrong, line in results:
-                checks.test(what, not wrong, wrong)
-                if not wrong:
-                    checks.say(f"{what}: {line}")
+        for what, wrong, line in itertools.chain.from_iterable(pool.map(try_crate, names)):
+            checks.test(what, not wrong, wrong)
+            if not wrong:
+                checks.say(f"{what}: {line}")
     checks.test("there are edits to try", bool(names))
     return checks.end()
 

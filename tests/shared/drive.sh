@@ -1,11 +1,11 @@
-# For the run of a test driver to source: check.py stands beside that run, two folders below the root.
+# For the run of a test to source: it stands two folders below the root, with its driver, check.py, beside it if it has one.
 here=$(cd "$(dirname "$0")" && pwd)
 root=$here/../..
 
-# Runs check.py and returns its status.
-drive() { # WORD..
+# Runs a driver and returns its status; whatever becomes of it, the last line is a count.
+score() { # COMMAND..
     local said status
-    said=$(python3 -B "$here/check.py" "$@" 2>&1)
+    said=$("$@" 2>&1)
     status=$?
     echo "$said"
     # A run that dies half way has no last line of its own.
@@ -16,8 +16,18 @@ drive() { # WORD..
     return "$status"
 }
 
+# The driver that stands beside the run.
+drive() { # WORD..
+    score python3 -B "$here/check.py" "$@"
+}
+
 # The same on a program and what is stored of it.
 drive_program() { # NAME [SEED [COUNT]]
     local stored=$root/crates/$1
     drive "$root/target/bin/$1" "$stored/stdin" "$stored/stdout" "${@:2}"
+}
+
+# Builds or tests the second implementation, which is quiet unless that fails.
+second() { # build|test
+    cargo "$1" --quiet --release --offline --manifest-path "$root/tests/second/Cargo.toml" --target-dir "$root/target/second"
 }
