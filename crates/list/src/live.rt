@@ -5,8 +5,6 @@ use frame::Reader;
 use libc::EIO;
 use libc::STDERR_FILENO;
 use libc::STDIN_FILENO;
-ghost use Prim.Native.Nat.{_≤_};
-ghost use lib.ListN.{length};
 
 // The reader after some bytes, and whether to go on.
 struct Turn {

@@ -5,15 +5,15 @@ use mathlib.Core.Bool.{Bool, true, false, cond}
 use mathlib.Core.List.{List, [], _∷_, _++_, List·Memᴰ, List·Memᴰ·head, List·Memᴰ·tail}
 use native.Mathlib.Omega.{arith}
 use borrow.Author.Tests.{eqb-true}
-use lib.ListN.{length, getD, take, drop, length-take, length-drop}
+use lib.ListN.{length, getD, length-take, length-drop}
 use lib.Seq.{getD-take}
 use lib.Dec.{eqb}
-use Rattle.frame.specs.Wire.{lengthOf, commandOf, numberOf, flagsOf, payloadOf}
+use Rattle.frame.specs.Wire.{lengthOf, payloadOf}
 use Rattle.frame.specs.Frames.{frontBody}
 use Rattle.frame.specs.Table.{Row}
 use Rattle.frame.specs.Rules.{inRangeOf}
 use Rattle.frame.specs.Calls.{Reply, endingRow, freshOf, feedOf, finishOf}
-use Rattle.frame.specs.Logs.{Call, give, ask, callOf, Entry, logOf, decided}
+use Rattle.frame.specs.Logs.{Call, give, ask, Entry, logOf, decided}
 use Rattle.frame.specs.Lines.{Line, Decides, is-frame, is-short, is-long, is-stuff, is-cut, is-sum, linesOf, heldUnder, lineOf as lineIn}
 use Rattle.frame.specs.declared.scan.Phase.{Phase}
 use Rattle.frame.specs.declared.scan.Phase.the-variants.{Idle, Half, Header, Open, Escape}

@@ -5,7 +5,7 @@ use mathlib.Core.List.{List, [], _∷_, _++_, append-nil, append-assoc, List·Me
 use mathlib.Core.Logic.{⊎-elim}
 use native.Mathlib.Nat.{div-add-mod', mod-lt}
 use native.Mathlib.Omega.{arith}
-use lib.ListN.{length, getD, length-append}
+use lib.ListN.{getD, length-append}
 use Rattle.listing.specs.Decimal.{digit, decimalOf}
 use Rattle.listing.specs.Claims.{valueFrom, IsDigit, DecimalText, DecimalTexts, OneDecimal}
 use Rattle.listing.proofs.Digits.{by-size, tenth, decimal-last, decimal-more}

@@ -14,7 +14,7 @@ use Rattle.frame.specs.declared.reader.Reader.{Reader}
 use Rattle.frame.proofs.Sender.{sent-whole}
 use Rattle.frame.proofs.Lines.{each-line, end-told}
 use Rattle.listing.specs.Lines.{headingText, answerText, lastOf}
-use Rattle.listing.specs.Claims.{textsOf, givenText, linesText, listingOf, IsListing, OnlyGive, WholeListing, OneListing, AnyCut, SentListing}
+use Rattle.listing.specs.Claims.{textsOf, givenText, linesText, listingOf, OnlyGive, WholeListing, OneListing, AnyCut, SentListing}
 use Rattle.listing.proofs.Listed.{each-listed}
 
 -- ---- the listing of calls that give bytes, and the end asked behind them

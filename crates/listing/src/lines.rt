@@ -8,7 +8,7 @@ ghost use mathlib.Core.Path.{_≡_};
 ghost use mathlib.Core.List.{[], _∷_, _++_};
 ghost use Prim.Native.Nat.{_≤_};
 ghost use lib.ListN.{length};
-ghost use Rattle.frame.specs.Table.{row, rowOf, endRowOf};
+ghost use Rattle.frame.specs.Table.{rowOf, endRowOf};
 ghost use Rattle.frame.specs.Calls.{outcome};
 ghost use Rattle.listing.specs.Lines.{ascii, textOf, partsOf, headingText, answerText, lastOf};
 ghost use Rattle.listing.specs.Table.{linedRowOf};
