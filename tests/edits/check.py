@@ -37,6 +37,8 @@ def edited(crate, edit):
     """The texts of the files that an edit changes; each old text has to be there once."""
     texts = {}
     for file, old, new in replacements(edit):
+        if not (file or "").startswith("src/"):
+            raise ValueError(f"it changes {file}, which is not code")
         text = texts.get(file) or (crate / file).read_text(encoding="utf-8")
         if not old or text.count(old) != 1:
             raise ValueError(f"an old text is not in {file} once: {old}")
