@@ -9,6 +9,7 @@ pub mod Counts
 pub mod Here
 pub mod Skip
 pub mod Listed
+pub mod Rising
 pub mod Unique
 pub mod Bodies
 pub mod Moves

@@ -1,8 +1,8 @@
 -- whole-listing, one-listing, sent-listing, any-cut: the bytes taken alone decide the listing. Assumes nothing.
 use Prim.Native.Nat.{ℕ, zero, suc, _+_, _^_, _≤_}
-use mathlib.Core.Path.{_≡_, refl, sym, ap, _∙_}
-use mathlib.Core.Logic.{_⊎_, inl, inr, Dec·not-not}
-use mathlib.Core.List.{List, [], _∷_, _++_, append-nil, append-assoc, List-discrete, List·Memᴰ, List·Memᴰ·head, List·Memᴰ·tail, List·Memᴰ·not-nil, List·Memᴰ·cases-cons}
+use mathlib.Core.Path.{_≡_, sym, ap, _∙_}
+use mathlib.Core.Logic.{Dec·not-not}
+use mathlib.Core.List.{List, [], _∷_, _++_, append-nil, append-assoc, List-discrete}
 use native.Mathlib.Decide.{ℕ-discrete}
 use native.Mathlib.Omega.{arith}
 use lib.ListN.{length, drop}
@@ -11,6 +11,7 @@ use Rattle.frame.specs.Calls.{Reply, freshOf, feedOf, finishOf}
 use Rattle.frame.specs.Logs.{Call, give, ask, logOf, readerAfter, stream, offer, send, joined}
 use Rattle.frame.specs.Lines.{Line, LinesFrom, Answers, linesOf, IsOpen}
 use Rattle.frame.specs.declared.reader.Reader.{Reader}
+use Rattle.frame.proofs.Rising.{RisingFrom, same-members}
 use Rattle.frame.proofs.Sender.{sent-whole}
 use Rattle.frame.proofs.Lines.{each-line, end-told}
 use Rattle.listing.specs.Lines.{headingText, answerText, lastOf}
@@ -51,54 +52,18 @@ whole-listing calls h =
 
 -- ---- a stream has one list of lines
 
--- each starts where the first may, or later
-rising-from : (m : ℕ) (ls : List Line) (l : Line) → LinesFrom m ls → List·Memᴰ l ls → m ≤ l .start
-rising-from m [] l h k = absurd (List·Memᴰ·not-nil k)
-rising-from m (g ∷ ls) l h k = go (List·Memᴰ·cases-cons k) (λ w. rising-from (g .start + 1) ls l (h .1) w)
-  where
-    go : (l ≡ g) ⊎ List·Memᴰ l ls → (List·Memᴰ l ls → g .start + 1 ≤ l .start) → m ≤ l .start
-    go (inl e) later = rw e (h .0)
-    go (inr w) later = omega (arith, later w, h .0)
+-- where a line starts
+abbrev startOf : Line → ℕ
+startOf l = l .start
 
--- what is in a list and is not its first is behind it
-behind-first : (y : Line) (r : List Line) (l : Line) → List·Memᴰ l (y ∷ r) → (l ≡ y → ⊥) → List·Memᴰ l r
-behind-first y r l k other = go (List·Memᴰ·cases-cons k)
-  where
-    go : (l ≡ y) ⊎ List·Memᴰ l r → List·Memᴰ l r
-    go (inl e) = absurd (other e)
-    go (inr w) = w
+-- they rise, in the words of the law
+lines-rise : (m : ℕ) (ls : List Line) → LinesFrom m ls → RisingFrom startOf m ls
+lines-rise m [] h = tt
+lines-rise m (l ∷ ls) h = (h .0, lines-rise (l .start + 1) ls (h .1))
 
--- two lists by rising start with the same lines are the same
-same-lines : (m n : ℕ) (a b : List Line) → LinesFrom m a → LinesFrom n b
-    → ((l : Line) → List·Memᴰ l a → List·Memᴰ l b) → ((l : Line) → List·Memᴰ l b → List·Memᴰ l a) → a ≡ b
-same-lines m n [] [] p q to fro = refl
-same-lines m n [] (g ∷ b) p q to fro = absurd (List·Memᴰ·not-nil (fro g (List·Memᴰ·head refl)))
-same-lines m n (f ∷ a) [] p q to fro = absurd (List·Memᴰ·not-nil (to f (List·Memᴰ·head refl)))
-same-lines m n (f ∷ a) (g ∷ b) p q to fro =
-    cc (
-      same,
-      same-lines (f .start + 1) (g .start + 1) a b (p .1) (q .1)
-          (λ l k. behind-first g b l (to l (List·Memᴰ·tail k)) (λ e. later f a l (p .1) k (e ∙ sym same)))
-          (λ l k. behind-first f a l (fro l (List·Memᴰ·tail k)) (λ e. later g b l (q .1) k (e ∙ same))),
-    )
-  where
-    later : (y : Line) (r : List Line) (l : Line) → LinesFrom (y .start + 1) r → List·Memᴰ l r → l ≡ y → ⊥
-    later y r l h k e =
-        let at : l .start ≡ y .start = ap (λ (x : Line). x .start) e in
-        omega (arith, rising-from (y .start + 1) r l h k)
-
-    same : f ≡ g
-    same = go (List·Memᴰ·cases-cons (to f (List·Memᴰ·head refl))) (List·Memᴰ·cases-cons (fro g (List·Memᴰ·head refl)))
-      where
-        go : (f ≡ g) ⊎ List·Memᴰ f b → (g ≡ f) ⊎ List·Memᴰ g a → f ≡ g
-        go (inl e) w = e
-        go (inr k) (inl e) = sym e
-        go (inr k) (inr w) = absurd (omega (arith, rising-from (g .start + 1) b f (q .1) k, rising-from (f .start + 1) a g (p .1) w))
-
--- so all lines of a stream are one list
 one-lines : (limit : ℕ) (t : List ℕ) (a b : List Line) → Answers limit t a → Answers limit t b → a ≡ b
 one-lines limit t a b p q =
-    same-lines 0 0 a b (p .rising) (q .rising) (λ l k. q .complete l (p .sound l k)) (λ l k. p .complete l (q .sound l k))
+    same-members startOf 0 0 a b (lines-rise 0 a (p .rising)) (lines-rise 0 b (q .rising)) (λ l k. q .complete l (p .sound l k)) (λ l k. p .complete l (q .sound l k))
 
 -- ---- a stream has one listing
 
