@@ -2,9 +2,11 @@
 use mathlib.Core.Path.{_≡_, refl}
 use mathlib.Core.Logic.{_⊎_, inl, inr}
 use mathlib.Core.List.{List, [], _∷_, map, List·Memᴰ, List·Memᴰ·not-nil, List·Memᴰ·cases-cons}
-use Rattle.frame.specs.Wire.{stuff, total, bodyOf}
+use Rattle.frame.specs.Wire.{stuff, bodyOf}
+use Rattle.base.specs.Sums.{total}
 use Rattle.frame.specs.Calls.{zeros, runOf}
-use Rattle.message.specs.Commands.{among, kindIn, fits, sizeFits}
+use Rattle.base.specs.Keys.{among}
+use Rattle.message.specs.Commands.{kindIn, fits, sizeFits}
 use Rattle.examples.specs.Examples.{Example, Answer, answerTo, examples, CountedExamples}
 
 -- what an entry is answered, and what it states

@@ -9,8 +9,9 @@ use lib.ListN.{replicate}
 use lib.Dec.{eqb}
 use Rattle.frame.specs.Wire.{commandOf, numberOf, flagsOf, payloadOf}
 use Rattle.frame.specs.Frames.{frontBody}
-use Rattle.frame.specs.Table.{Row, row}
-use Rattle.frame.specs.Calls.{Reply, Write, zeros, freshOf, feedOf, writeOf}
+use Rattle.base.specs.Rows.{Row, row}
+use Rattle.frame.specs.Calls.{Reply, zeros, freshOf, feedOf, writeOf}
+use Rattle.base.specs.Outcomes.{Write}
 use Rattle.message.specs.Reading.{readOf}
 use Rattle.message.specs.Writing.{sendOf}
 use Rattle.message.specs.declared.values.Message.{Message}

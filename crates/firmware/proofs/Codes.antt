@@ -7,9 +7,9 @@ use borrow.Author.Tests.{ltb-false, lt-ltb, le-ltb}
 use lib.Dec.{ltb}
 use lib.ListN.{length}
 use Rattle.frame.specs.Wire.{bodyOf}
-use Rattle.frame.specs.Table.{row}
-use Rattle.frame.specs.Calls.{Write, outcome, onto}
-use Rattle.frame.proofs.Cases.{by-test}
+use Rattle.base.specs.Rows.{row}
+use Rattle.base.specs.Outcomes.{Write, outcome, onto}
+use Rattle.base.proofs.Tests.{by-test}
 use Rattle.frame.proofs.Stuffing.{stuffed-form}
 use Rattle.frame.proofs.Round.{made-good}
 use Rattle.firmware.specs.Code.{refused, countIn, codeOf, rowFrom}

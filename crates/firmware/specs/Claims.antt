@@ -4,7 +4,8 @@ use mathlib.Core.Path.{_≡_}
 use mathlib.Core.List.{List}
 use lib.ListN.{length}
 use Rattle.frame.specs.Wire.{wire, bodyOf}
-use Rattle.frame.specs.Calls.{Write, writeOf}
+use Rattle.base.specs.Outcomes.{Write}
+use Rattle.frame.specs.Calls.{writeOf}
 use Rattle.firmware.specs.Code.{refused, countIn, codeOf, rowFrom}
 
 -- what one call is given

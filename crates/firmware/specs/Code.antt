@@ -4,8 +4,8 @@ use mathlib.Core.Bool.{cond}
 use mathlib.Core.List.{List, [], _∷_}
 use lib.ListN.{getD}
 use lib.Dec.{eqb, ltb}
-use Rattle.frame.specs.Table.{Row, row}
-use Rattle.frame.specs.Calls.{Write}
+use Rattle.base.specs.Rows.{Row, row}
+use Rattle.base.specs.Outcomes.{Write}
 
 -- "there a refusal is 65,536 plus its number"
 abbrev pub refused : ℕ

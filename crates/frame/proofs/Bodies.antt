@@ -10,7 +10,8 @@ use lib.ListN.{length, getD, take, set, length-append, List·getD-append}
 use lib.Seq.{take-suc-set, getD-at, getD-take, take-at, length-take-le}
 use lib.Dec.{eqb, ltb}
 use borrow.Author.Tests.{eqb-true, eqb-false, eq-eqb, ne-eqb, ltb-true, ltb-false, lt-ltb, le-ltb}
-use Rattle.frame.specs.Wire.{lengthOf, total, checksum, Good}
+use Rattle.frame.specs.Wire.{lengthOf, Good}
+use Rattle.base.specs.Sums.{total, checksum}
 use Rattle.frame.specs.Frames.{frontBody}
 use Rattle.frame.specs.Lines.{Unfinished}
 use Rattle.frame.specs.Rules.{grownOf, endedOf, completedOf, bodyByteOf}
@@ -18,8 +19,8 @@ use Rattle.frame.specs.declared.scan.Event.{Event}
 use Rattle.frame.specs.declared.scan.Event.the-variants.{Quiet, Frame, Short, Long, Stuff, Cut, Sum}
 use Rattle.frame.specs.declared.scan.Scan.{Scan}
 use Rattle.frame.specs.declared.scan.Step.{Step}
-use Rattle.frame.proofs.Cases.{by-test}
-use Rattle.frame.proofs.Sums.{checksum-snoc}
+use Rattle.base.proofs.Tests.{by-test}
+use Rattle.base.proofs.Sums.{checksum-snoc}
 use Rattle.frame.proofs.Here.{lengthOf-append}
 
 -- h, l and m are the place in the body, the length and the sum of a body that is begun with b and not complete

@@ -2,20 +2,18 @@
 use Prim.Native.Nat.{ℕ, _+_, _^_, _≤_}
 use mathlib.Core.Path.{_≡_, refl}
 use mathlib.Core.List.{List, [], _∷_}
-use mathlib.Core.Bool.{true}
 use native.Mathlib.Omega.{arith}
 use lib.ListN.{length}
 use lib.Dec.{leb}
 use borrow.Author.Tests.{le-leb, leb-true}
 use Rattle.frame.specs.Table.{countOf}
 use Rattle.frame.specs.Rules.{advanceOf, decidesOf, inRangeOf}
-use Rattle.frame.specs.Calls.{Reply, eventRow, nextOf, runOf, feedOf}
+use Rattle.frame.specs.Calls.{Reply, eventRow, nextOf, runOf}
 use Rattle.frame.specs.declared.scan.Event.{Event}
 use Rattle.frame.specs.declared.scan.Event.the-variants.{Quiet, Frame, Short, Long, Stuff, Cut, Sum}
 use Rattle.frame.specs.declared.reader.Reader.{Reader}
 use Rattle.frame.specs.Claims.{Within, Progress, EmptyCall}
-use Rattle.frame.proofs.Cases.{by-test}
-use Rattle.frame.proofs.Steps.{both}
+use Rattle.base.proofs.Tests.{by-test, both}
 
 pub count-event : (e : Event) (n s p : ℕ) → countOf (eventRow e n s p) ≡ n
 count-event Quiet n s p = refl

@@ -6,7 +6,8 @@ use mathlib.Core.Bool.{Bool, true, false, cond, true≢false}
 use native.Mathlib.Omega.{arith}
 use lib.ListN.{length, take}
 use lib.Dec.{leb}
-use Rattle.frame.specs.Table.{Row, countOf}
+use Rattle.base.specs.Rows.{Row}
+use Rattle.frame.specs.Table.{countOf}
 use Rattle.frame.specs.Rules.{advanceOf, decidesOf, inRangeOf}
 use Rattle.frame.specs.Calls.{Reply, reply, nextOf, eventRow, endingRow, runOf}
 use Rattle.frame.specs.Logs.{Call, give, ask, callOf, logOf, readerAfter, offered, stream}
@@ -16,7 +17,7 @@ use Rattle.frame.specs.declared.scan.Phase.the-variants.{Idle, Half, Hea
 use Rattle.frame.specs.declared.scan.Event.{Event}
 use Rattle.frame.specs.declared.scan.Event.the-variants.{Quiet, Frame, Short, Long, Stuff, Cut, Sum}
 use Rattle.frame.specs.declared.reader.Reader.{Reader}
-use Rattle.frame.proofs.Cases.{by-test}
+use Rattle.base.proofs.Tests.{by-test}
 use Rattle.frame.proofs.Counts.{count-event}
 use Rattle.frame.proofs.Moves.{Inv, moves}
 use Rattle.frame.proofs.Logged.{entry}

@@ -21,7 +21,7 @@ use Rattle.frame.specs.declared.scan.Event.the-variants.{Quiet, Frame, S
 use Rattle.frame.specs.declared.scan.Scan.{Scan}
 use Rattle.frame.specs.declared.scan.Step.{Step}
 use Rattle.frame.specs.declared.reader.Reader.{Reader}
-use Rattle.frame.proofs.Cases.{by-test}
+use Rattle.base.proofs.Tests.{by-test}
 use Rattle.frame.proofs.Bodies.{Partial, partial-none, first-on, Ends, body-cases}
 use Rattle.frame.proofs.Moves.{held, pending, originIn, Inv, InvIn, moves}
 use Rattle.frame.proofs.Fold.{lineAt, afterAll, saidAll, after-append, said-append, folded, kept}

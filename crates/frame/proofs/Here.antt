@@ -9,20 +9,18 @@ use lib.ListN.{length, getD, take, drop, List·getD-append}
 use lib.Seq.{take-at}
 use lib.Dec.{eqb, leb}
 use borrow.Author.Tests.{eqb-true, eq-eqb, leb-true, le-leb}
-use Rattle.frame.specs.Wire.{wire, unstuff, lengthOf, Good, checksum}
+use Rattle.frame.specs.Wire.{wire, unstuff, lengthOf, Good}
+use Rattle.base.specs.Sums.{checksum}
 use Rattle.frame.specs.Frames.{startsWith, candidate, isGood, sumHolds, keep, here}
+use Rattle.base.proofs.Tests.{both}
 use Rattle.frame.proofs.Stuffing.{unstuff-stuff}
-
-pub and-both : (a b : Bool) → (a && b) ≡ true → (a ≡ true) × (b ≡ true)
-and-both true b e = (refl, e)
-and-both false b e = (e, cc)
 
 pub startsWith-split : (w t : List ℕ) → startsWith w t ≡ true → t ≡ w ++ drop (length w) t
 unfolding startsWith
 startsWith-split [] t e = refl
 startsWith-split (x ∷ xs) [] e = cc
 startsWith-split (x ∷ xs) (y ∷ ys) e =
-    let h : (eqb x y ≡ true) × (startsWith xs ys ≡ true) = and-both (eqb x y) (startsWith xs ys) e in
+    let h : (eqb x y ≡ true) × (startsWith xs ys ≡ true) = both (eqb x y) e in
     cc (eqb-true x y (h .0), startsWith-split xs ys (h .1))
 
 pub startsWith-append : (w r : List ℕ) → startsWith w (w ++ r) ≡ true
@@ -45,9 +43,9 @@ good-isGood limit b g =
 pub isGood-good : (limit : ℕ) (b : List ℕ) → isGood limit b ≡ true → Good limit b
 unfolding isGood sumHolds
 isGood-good limit b e =
-    let h0 = and-both (eqb (length b) (lengthOf b + 2)) (leb 5 (lengthOf b) && (leb (lengthOf b) limit && sumHolds b)) e in
-    let h1 = and-both (leb 5 (lengthOf b)) (leb (lengthOf b) limit && sumHolds b) (h0 .1) in
-    let h2 = and-both (leb (lengthOf b) limit) (sumHolds b) (h1 .1) in
+    let h0 = both (eqb (length b) (lengthOf b + 2)) e in
+    let h1 = both (leb 5 (lengthOf b)) (h0 .1) in
+    let h2 = both (leb (lengthOf b) limit) (h1 .1) in
     record {
       true-length = eqb-true (length b) (lengthOf b + 2) (h0 .0);
       least = leb-true 5 (lengthOf b) (h1 .0);
@@ -80,7 +78,7 @@ here-sound limit t b e = go (startsWith (wire (candidate t)) t && isGood limit (
     go : (k : Bool) → (startsWith (wire (candidate t)) t && isGood limit (candidate t)) ≡ k → keep k (candidate t) ≡ some b → FrameHere limit t b
     go true q e =
         let same : candidate t ≡ b = cc in
-        let h = and-both (startsWith (wire (candidate t)) t) (isGood limit (candidate t)) q in
+        let h = both (startsWith (wire (candidate t)) t) q in
         record {
           rest = drop (length (wire b)) t;
           bytes = startsWith-split (wire b) t (rw same at (h .0));

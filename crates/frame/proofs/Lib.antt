@@ -1,7 +1,5 @@
 -- The laws, from lists up to the claims of specs/Claims.antt.
-pub mod Cases
 pub mod Rows
-pub mod Sums
 pub mod Stuffing
 pub mod Writing
 pub mod Steps
@@ -9,7 +7,6 @@ pub mod Counts
 pub mod Here
 pub mod Skip
 pub mod Listed
-pub mod Rising
 pub mod Unique
 pub mod Bodies
 pub mod Moves

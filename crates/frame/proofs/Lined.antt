@@ -21,7 +21,7 @@ use Rattle.frame.specs.declared.scan.Event.the-variants.{Quiet, Frame, S
 use Rattle.frame.specs.declared.scan.Scan.{Scan}
 use Rattle.frame.specs.declared.scan.Step.{Step}
 use Rattle.frame.specs.declared.reader.Reader.{Reader}
-use Rattle.frame.proofs.Cases.{by-test}
+use Rattle.base.proofs.Tests.{by-test}
 use Rattle.frame.proofs.Moves.{held, pending, pendingIn, origin, originIn, Inv, InvIn, after, moves, wire-snoc, wire-ff, wire-none, wire-wait}
 use Rattle.frame.proofs.Bodies.{Partial, partial-none, first-on, Ends, unfinished-of, stored, whole-held, body-cases}
 use Rattle.frame.proofs.Fold.{codeOf, lineAt, afterAll, saidAll}

@@ -8,7 +8,7 @@ use lib.ListN.{length, take, drop}
 use lib.Seq.{take-at, drop-at}
 use lib.Dec.{eqb}
 use Rattle.frame.specs.Wire.{unstuff}
-use Rattle.frame.specs.Table.{Row, row}
+use Rattle.base.specs.Rows.{Row, row}
 use Rattle.frame.specs.Calls.{reply, endingRow, freshOf}
 use Rattle.frame.specs.Logs.{logOf, readerAfter, stream}
 use Rattle.frame.specs.Lines.{Decides, is-frame, is-short, is-long, is-stuff, is-cut, is-sum, Line, IsLine, Opens, at-header, in-body, at-ff, IsOpen}

@@ -12,7 +12,8 @@ use lib.Seq.{length-take-le}
 use lib.Dec.{eqb, leb}
 use borrow.Author.Tests.{le-leb, leb-true, leb-false, ne-eqb}
 use Rattle.frame.specs.Frames.{Found, frontBody, framesFrom}
-use Rattle.frame.specs.Table.{Row, row, countOf}
+use Rattle.base.specs.Rows.{Row, row}
+use Rattle.frame.specs.Table.{countOf}
 use Rattle.frame.specs.Rules.{advanceOf, decidesOf, inRangeOf}
 use Rattle.frame.specs.Calls.{Reply, reply, nextOf, eventRow, endingRow, runOf, feedOf, finishOf}
 use Rattle.frame.specs.Logs.{Call, give, ask, callOf, Entry, logOf, readerAfter, offered, stream, handed, handedOut, decided, Account, Accounts}
@@ -21,7 +22,7 @@ use Rattle.frame.specs.declared.scan.Phase.the-variants.{Idle, Half, Hea
 use Rattle.frame.specs.declared.scan.Event.{Event}
 use Rattle.frame.specs.declared.scan.Event.the-variants.{Quiet, Frame, Short, Long, Stuff, Cut, Sum}
 use Rattle.frame.specs.declared.reader.Reader.{Reader}
-use Rattle.frame.proofs.Cases.{by-test}
+use Rattle.base.proofs.Tests.{by-test}
 use Rattle.frame.proofs.Moves.{Inv, origin, pending, handedBy, moves, nothing-left}
 
 abbrev taken : Reader → ℕ

@@ -21,7 +21,7 @@ use Rattle.frame.specs.declared.scan.Event.the-variants.{Quiet, Frame, S
 use Rattle.frame.specs.declared.scan.Scan.{Scan}
 use Rattle.frame.specs.declared.scan.Step.{Step}
 use Rattle.frame.specs.declared.reader.Reader.{Reader}
-use Rattle.frame.proofs.Cases.{by-test}
+use Rattle.base.proofs.Tests.{by-test}
 use Rattle.frame.proofs.Stuffing.{stuff-append}
 use Rattle.frame.proofs.Bodies.{Partial, partial-none, first-on, sumIn, sumDue, Ends, size, stored, body-cases, whole-held}
 use Rattle.frame.proofs.Skip.{pass, pass-other, pass-pair, pass-lone, pass-triple, pass-wire, take-wire, none-end, none-lone, none-broken, none-short, none-long, none-sum}

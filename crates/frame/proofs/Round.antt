@@ -10,9 +10,11 @@ use lib.ListN.{length, getD, take, drop, length-append, length-drop, take-append
 use lib.Seq.{take-at, getD-at, take-append-le, drop-append-le, length-take-le, getD-take}
 use lib.Dec.{eqb}
 use borrow.Author.Tests.{eqb-true}
-use Rattle.frame.specs.Wire.{stuff, wire, lengthOf, commandOf, numberOf, flagsOf, payloadOf, checksum, unsummed, bodyOf, Good}
+use Rattle.frame.specs.Wire.{stuff, wire, lengthOf, commandOf, numberOf, flagsOf, payloadOf, unsummed, bodyOf, Good}
+use Rattle.base.specs.Sums.{checksum}
 use Rattle.frame.specs.Frames.{Found, frontBody, framesFrom}
-use Rattle.frame.specs.Table.{row, countOf}
+use Rattle.base.specs.Rows.{row}
+use Rattle.frame.specs.Table.{countOf}
 use Rattle.frame.specs.Calls.{freshOf}
 use Rattle.frame.specs.Logs.{Entry, logOf, readerAfter, offered, stream, handedOut, decided, Account, Accounts}
 use Rattle.frame.specs.Claims.{MadeGood, ReadBack, RoundTrip, ReadAnywhere}
@@ -21,7 +23,7 @@ use Rattle.frame.proofs.Skip.{good-first, take-wire}
 use Rattle.frame.proofs.Moves.{Inv, origin, pending, settles}
 use Rattle.frame.proofs.Logged.{Logged, logged, reached}
 use Rattle.frame.proofs.Demand3.{fresh-holds, demand-3}
-use Rattle.frame.proofs.Sent.{no-bytes}
+use Rattle.base.proofs.Lists.{no-bytes}
 
 -- ---- a body made of its parts
 

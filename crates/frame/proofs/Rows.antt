@@ -1,10 +1,8 @@
 -- An answer can be read back from its line of the table, so no two have one line. Assumes nothing.
-use Prim.Native.Nat.{ℕ}
-use mathlib.Core.Path.{_≡_, refl, sym, ap, _∙_}
-use mathlib.Core.Bool.{cond}
-use lib.ListN.{getD}
-use lib.Dec.{eqb}
-use Rattle.frame.specs.Table.{Row, rowOf, endRowOf, writtenRowOf}
+use mathlib.Core.Path.{_≡_, refl}
+use Rattle.base.specs.Rows.{Row}
+use Rattle.base.proofs.Rows.{told-apart, under, value}
+use Rattle.frame.specs.Table.{rowOf, endRowOf, writtenRowOf}
 use Rattle.frame.specs.Rules.{onWire}
 use Rattle.frame.specs.Claims.{RowsTell}
 use Rattle.frame.specs.declared.reader.Answer.{Answer}
@@ -13,17 +11,6 @@ use Rattle.frame.specs.declared.reader.Ending.{Ending}
 use Rattle.frame.specs.declared.reader.Ending.the-variants as ending
 use Rattle.frame.specs.declared.writer.Written.{Written}
 use Rattle.frame.specs.declared.writer.Written.the-variants as written
-
--- what can be read back is told apart
-pub told-apart : {A B : Type 0} (f : A → B) (g : B → A) → ((a : A) → g (f a) ≡ a) → (a b : A) → f a ≡ f b → a ≡ b
-told-apart f g back a b e = sym (back a) ∙ ap g e ∙ back b
-
--- what stands in a line under its number, or else
-abbrev pub under : {A : Type 0} → Row → ℕ → A → A → A
-under r n a other = cond (eqb (r .number) n) a other
-
-abbrev pub value : Row → ℕ → ℕ
-value r i = getD (r .values) i 0
 
 abbrev answerFrom : Row → Answer
 answerFrom r =

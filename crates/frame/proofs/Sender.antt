@@ -13,7 +13,7 @@ use Rattle.frame.proofs.Counts.{within, progress}
 use Rattle.frame.proofs.Moves.{Inv}
 use Rattle.frame.proofs.Logged.{entry, Called, called, in-range, Reached, reached}
 use Rattle.frame.proofs.Demand3.{fresh-holds}
-use Rattle.frame.proofs.Sent.{no-bytes}
+use Rattle.base.proofs.Lists.{no-bytes}
 
 stream-append : (a b : List Entry) → stream (a ++ b) ≡ stream a ++ stream b
 unfolding stream

@@ -9,6 +9,7 @@ use Rattle.frame.specs.Table.{countOf}
 use Rattle.frame.specs.Calls.{freshOf}
 use Rattle.frame.specs.Logs.{Entry, logOf, offered, stream, Accounts, OffersFront}
 use Rattle.frame.specs.Claims.{Front, SentAgain}
+use Rattle.base.proofs.Lists.{no-bytes}
 use Rattle.frame.proofs.Demand3.{from-fresh}
 
 front : (n : ℕ) (log : List Entry) (sent : List ℕ) → Accounts n log → OffersFront sent log → (rest : List ℕ) × (sent ≡ stream log ++ rest)
@@ -23,10 +24,6 @@ front n (e ∷ es) sent a f =
       sym (take-append-drop c sent) ∙ ap (λ (l : List ℕ). l ++ drop c sent) t ∙ ap (λ (l : List ℕ). take c (offered (e .call)) ++ l) (ih .1)
           ∙ sym (append-assoc (take c (offered (e .call))) (stream es) (ih .0)),
     )
-
-pub no-bytes : (r : List ℕ) → length r ≡ 0 → r ≡ []
-no-bytes [] e = refl
-no-bytes (x ∷ xs) e = absurd (omega arith)
 
 fronted : (n : ℕ) (log : List Entry) (sent : List ℕ) → Accounts n log → OffersFront sent log → Front sent log
 fronted n log sent a f =

@@ -1,15 +1,15 @@
 -- Laws of the reader: of one byte, of a run of bytes, and of a state in range. Assumes nothing.
 use Prim.Native.Nat.{ℕ, _+_, _-_, _*_, _^_, _<_, _≤_}
-use mathlib.Core.Path.{_≡_, refl, sym, _∙_}
-use mathlib.Core.Bool.{Bool, _&&_, true, false, true≢false}
+use mathlib.Core.Path.{_≡_, _∙_}
+use mathlib.Core.Bool.{true, false}
 use mathlib.Core.List.{List, [], _∷_}
 use native.Mathlib.Omega.{arith}
 use native.Mathlib.Numerals.{add-one}
-use borrow.Author.Tests.{eq-eqb, ne-eqb, lt-ltb, le-ltb, le-leb, lt-leb, eqb-true, ltb-false, leb-true}
+use borrow.Author.Tests.{eqb-true, ltb-false, leb-true}
 use lib.ListN.{length, drop, getD}
 use lib.Seq.{drop-cons, drop-length}
 use lib.Dec.{ltb, leb, eqb}
-use Rattle.frame.specs.Table.{row}
+use Rattle.base.specs.Rows.{row}
 use Rattle.frame.specs.Rules.{Ready, inRangeOf, completedOf, bodyByteOf, onFFIn, onOtherIn, advanceOf, decidesOf, putOf}
 use Rattle.frame.specs.Calls.{reply, eventRow, runOf}
 use Rattle.frame.specs.declared.scan.Phase.{Phase}
@@ -17,12 +17,7 @@ use Rattle.frame.specs.declared.scan.Phase.the-variants.{Idle, Half, Hea
 use Rattle.frame.specs.declared.scan.Scan.{Scan}
 use Rattle.frame.specs.declared.scan.Step.{Step}
 use Rattle.frame.specs.declared.reader.Reader.{Reader}
-use Rattle.frame.proofs.Cases.{by-test}
-
--- ---- the code's tests, as the rules have them
-
--- with these `search` takes what the tests on the way told into a rule's `cond`
-pub ruleset tests = (eq-eqb, ne-eqb, lt-ltb, le-ltb, le-leb, lt-leb)
+use Rattle.base.proofs.Tests.{by-test, both}
 
 -- ---- one byte
 
@@ -95,10 +90,6 @@ module _ {limit : ℕ} {bytes : List ℕ} {r₀ r : Reader} {i : ℕ} (at : At l
     run-stop q = at .same ∙ rw (next-byte bytes i h) (simp (← e, q, f))
 
 -- ---- a state in range
-
-pub both : (a : Bool) {b : Bool} → (a && b) ≡ true → (a ≡ true) × (b ≡ true)
-both true e = (refl, e)
-both false e = absurd (true≢false (sym e))
 
 -- a state in range, with room for what may still be taken
 pub in-range : (limit : ℕ) (s : Scan) → limit ≤ 65279 → inRangeOf limit s ≡ true → Ready limit s (2 ^ 62 - s .taken .0)

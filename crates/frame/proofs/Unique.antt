@@ -1,11 +1,11 @@
 -- `Lists` says all: a stream has one such list.
-use Prim.Native.Nat.{ℕ, _+_, _≤_}
+use Prim.Native.Nat.{ℕ, _+_}
 use mathlib.Core.Path.{_≡_}
 use mathlib.Core.List.{List, [], _∷_}
 use native.Mathlib.Omega.{arith}
 use Rattle.frame.specs.Frames.{AllFrom, Apart, Lists, Found, framesOf}
 use Rattle.frame.specs.Claims.{OneList}
-use Rattle.frame.proofs.Rising.{RisingFrom, rising-earlier, same-members}
+use Rattle.base.proofs.Rising.{RisingFrom, rising-earlier, same-members}
 use Rattle.frame.proofs.Listed.{framesOf-lists}
 
 -- where a frame starts

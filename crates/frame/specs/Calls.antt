@@ -1,11 +1,13 @@
 -- What each call answers and leaves: bytes given, end asked, a frame written.
 use Prim.Native.Nat.{ℕ, _+_, _^_}
 use mathlib.Core.Bool.{cond}
-use mathlib.Core.List.{List, [], _∷_, _++_}
-use lib.ListN.{length, drop, replicate}
+use mathlib.Core.List.{List, [], _∷_}
+use lib.ListN.{length, replicate}
 use lib.Dec.{ltb, leb}
 use Rattle.frame.specs.Wire.{wire, bodyOf}
-use Rattle.frame.specs.Table.{Row, row, rowOf, endRowOf}
+use Rattle.base.specs.Rows.{Row, row}
+use Rattle.base.specs.Outcomes.{Write, outcome, placed}
+use Rattle.frame.specs.Table.{rowOf, endRowOf}
 use Rattle.frame.specs.Rules.{onWire, inRangeOf, closedOf, advanceOf, decidesOf, putOf}
 use Rattle.frame.specs.declared.scan.Phase.{Phase}
 use Rattle.frame.specs.declared.scan.Phase.the-variants.{Idle, Half, Header, Open, Escape}
@@ -86,22 +88,7 @@ endingRow Escape s = row 16 (s .taken .0 ∷ s .start .0 ∷ [])
 abbrev pub finishOf : ℕ → Reader → Reply
 finishOf limit r = cond (inRangeOf limit (r .scan)) (reply (endingRow (r .scan .phase) (r .scan)) r) (reply (row 17 (0 ∷ [])) r)
 
--- the writer's row, and the lent output afterwards
-pub record Write : Type 0 where
-  pub row : Row
-  pub out : List ℕ
-
--- the same of the two
-abbrev pub outcome : Row → List ℕ → Write
-outcome a o = record { row = a; out = o }
-
--- "the wire form, exactly, at the front of the output; the rest of the output stays"
-abbrev pub onto : List ℕ → List ℕ → List ℕ
-onto w out = w ++ drop (length w) out
-
--- "21, 22"
+-- "21, 22"; "the wire form, exactly, at the front of the output; the rest of the output stays"
 abbrev pub writeOf : ℕ → ℕ → ℕ → ℕ → List ℕ → List ℕ → Write
 writeOf limit command number flags payload out =
-    cond (ltb limit (length payload + 5)) (outcome (row 21 (0 ∷ [])) out)
-    (cond (ltb (length out) (length (wire (bodyOf command number flags payload)))) (outcome (row 22 (0 ∷ [])) out)
-    (outcome (row 0 (length (wire (bodyOf command number flags payload)) ∷ [])) (onto (wire (bodyOf command number flags payload)) out)))
+    cond (ltb limit (length payload + 5)) (outcome (row 21 (0 ∷ [])) out) (placed (wire (bodyOf command number flags payload)) out)

@@ -7,7 +7,8 @@ use mathlib.Core.List.{List, [], _∷_, _++_, List·Memᴰ}
 use lib.ListN.{length}
 use Rattle.frame.specs.Wire.{stuff, unstuff, wire, commandOf, numberOf, flagsOf, payloadOf, bodyOf, Good, widest}
 use Rattle.frame.specs.Frames.{Found, Lists, framesOf, frontBody}
-use Rattle.frame.specs.Table.{row, rowOf, endRowOf, writtenRowOf, countOf}
+use Rattle.base.specs.Rows.{row}
+use Rattle.frame.specs.Table.{rowOf, endRowOf, writtenRowOf, countOf}
 use Rattle.frame.specs.Rules.{inRangeOf}
 use Rattle.frame.specs.Calls.{reply, freshOf, feedOf, finishOf}
 use Rattle.frame.specs.Lines.{Line, Answers, linesOf, IsOpen}

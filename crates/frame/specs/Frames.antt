@@ -6,7 +6,8 @@ use mathlib.Core.Bool.{Bool, true, false, _&&_}
 use mathlib.Core.Option.{Option, none, some}
 use lib.ListN.{length, getD, take, drop}
 use lib.Dec.{eqb, leb}
-use Rattle.frame.specs.Wire.{unstuff, wire, lengthOf, checksum, Good}
+use Rattle.frame.specs.Wire.{unstuff, wire, lengthOf, Good}
+use Rattle.base.specs.Sums.{checksum}
 
 -- a stretch of the stream, from start to before end, and a body. "its places count from 0"
 pub record Found : Type 0 where

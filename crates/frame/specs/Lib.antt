@@ -1,6 +1,5 @@
 -- What a reader of this crate has to believe: the wire and its frames, then the reader and the writer, then the claims.
 pub mod Wire
-pub mod Parts
 pub mod Frames
 pub mod Table
 pub mod Rules

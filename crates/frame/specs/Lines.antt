@@ -7,7 +7,8 @@ use mathlib.Core.Bool.{cond, _||_}
 use mathlib.Core.List.{List, [], _∷_, _++_, List·Memᴰ}
 use lib.ListN.{length, getD, take}
 use lib.Dec.{eqb}
-use Rattle.frame.specs.Wire.{wire, lengthOf, checksum, Good}
+use Rattle.frame.specs.Wire.{wire, lengthOf, Good}
+use Rattle.base.specs.Sums.{checksum}
 use Rattle.frame.specs.Frames.{frontBody}
 use Rattle.frame.specs.Logs.{Entry, decided}
 

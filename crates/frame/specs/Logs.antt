@@ -7,7 +7,8 @@ use mathlib.Core.List.{List, [], _∷_, _++_}
 use lib.ListN.{length, getD, take, drop}
 use lib.Dec.{eqb, leb}
 use Rattle.frame.specs.Frames.{Found, frontBody}
-use Rattle.frame.specs.Table.{Row, countOf}
+use Rattle.base.specs.Rows.{Row}
+use Rattle.frame.specs.Table.{countOf}
 use Rattle.frame.specs.Calls.{Reply, feedOf, finishOf}
 use Rattle.frame.specs.declared.reader.Reader.{Reader}
 

@@ -1,24 +1,16 @@
--- Paper 01's table: the number and the values of each answer. A row here is one answer, with its values.
+-- Paper 01's table: the number and the values of each answer.
 use Prim.Native.Nat.{ℕ}
-use mathlib.Core.List.{List, [], _∷_}
+use mathlib.Core.List.{[], _∷_}
 use mathlib.Core.Bool.{cond, _||_}
 use lib.ListN.{getD}
 use lib.Dec.{eqb}
+use Rattle.base.specs.Rows.{Row, row}
 use Rattle.frame.specs.declared.reader.Answer.{Answer}
 use Rattle.frame.specs.declared.reader.Answer.the-variants as answer
 use Rattle.frame.specs.declared.reader.Ending.{Ending}
 use Rattle.frame.specs.declared.reader.Ending.the-variants as ending
 use Rattle.frame.specs.declared.writer.Written.{Written}
 use Rattle.frame.specs.declared.writer.Written.the-variants as written
-
--- an answer's number and values
-pub record Row : Type 0 where
-  pub number : ℕ
-  pub values : List ℕ
-
--- a row of the two
-abbrev pub row : ℕ → List ℕ → Row
-row n v = record { number = n; values = v }
 
 -- bytes given: MORE 0, FRAME 1, SHORT 11, LONG 12, STUFF 13, CUT 14, SUM 15, STATE 17, USED 18
 abbrev pub rowOf : Answer → Row

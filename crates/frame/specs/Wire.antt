@@ -1,10 +1,12 @@
 -- Paper 01, "The frame on the wire". A byte is a number; FF is 255 and 55 is 85.
-use Prim.Native.Nat.{ℕ, _+_, _*_, _-_, _/_, _%_, _≤_}
+use Prim.Native.Nat.{ℕ, _+_, _-_, _≤_}
 use mathlib.Core.Path.{_≡_}
 use mathlib.Core.List.{List, [], _∷_, _++_}
 use mathlib.Core.Bool.{Bool, true, false}
 use lib.ListN.{length, getD, take, drop}
 use lib.Dec.{eqb}
+use Rattle.base.specs.Numbers.{twoAt, two}
+use Rattle.base.specs.Sums.{checksum}
 
 -- the 55 that stands behind a byte, if that byte is an FF
 abbrev pub behind : Bool → List ℕ → List ℕ
@@ -28,7 +30,7 @@ wire b = 255 ∷ 255 ∷ stuff b
 
 -- "Body: length (2), command (1), number (1), flags (2), payload, sum (1). Numbers are big-endian."
 abbrev pub lengthOf : List ℕ → ℕ
-lengthOf b = 256 * getD b 0 0 + getD b 1 0
+lengthOf b = twoAt b 0
 
 -- command (1)
 abbrev pub commandOf : List ℕ → ℕ
@@ -40,26 +42,13 @@ numberOf b = getD b 3 0
 
 -- flags (2)
 abbrev pub flagsOf : List ℕ → ℕ
-flagsOf b = 256 * getD b 4 0 + getD b 5 0
+flagsOf b = twoAt b 4
 
 -- "Length L counts command to sum, so L = payload + 5."
 abbrev pub payloadOf : List ℕ → List ℕ
 payloadOf b = take (lengthOf b - 5) (drop 6 b)
 
--- "Sum: all body bytes before it, modulo 256."
-unfoldable pub total : List ℕ → ℕ
-total [] = 0
-total (x ∷ xs) = x + total xs
-
--- the sum itself
-abbrev pub checksum : List ℕ → ℕ
-checksum l = total l % 256
-
--- a number of two bytes, big-endian, before a list
-abbrev pub two : ℕ → List ℕ → List ℕ
-two n r = n / 256 ∷ n % 256 ∷ r
-
--- the body's bytes before its sum
+-- the body's bytes before its sum, which is their sum modulo 256
 abbrev pub unsummed : ℕ → ℕ → ℕ → List ℕ → List ℕ
 unsummed command number flags payload = two (length payload + 5) (command ∷ number ∷ two flags payload)
 
@@ -78,3 +67,7 @@ pub record Good (limit : ℕ) (b : List ℕ) : Type 0 where
 -- "With L from 65,280 the wire would read FF FF FF 55 .. Our limit keeps that away." The limit that the claims over streams allow
 abbrev pub widest : ℕ
 widest = 65279
+
+-- "Here 5 ≤ L ≤ 1,024": the limit that every call passes
+abbrev pub frameLimit : ℕ
+frameLimit = 1024

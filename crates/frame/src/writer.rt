@@ -1,14 +1,16 @@
 // The writer: a frame straight from its parts, with no copy of its body.
 use super::LIMIT;
-use super::body::least;
 ghost use mathlib.Core.Path.{_≡_};
 ghost use mathlib.Core.List.{[], _∷_, _++_};
 ghost use Prim.Native.Nat.{_+_, _≤_, _<_, _/_, _%_, _^_};
 ghost use lib.ListN.{length};
 ghost use lib.Seq.{sets};
-ghost use Rattle.frame.specs.Wire.{stuff, wire, total, two};
+ghost use Rattle.frame.specs.Wire.{stuff, wire};
+ghost use Rattle.base.specs.Sums.{total};
+ghost use Rattle.base.specs.Numbers.{two};
 ghost use Rattle.frame.specs.Table.{writtenRowOf};
-ghost use Rattle.frame.specs.Calls.{outcome, writeOf};
+ghost use Rattle.base.specs.Outcomes.{outcome};
+ghost use Rattle.frame.specs.Calls.{writeOf};
 
 // What a frame to be written is answered.
 pub enum Written {
@@ -142,7 +144,7 @@ fn parts_within(
     ensures { λ r. ⌜ outcome (writtenRowOf r) (now (out .exit)) ≡ writeOf limit command number flags (now (first .entry) ++ (now (second .entry) ++ now (third .entry))) (now (out .entry)) ⌝ }
 {
     // Two lengths add up to a usize, three need not; what is past the limit is refused, however long it is.
-    let size = least(first.len() + second.len(), limit) + third.len();
+    let size = base::least(first.len() + second.len(), limit) + third.len();
     if limit < size + 5 {
         return Written::Payload;
     }

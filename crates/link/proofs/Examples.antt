@@ -1,6 +1,6 @@
 -- Example 11 of paper 01, and a run of calls, by computation. Assumes nothing.
 use mathlib.Core.Path.{refl}
-use Rattle.message.specs.Commands.{among}
+use Rattle.base.specs.Keys.{among}
 use Rattle.link.specs.Logs.{logOf, rowsIn}
 use Rattle.link.specs.Claims.{WorkedRun, Example11}
 

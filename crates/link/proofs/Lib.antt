@@ -1,5 +1,4 @@
 -- The laws, up to the claims of specs/Claims.antt.
-pub mod Guards
 pub mod Rows
 pub mod Sent
 pub mod Times

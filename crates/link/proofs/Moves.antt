@@ -7,9 +7,8 @@ use native.Mathlib.Omega.{arith}
 use borrow.Author.Tests.{le-leb, eqb-true, ltb-true}
 use lib.ListN.{getD}
 use lib.Dec.{eqb, ltb}
-use Rattle.frame.specs.Table.{Row}
-use Rattle.frame.proofs.Cases.{by-test}
-use Rattle.frame.proofs.Steps.{both}
+use Rattle.base.specs.Rows.{Row}
+use Rattle.base.proofs.Tests.{by-test, both}
 use Rattle.link.specs.Sending.{mayWait, numberAt, fitsOf}
 use Rattle.link.specs.Clock.{isDue}
 use Rattle.link.specs.Calls.{Reply, reply, linkOf, inRange, retryOf}

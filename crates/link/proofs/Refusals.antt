@@ -5,7 +5,7 @@ use mathlib.Core.Logic.{_≢_}
 use mathlib.Core.Bool.{Bool, true, false, cond, true≢false}
 use native.Mathlib.Omega.{arith}
 use lib.Dec.{ltb}
-use Rattle.frame.proofs.Cases.{by-test}
+use Rattle.base.proofs.Tests.{by-test}
 use Rattle.link.specs.Sending.{mayWait, fitsOf}
 use Rattle.link.specs.Clock.{isDue}
 use Rattle.link.specs.Table.{stateRow, unsentRow}

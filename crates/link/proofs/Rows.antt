@@ -2,8 +2,8 @@
 use mathlib.Core.Path.{_≡_, refl}
 use mathlib.Core.Bool.{cond}
 use lib.Dec.{eqb}
-use Rattle.frame.specs.Table.{Row}
-use Rattle.frame.proofs.Rows.{told-apart, under, value}
+use Rattle.base.specs.Rows.{Row}
+use Rattle.base.proofs.Rows.{told-apart, under, value}
 use Rattle.link.specs.Table.{acceptanceRowOf, retryRowOf, arrivalRowOf}
 use Rattle.link.specs.Claims.{RowsTell}
 use Rattle.link.specs.declared.offers.Acceptance.{Acceptance}

@@ -2,10 +2,11 @@
 use Prim.Native.Nat.{_+_}
 use mathlib.Core.Path.{_≡_, refl, sym}
 use mathlib.Core.Bool.{Bool, true, false, _&&_, _||_}
-use Rattle.message.specs.Commands.{among, boxCommands, kindIn, kindOf, isListed, fromBox}
+use Rattle.base.specs.Keys.{among}
+use Rattle.message.specs.Commands.{boxCommands, kindIn, kindOf, isListed, fromBox}
 use Rattle.message.specs.Answers.{dueFor}
 use Rattle.message.specs.declared.replies.Due.the-variants.{Nothing}
-use Rattle.message.proofs.Lines.{agree}
+use Rattle.base.proofs.Keys.{agree}
 use Rattle.link.specs.Sending.{waitCommands, mayWait}
 use Rattle.link.specs.Claims.{answersModule, BoxCommands, ModuleAnswers}
 

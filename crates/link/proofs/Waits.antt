@@ -7,7 +7,7 @@ use native.Mathlib.Nat.{add-zero}
 use native.Mathlib.Numerals.{add-one}
 use native.Mathlib.Omega.{arith}
 use lib.ListN.{length}
-use Rattle.frame.proofs.Cases.{by-test}
+use Rattle.base.proofs.Tests.{by-test}
 use Rattle.link.specs.Sending.{numberAt}
 use Rattle.link.specs.Calls.{linkOf}
 use Rattle.link.specs.Logs.{Call, Entry, logOf, accepted, repeated, ended, numberIn, givenOut, numbersFrom, waitsAfter, noneEnds, repeatsIn, lastSent, dueTicks}

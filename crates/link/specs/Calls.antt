@@ -3,7 +3,7 @@
 use Prim.Native.Nat.{ℕ, _+_}
 use mathlib.Core.Bool.{Bool, true, cond, _&&_}
 use lib.Dec.{ltb, leb}
-use Rattle.frame.specs.Table.{Row}
+use Rattle.base.specs.Rows.{Row}
 use Rattle.link.specs.Sending.{mayWait, followingOf, fitsOf}
 use Rattle.link.specs.Clock.{isDue}
 use Rattle.link.specs.Table.{stateRow, busyRow, unsentRow, strayRow, acceptedRow, nothingRow, againRow, givenUpRow, answeredRow, acceptanceRowOf, retryRowOf, arrivalRowOf}

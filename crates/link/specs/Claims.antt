@@ -5,8 +5,9 @@ use mathlib.Core.Logic.{_≢_}
 use mathlib.Core.Bool.{true, false, _&&_, _||_}
 use mathlib.Core.List.{List, [], _∷_}
 use lib.Dec.{leb, ltb}
-use Rattle.frame.specs.Table.{Row, row}
-use Rattle.message.specs.Commands.{among, kindOf, isListed, fromBox}
+use Rattle.base.specs.Rows.{Row, row}
+use Rattle.base.specs.Keys.{among}
+use Rattle.message.specs.Commands.{kindOf, isListed, fromBox}
 use Rattle.message.specs.Answers.{dueFor}
 use Rattle.message.specs.declared.replies.Due.the-variants.{Nothing}
 use Rattle.link.specs.Sending.{mayWait, numberAt}

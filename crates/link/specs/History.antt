@@ -6,7 +6,7 @@ use mathlib.Core.Bool.{true, false, cond, _&&_, _||_}
 use mathlib.Core.List.{List, [], _∷_, _++_}
 use lib.ListN.{length}
 use lib.Dec.{eqb, ltb}
-use Rattle.frame.specs.Table.{Row}
+use Rattle.base.specs.Rows.{Row}
 use Rattle.link.specs.Sending.{mayWait, numberAt}
 use Rattle.link.specs.Clock.{isDue}
 use Rattle.link.specs.Table.{busyRow, unsentRow, strayRow, acceptedRow, nothingRow, againRow, givenUpRow, answeredRow}

@@ -4,7 +4,7 @@ use mathlib.Core.Bool.{Bool, true, false, cond, _&&_}
 use mathlib.Core.List.{List, [], _∷_}
 use lib.ListN.{getD}
 use lib.Dec.{eqb}
-use Rattle.frame.specs.Table.{Row}
+use Rattle.base.specs.Rows.{Row}
 use Rattle.link.specs.Sending.{numberAt}
 use Rattle.link.specs.Clock.{isDue}
 use Rattle.link.specs.Calls.{Reply, offerOf, tickOf, arriveOf}

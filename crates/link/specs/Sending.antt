@@ -3,7 +3,7 @@ use Prim.Native.Nat.{ℕ, _+_, _-_, _%_}
 use mathlib.Core.Bool.{Bool, cond, _&&_}
 use mathlib.Core.List.{List, [], _∷_}
 use lib.Dec.{eqb}
-use Rattle.message.specs.Commands.{among}
+use Rattle.base.specs.Keys.{among}
 
 -- "One command waits at a time: 05, 09, 0B, 13, 15, 17, 1B, 27 or 29."
 abbrev pub waitCommands : List ℕ

@@ -2,7 +2,7 @@
 -- under 0 (not MORE).
 use Prim.Native.Nat.{ℕ}
 use mathlib.Core.List.{[], _∷_}
-use Rattle.frame.specs.Table.{Row, row}
+use Rattle.base.specs.Rows.{Row, row}
 use Rattle.link.specs.declared.offers.Acceptance.{Acceptance}
 use Rattle.link.specs.declared.offers.Acceptance.the-variants as acceptance
 use Rattle.link.specs.declared.ticks.Retry.{Retry}

@@ -4,7 +4,8 @@ use libc::STDOUT_FILENO;
 use listing::Lined;
 ghost use Prim.Native.Nat.{_+_, _≤_};
 ghost use lib.ListN.{length};
-ghost use Rattle.listing.specs.Table.{linedRowOf, writtenIn};
+ghost use Rattle.listing.specs.Table.{linedRowOf};
+ghost use Rattle.base.specs.Outcomes.{writtenIn};
 
 // What waits, and whether all that was to be written was.
 pub(crate) struct Waiting {

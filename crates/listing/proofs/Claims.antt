@@ -9,14 +9,15 @@ use borrow.Author.Tests.{ltb-false}
 use lib.ListN.{length, getD, length-append, length-take}
 use lib.Dec.{ltb, eqb}
 use Rattle.frame.specs.Wire.{lengthOf, payloadOf}
-use Rattle.frame.specs.Table.{Row, row}
-use Rattle.frame.specs.Calls.{Write, runOf, zeros}
+use Rattle.base.specs.Rows.{Row, row}
+use Rattle.base.specs.Outcomes.{Write, writtenIn}
+use Rattle.frame.specs.Calls.{runOf, zeros}
 use Rattle.frame.specs.Logs.{logOf, offer}
-use Rattle.frame.proofs.Cases.{by-test}
-use Rattle.frame.proofs.Rows.{told-apart, under, value}
+use Rattle.base.proofs.Tests.{by-test}
+use Rattle.base.proofs.Rows.{told-apart, under, value}
 use Rattle.listing.specs.Decimal.{decimalOf, digitsIn, columnsOf}
 use Rattle.listing.specs.Lines.{textOf, ascii, placesOf, partsOf, refusedText, answerText, lastOf}
-use Rattle.listing.specs.Table.{linedRowOf, writtenIn}
+use Rattle.listing.specs.Table.{linedRowOf}
 use Rattle.listing.specs.declared.text.Lined.{Lined}
 use Rattle.listing.specs.declared.text.Lined.the-variants as lined
 use Rattle.listing.specs.Claims.{RowsTell, Within, Below, Longest, PaperListing, EachKind, textsOf}

@@ -10,7 +10,7 @@ use lib.Seq.{getD-take}
 use lib.Dec.{eqb}
 use Rattle.frame.specs.Wire.{lengthOf, payloadOf}
 use Rattle.frame.specs.Frames.{frontBody}
-use Rattle.frame.specs.Table.{Row}
+use Rattle.base.specs.Rows.{Row, row}
 use Rattle.frame.specs.Rules.{inRangeOf}
 use Rattle.frame.specs.Calls.{Reply, endingRow, freshOf, feedOf, finishOf}
 use Rattle.frame.specs.Logs.{Call, give, ask, Entry, logOf, decided}
@@ -19,7 +19,7 @@ use Rattle.frame.specs.declared.scan.Phase.{Phase}
 use Rattle.frame.specs.declared.scan.Phase.the-variants.{Idle, Half, Header, Open, Escape}
 use Rattle.frame.specs.declared.scan.Scan.{Scan}
 use Rattle.frame.specs.declared.reader.Reader.{Reader}
-use Rattle.frame.proofs.Cases.{by-test}
+use Rattle.base.proofs.Tests.{by-test}
 use Rattle.frame.proofs.Lines.{each-line}
 use Rattle.listing.specs.Lines.{partsOf, answerText}
 use Rattle.listing.specs.Claims.{EachListed, givenText, lineText, linesText}

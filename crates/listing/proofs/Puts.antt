@@ -8,11 +8,10 @@ use native.Mathlib.Omega.{arith}
 use lib.ListN.{length, getD, drop, set, length-append, drop-of-length-le}
 use lib.Seq.{drop-cons, sets, set-comm}
 use borrow.Author.Tests.{lt-ltb, le-ltb}
-use Rattle.frame.specs.Table.{row}
-use Rattle.frame.specs.Calls.{outcome}
-use Rattle.frame.proofs.Writing.{sets-append, sets-front}
+use Rattle.base.specs.Rows.{row}
+use Rattle.base.specs.Outcomes.{outcome, placed}
+use Rattle.base.proofs.Stores.{sets-append, sets-front}
 use Rattle.listing.specs.Decimal.{digit, decimalOf, columnsOf}
-use Rattle.listing.specs.Calls.{placed}
 use Rattle.listing.proofs.Digits.{decimal-last, decimal-more, count-last, count-more}
 
 -- ---- from the back

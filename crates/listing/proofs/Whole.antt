@@ -11,7 +11,7 @@ use Rattle.frame.specs.Calls.{Reply, freshOf, feedOf, finishOf}
 use Rattle.frame.specs.Logs.{Call, give, ask, logOf, readerAfter, stream, offer, send, joined}
 use Rattle.frame.specs.Lines.{Line, LinesFrom, Answers, linesOf, IsOpen}
 use Rattle.frame.specs.declared.reader.Reader.{Reader}
-use Rattle.frame.proofs.Rising.{RisingFrom, same-members}
+use Rattle.base.proofs.Rising.{RisingFrom, same-members}
 use Rattle.frame.proofs.Sender.{sent-whole}
 use Rattle.frame.proofs.Lines.{each-line, end-told}
 use Rattle.listing.specs.Lines.{headingText, answerText, lastOf}

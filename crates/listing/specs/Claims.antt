@@ -3,14 +3,14 @@ use Prim.Native.Nat.{ℕ, _+_, _*_, _-_, _^_, _≤_, _<_}
 use mathlib.Core.Path.{_≡_}
 use mathlib.Core.List.{List, [], _∷_, _++_, List·Memᴰ}
 use lib.ListN.{length, getD}
-use Rattle.frame.specs.Table.{Row, row}
+use Rattle.base.specs.Rows.{Row, row}
 use Rattle.frame.specs.Calls.{freshOf}
 use Rattle.frame.specs.Logs.{Call, give, ask, Entry, logOf, stream, offer, send, joined}
 use Rattle.frame.specs.Lines.{Line, linesOf, Answers, IsOpen}
 use Rattle.listing.specs.Decimal.{decimalOf}
 use Rattle.listing.specs.Lines.{ascii, headingText, placesOf, answerText, lastOf}
-use Rattle.listing.specs.Table.{linedRowOf, writtenIn}
-use Rattle.listing.specs.Calls.{placed}
+use Rattle.listing.specs.Table.{linedRowOf}
+use Rattle.base.specs.Outcomes.{writtenIn, placed}
 use Rattle.listing.specs.declared.text.Lined.{Lined}
 
 -- ---- decimal-text: what a number's text is, apart from how it is made

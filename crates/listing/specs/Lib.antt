@@ -2,5 +2,4 @@
 pub mod Decimal
 pub mod Lines
 pub mod Table
-pub mod Calls
 pub mod Claims

@@ -7,7 +7,7 @@ use mathlib.Core.List.{List, [], _∷_, _++_}
 use lib.ListN.{length, getD}
 use lib.Dec.{eqb}
 use Rattle.frame.specs.Wire.{commandOf, numberOf, flagsOf, payloadOf}
-use Rattle.frame.specs.Table.{Row}
+use Rattle.base.specs.Rows.{Row}
 use Rattle.listing.specs.Decimal.{columnsOf}
 
 -- a text's bytes, in ASCII: every character here is below 128

@@ -1,8 +1,6 @@
 -- The number and the values of a line's answer, as a row of paper 01's table.
-use Prim.Native.Nat.{ℕ}
 use mathlib.Core.List.{[], _∷_}
-use lib.ListN.{getD}
-use Rattle.frame.specs.Table.{Row, row}
+use Rattle.base.specs.Rows.{Row, row}
 use Rattle.listing.specs.declared.text.Lined.{Lined}
 use Rattle.listing.specs.declared.text.Lined.the-variants as lined
 
@@ -10,7 +8,3 @@ use Rattle.listing.specs.declared.text.Lined.the-variants as lined
 abbrev pub linedRowOf : Lined → Row
 linedRowOf (lined.Wrote count) = row 0 (count ∷ [])
 linedRowOf lined.Room = row 22 (0 ∷ [])
-
--- the bytes that an answer counts as written
-abbrev pub writtenIn : Row → ℕ
-writtenIn r = getD (r .values) 0 0

@@ -9,10 +9,9 @@ ghost use mathlib.Core.List.{[], _∷_, _++_};
 ghost use Prim.Native.Nat.{_≤_};
 ghost use lib.ListN.{length};
 ghost use Rattle.frame.specs.Table.{rowOf, endRowOf};
-ghost use Rattle.frame.specs.Calls.{outcome};
+ghost use Rattle.base.specs.Outcomes.{outcome, placed};
 ghost use Rattle.listing.specs.Lines.{ascii, textOf, partsOf, headingText, answerText, lastOf};
 ghost use Rattle.listing.specs.Table.{linedRowOf};
-ghost use Rattle.listing.specs.Calls.{placed};
 
 // The heading.
 pub fn heading(out: &mut [u8]) -> Lined

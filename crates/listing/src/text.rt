@@ -5,11 +5,10 @@ ghost use mathlib.Core.Path.{_≡_};
 ghost use Prim.Native.Nat.{_+_, _*_, _≤_};
 ghost use lib.ListN.{length};
 ghost use lib.Seq.{sets};
-ghost use Rattle.frame.specs.Calls.{outcome};
+ghost use Rattle.base.specs.Outcomes.{outcome, writtenIn, placed};
 ghost use Rattle.listing.specs.Decimal.{columnsOf};
 ghost use Rattle.listing.specs.Lines.{textOf};
-ghost use Rattle.listing.specs.Table.{linedRowOf, writtenIn};
-ghost use Rattle.listing.specs.Calls.{placed};
+ghost use Rattle.listing.specs.Table.{linedRowOf};
 
 // What a text to be put at the front of an output is answered.
 pub enum Lined {

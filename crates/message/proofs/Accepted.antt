@@ -4,7 +4,7 @@ use mathlib.Core.Path.{_≡_, refl, sym, ap, _∙_}
 use mathlib.Core.Bool.{true, false, cond}
 use mathlib.Core.List.{List, [], _∷_}
 use lib.Dec.{eqb}
-use Rattle.frame.specs.Table.{Row, row}
+use Rattle.base.specs.Rows.{Row, row}
 use Rattle.message.specs.Commands.{isListed, kindOf, sizeFits}
 use Rattle.message.specs.Reading.{allowed, valuesOf, readAs, readOf}
 use Rattle.message.specs.Table.{messageIn}

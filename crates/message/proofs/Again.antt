@@ -8,9 +8,10 @@ use borrow.Author.Tests.{eqb-true, leb-false, le-leb}
 use lib.Dec.{eqb, leb}
 use lib.ListN.{length, getD, take, drop, length-drop, drop-of-length-le}
 use lib.Seq.{length-take-le, take-all, drop-at}
-use Rattle.frame.specs.Table.{Row, row}
-use Rattle.message.specs.Numbers.{twoAt}
-use Rattle.message.specs.Commands.{kindOf, kindIn, among, fits}
+use Rattle.base.specs.Rows.{Row, row}
+use Rattle.base.specs.Numbers.{twoAt}
+use Rattle.message.specs.Commands.{kindOf, kindIn, fits}
+use Rattle.base.specs.Keys.{among}
 use Rattle.message.specs.Counter.{controlValues, controlAllowed, controlIn}
 use Rattle.message.specs.Table.{messageIn}
 use Rattle.message.specs.Reading.{readOf}
@@ -23,8 +24,8 @@ use Rattle.message.specs.declared.values.Message.{Message}
 use Rattle.message.specs.declared.values.Message.the-variants as message
 use Rattle.message.specs.declared.parts.Part.{Part}
 use Rattle.message.specs.declared.parts.Part.the-variants as part
-use Rattle.message.proofs.Tests.{either-way}
-use Rattle.message.proofs.Among.{among-holds}
+use Rattle.base.proofs.Tests.{either-way}
+use Rattle.base.proofs.Keys.{among-holds}
 use Rattle.message.proofs.Spans.{fits-at}
 use Rattle.message.proofs.Numbers.{value}
 use Rattle.message.proofs.Fields.{effective-control}

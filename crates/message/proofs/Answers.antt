@@ -7,17 +7,19 @@ use borrow.Author.Tests.{le-ltb, eqb-true, eqb-false}
 use lib.ListN.{length, getD}
 use lib.Dec.{eqb, ltb}
 use Rattle.frame.specs.Wire.{wire, bodyOf, commandOf, numberOf, payloadOf}
-use Rattle.frame.specs.Table.{row}
-use Rattle.frame.specs.Calls.{Write, outcome, writeOf}
-use Rattle.frame.proofs.Cases.{by-test}
-use Rattle.message.specs.Commands.{among, kindIn, fits, sizeFits, fromBox}
+use Rattle.base.specs.Rows.{row}
+use Rattle.base.specs.Outcomes.{Write, outcome}
+use Rattle.frame.specs.Calls.{writeOf}
+use Rattle.base.proofs.Tests.{by-test}
+use Rattle.base.specs.Keys.{among}
+use Rattle.message.specs.Commands.{kindIn, fits, sizeFits, fromBox}
 use Rattle.message.specs.Reading.{readOf}
 use Rattle.message.specs.Answers.{dueForAction, dueFor, dueOf, rejectOf, answerFrameOf}
 use Rattle.message.specs.Claims.{BoxSends, AnswersAreRead}
 use Rattle.message.specs.declared.replies.Due.{Due}
 use Rattle.message.specs.declared.replies.Due.the-variants as due
 use Rattle.message.specs.declared.values.Message.the-variants as message
-use Rattle.message.proofs.Among.{among-holds}
+use Rattle.base.proofs.Keys.{among-holds}
 
 -- so short a payload is not too long
 pub short-enough : (command number : ℕ) (payload out after : List ℕ) → length payload ≤ 1 → outcome (row 21 (0 ∷ [])) after ≡ writeOf 1024 command number 0 payload out → ⊥

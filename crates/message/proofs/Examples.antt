@@ -1,8 +1,10 @@
 -- Example 4 of paper 01, by computation: the output only has to have room. Assumes nothing.
 use borrow.Author.Tests.{le-ltb}
 use lib.ListN.{length}
-use Rattle.frame.specs.Wire.{stuff, total, bodyOf}
-use Rattle.message.specs.Commands.{among, kindIn}
+use Rattle.base.specs.Sums.{total}
+use Rattle.frame.specs.Wire.{stuff, bodyOf}
+use Rattle.base.specs.Keys.{among}
+use Rattle.message.specs.Commands.{kindIn}
 use Rattle.message.specs.Claims.{Example4}
 
 pub example-4 : Example4

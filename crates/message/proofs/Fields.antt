@@ -7,7 +7,8 @@ use native.Mathlib.Omega.{arith}
 use borrow.Author.Tests.{lt-ltb, ltb-true}
 use lib.Dec.{ltb}
 use lib.ListN.{getD}
-use Rattle.message.specs.Numbers.{num, bit, bits, twoAt}
+use Rattle.message.specs.Numbers.{num, bit, bits}
+use Rattle.base.specs.Numbers.{twoAt}
 use Rattle.message.specs.Counter.{statusValues, statusAllowed, statusIn, statusBytes, controlValues, controlAllowed, controlIn, controlBytes, modeAllowed}
 use Rattle.message.specs.Table.{networkIn}
 use Rattle.message.specs.Reading.{networkValues}
@@ -17,8 +18,9 @@ use Rattle.message.specs.declared.counter.Status.{Status}
 use Rattle.message.specs.declared.counter.Control.{Control}
 use Rattle.message.specs.declared.values.Network.{Network}
 use Rattle.message.proofs.Bits.{mode-most}
-use Rattle.message.proofs.Numbers.{all-same, small}
-use Rattle.message.proofs.Tests.{cond-same}
+use Rattle.base.proofs.Lists.{all-same}
+use Rattle.message.proofs.Numbers.{small}
+use Rattle.base.proofs.Tests.{cond-same}
 
 -- ---- status
 

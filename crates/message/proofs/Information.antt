@@ -8,9 +8,10 @@ use borrow.Author.Tests.{eqb-true, le-leb, lt-leb}
 use lib.Dec.{eqb}
 use lib.ListN.{length, take, drop, length-append, length-drop, take-append-drop, drop-of-length-le}
 use lib.Seq.{length-take-le, take-append-le, drop-append-le, drop-at, take-all}
-use Rattle.frame.specs.Wire.{two}
+use Rattle.base.specs.Numbers.{two}
 use Rattle.message.specs.Numbers.{eightAt, eight}
-use Rattle.message.specs.Commands.{among, sizeFits, fits}
+use Rattle.base.specs.Keys.{among}
+use Rattle.message.specs.Commands.{sizeFits, fits}
 use Rattle.message.specs.Table.{informationIn}
 use Rattle.message.specs.Parts.{spanIn, informationSpan, bytesOf}
 use Rattle.message.specs.Writing.{informationBytes, informationNumbers, informationLent}
@@ -20,7 +21,8 @@ use Rattle.message.specs.declared.values.Extra.{Extra}
 use Rattle.message.specs.declared.values.Extra.the-variants as extra
 use Rattle.message.specs.declared.parts.Part.{Part}
 use Rattle.message.specs.declared.parts.Part.the-variants as part
-use Rattle.message.proofs.Numbers.{two-behind, eight-behind}
+use Rattle.base.proofs.Numbers.{two-behind}
+use Rattle.message.proofs.Numbers.{eight-behind}
 use Rattle.message.proofs.Accepted.{Accepted, Back}
 
 -- what lies in the first of two lists

@@ -1,6 +1,5 @@
 -- The laws, from bits and tables up to the claims of specs/Claims.antt.
 pub mod Bits
-pub mod Among
 pub mod Lines
 pub mod Reading
 pub mod Rows

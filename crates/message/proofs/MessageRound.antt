@@ -9,14 +9,16 @@ use lib.Dec.{ltb}
 use lib.ListN.{length, getD, take, drop}
 use lib.Seq.{take-at}
 use Rattle.frame.specs.Wire.{wire, bodyOf}
-use Rattle.frame.specs.Table.{Row, row}
-use Rattle.frame.specs.Calls.{Write, outcome, onto, writeOf}
+use Rattle.base.specs.Rows.{Row, row}
+use Rattle.base.specs.Outcomes.{Write, outcome, onto}
+use Rattle.frame.specs.Calls.{writeOf}
 use Rattle.frame.proofs.Round.{round-trip}
 use Rattle.message.specs.Commands.{isListed, kindOf}
 use Rattle.message.specs.Writing.{commandIn, payloadIn, lentFits, allowedIn, sendOf}
 use Rattle.message.specs.Claims.{Writable, MessageRoundTrip}
 use Rattle.message.specs.declared.values.Message.{Message}
-use Rattle.message.proofs.Tests.{refused, passed}
+use Rattle.base.proofs.Rows.{refused}
+use Rattle.message.proofs.Tests.{passed}
 use Rattle.message.proofs.Written.{written-read}
 
 -- a call that wrote so many bytes of a frame

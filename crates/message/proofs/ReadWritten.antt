@@ -8,9 +8,11 @@ use borrow.Author.Tests.{lt-ltb, ltb-true, eqb-true, eq-eqb, le-leb}
 use lib.Dec.{eqb, ltb, eqb·suc-zero}
 use lib.ListN.{length, getD, take, drop, length-append, length-take, length-drop}
 use lib.Seq.{take-nil, drop-nil}
-use Rattle.frame.proofs.Steps.{both}
-use Rattle.message.specs.Numbers.{num, twoAt}
-use Rattle.message.specs.Commands.{kindOf, kindIn, among, sizeFits, fits}
+use Rattle.base.proofs.Tests.{both, cond-same}
+use Rattle.message.specs.Numbers.{num}
+use Rattle.base.specs.Numbers.{twoAt}
+use Rattle.message.specs.Commands.{kindOf, kindIn, sizeFits, fits}
+use Rattle.base.specs.Keys.{among}
 use Rattle.message.specs.Counter.{statusValues, statusAllowed, statusIn, controlValues, controlAllowed, controlIn, modeAllowed}
 use Rattle.message.specs.Table.{messageIn}
 use Rattle.message.specs.Reading.{valuesOf}
@@ -24,7 +26,6 @@ use Rattle.message.specs.declared.values.Extra.the-variants as extra
 use Rattle.message.specs.declared.values.Message.{Message}
 use Rattle.message.specs.declared.values.Message.the-variants as message
 use Rattle.message.specs.declared.parts.Part.the-variants as part
-use Rattle.message.proofs.Tests.{cond-same}
 use Rattle.message.proofs.Numbers.{value}
 use Rattle.message.proofs.Accepted.{Accepted, accept, accepted, span-read}
 use Rattle.message.proofs.Written.{written-read}

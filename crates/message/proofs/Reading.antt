@@ -6,23 +6,17 @@ use mathlib.Core.List.{List, [], _∷_}
 use native.Mathlib.Omega.{arith}
 use lib.ListN.{length, getD, List·getD-eq-default}
 use lib.Dec.{eqb, leb, leb·zero, leb·suc-suc, eqb·suc-zero}
-use Rattle.frame.specs.Table.{Row}
-use Rattle.frame.proofs.Steps.{tests}
-use Rattle.message.specs.Numbers.{twoAt}
-use Rattle.message.specs.Commands.{exactly, from, counted, among, fits, sizesOf, layoutOf, sizeFits, isListed, commandsOf, kindOf}
+use Rattle.base.proofs.Keys.{among-none, among-next}
+use Rattle.base.specs.Rows.{Row}
+use Rattle.base.proofs.Tests.{tests}
+use Rattle.base.specs.Numbers.{twoAt}
+use Rattle.message.specs.Commands.{exactly, from, counted, fits, sizesOf, layoutOf, sizeFits, isListed, commandsOf, kindOf}
+use Rattle.base.specs.Keys.{among}
 use Rattle.message.specs.Reading.{allowed, valuesOf, judgedOf, readAs, readOf}
 use Rattle.message.specs.declared.kind.Kind.{Kind}
 use Rattle.message.proofs.Lines.{only}
 
 -- ---- a payload's size, as tests of its length
-
-pub among-none : (x : ℕ) → among x [] ≡ false
-unfolding among
-among-none x = refl
-
-pub among-next : (x y : ℕ) (ys : List ℕ) → among x (y ∷ ys) ≡ cond (eqb x y) true (among x ys)
-unfolding among
-among-next x y ys = refl
 
 pub fits-exactly : (sizes p : List ℕ) → fits (exactly sizes) p ≡ among (length p) sizes
 unfolding fits

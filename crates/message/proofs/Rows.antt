@@ -1,12 +1,12 @@
 -- A message can be read back from its values, and an answer from its line of the table, so no two have the same. Assumes nothing.
 use Prim.Native.Nat.{ℕ}
-use mathlib.Core.Path.{_≡_, refl, sym, ap, _∙_}
+use mathlib.Core.Path.{_≡_, refl, ap}
 use mathlib.Core.Bool.{Bool, true, false, cond}
 use mathlib.Core.List.{List, [], _∷_}
 use lib.ListN.{getD, drop}
 use lib.Dec.{eqb}
-use Rattle.frame.specs.Table.{Row}
-use Rattle.frame.proofs.Rows.{told-apart}
+use Rattle.base.specs.Rows.{Row}
+use Rattle.base.proofs.Rows.{told-apart}
 use Rattle.message.specs.Numbers.{num}
 use Rattle.message.specs.Counter.{statusIn, controlIn}
 use Rattle.message.specs.Table.{networkIn, unixIn, timeIn, messageIn, readingRowOf, sentRowOf, replyRowOf}

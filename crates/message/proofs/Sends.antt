@@ -6,8 +6,9 @@ use mathlib.Core.List.{List, _++_}
 use native.Mathlib.Omega.{arith}
 use lib.ListN.{length, take, drop, length-drop}
 use lib.Seq.{take-all}
-use Rattle.frame.specs.Table.{Row}
-use Rattle.frame.specs.Calls.{Write, outcome, writeOf}
+use Rattle.base.specs.Rows.{Row}
+use Rattle.base.specs.Outcomes.{Write, outcome}
+use Rattle.frame.specs.Calls.{writeOf}
 use Rattle.message.specs.Writing.{sendAs, informationBytes, timeBytes, unixBytes}
 use Rattle.message.specs.declared.values.Unix.{Unix}
 use Rattle.message.specs.declared.values.Time.{Time}

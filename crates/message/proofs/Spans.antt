@@ -7,10 +7,10 @@ use native.Mathlib.Omega.{arith}
 use borrow.Author.Tests.{eqb-true, eqb-false, leb-true}
 use lib.ListN.{length}
 use lib.Dec.{eqb, leb}
-use Rattle.frame.specs.Table.{Row}
-use Rattle.frame.proofs.Cases.{by-test}
-use Rattle.frame.proofs.Steps.{both}
-use Rattle.message.specs.Commands.{among, kindIn, kindOf, isListed, sizesOf, fits, sizeFits}
+use Rattle.base.specs.Rows.{Row}
+use Rattle.base.proofs.Tests.{by-test, both}
+use Rattle.base.specs.Keys.{among}
+use Rattle.message.specs.Commands.{kindIn, kindOf, isListed, sizesOf, fits, sizeFits}
 use Rattle.message.specs.Reading.{readAs, readOf}
 use Rattle.message.specs.Parts.{spanIn, informationSpan}
 use Rattle.message.specs.Claims.{PartsWithin}

@@ -1,23 +1,10 @@
 -- Tests in a row: what each refusal rules out, and what all of them let pass. Assumes nothing.
-use Prim.Native.Nat.{ℕ, suc}
-use mathlib.Core.Path.{_≡_, refl, sym, ap, _∙_}
+use Prim.Native.Nat.{ℕ}
+use mathlib.Core.Path.{_≡_, refl, sym, _∙_}
 use mathlib.Core.Bool.{Bool, true, false, cond}
 use mathlib.Core.List.{List, []}
-use native.Mathlib.Omega.{arith}
-use Rattle.frame.specs.Table.{Row, row}
-
-pub cond-same : {A : Type 0} (t : Bool) (x : A) → cond t x x ≡ x
-cond-same true x = refl
-cond-same false x = refl
-
--- what holds whatever a test says
-pub either-way : {P : Type 0} (t : Bool) → (t ≡ true → P) → (t ≡ false → P) → P
-either-way true f g = f refl
-either-way false f g = g refl
-
--- a row of another number is no row 0
-pub refused : {A : Type 0} {n : ℕ} {us vs : List ℕ} → row (suc n) us ≡ row 0 vs → A
-refused {n} e = let z : suc n ≡ 0 = ap (λ (r : Row). r .number) e in absurd (omega arith)
+use Rattle.base.proofs.Rows.{refused}
+use Rattle.base.specs.Rows.{Row, row}
 
 -- "31, 32, 33": what is given where none of the three is
 module _ {A : Type 0} (rowIn : A → Row) (refusal : ℕ → A) (h : (n : ℕ) → rowIn (refusal n) ≡ row n []) where

@@ -8,10 +8,10 @@ use borrow.Author.Tests.{eq-eqb, ne-eqb, le-leb}
 use lib.Dec.{eqb}
 use lib.ListN.{length, length-append}
 use lib.Seq.{take-at, take-length, take-all}
-use Rattle.frame.specs.Wire.{two}
-use Rattle.frame.proofs.Steps.{both}
-use Rattle.message.specs.Numbers.{twoAt}
-use Rattle.message.specs.Commands.{kindOf, kindIn, among, isListed, sizeFits, fits, from, counted}
+use Rattle.base.specs.Numbers.{two, twoAt}
+use Rattle.base.proofs.Tests.{both}
+use Rattle.message.specs.Commands.{kindOf, kindIn, isListed, sizeFits, fits, from, counted}
+use Rattle.base.specs.Keys.{among}
 use Rattle.message.specs.Table.{messageIn, unixIn}
 use Rattle.message.specs.Writing.{commandIn, payloadIn, timeBytes, unixBytes}
 use Rattle.message.specs.Claims.{Writable, WrittenRead, effective}
@@ -21,7 +21,8 @@ use Rattle.message.specs.declared.values.Unix.{Unix}
 use Rattle.message.specs.declared.values.Unix.the-variants as unix
 use Rattle.message.specs.declared.values.Message.{Message}
 use Rattle.message.specs.declared.values.Message.the-variants as message
-use Rattle.message.proofs.Numbers.{all-same, two-behind, two-back}
+use Rattle.base.proofs.Lists.{all-same}
+use Rattle.base.proofs.Numbers.{two-behind, two-back}
 use Rattle.message.proofs.Fields.{status-back, status-allowed, control-back, control-allowed, network-back}
 use Rattle.message.proofs.Information.{information-back}
 use Rattle.message.proofs.Accepted.{Accepted, Back, other-back, read-back}

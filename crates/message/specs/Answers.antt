@@ -5,9 +5,11 @@ use mathlib.Core.List.{List, [], _∷_}
 use lib.ListN.{getD}
 use lib.Dec.{eqb}
 use Rattle.frame.specs.Wire.{commandOf, numberOf, payloadOf}
-use Rattle.frame.specs.Table.{Row, row}
-use Rattle.frame.specs.Calls.{Write, outcome, writeOf}
-use Rattle.message.specs.Commands.{among, fromBox}
+use Rattle.base.specs.Rows.{Row, row}
+use Rattle.base.specs.Outcomes.{Write, outcome}
+use Rattle.frame.specs.Calls.{writeOf}
+use Rattle.base.specs.Keys.{among}
+use Rattle.message.specs.Commands.{fromBox}
 use Rattle.message.specs.Reading.{readOf}
 use Rattle.message.specs.declared.replies.Due.{Due}
 use Rattle.message.specs.declared.replies.Due.the-variants.{Nothing, AskInformation, AskStatus, Acknowledge, Reject}

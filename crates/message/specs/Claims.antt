@@ -6,8 +6,9 @@ use mathlib.Core.List.{List, [], _∷_, _++_}
 use lib.ListN.{length, getD, take, drop}
 use lib.Dec.{eqb}
 use Rattle.frame.specs.Wire.{commandOf, payloadOf}
-use Rattle.frame.specs.Table.{row}
-use Rattle.frame.specs.Calls.{outcome, freshOf}
+use Rattle.base.specs.Rows.{row}
+use Rattle.base.specs.Outcomes.{outcome}
+use Rattle.frame.specs.Calls.{freshOf}
 use Rattle.frame.specs.Logs.{Call, Entry, logOf, readerAfter, stream}
 use Rattle.frame.specs.Claims.{ReadBack}
 use Rattle.message.specs.Numbers.{num}

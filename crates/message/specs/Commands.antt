@@ -5,14 +5,10 @@ use mathlib.Core.Bool.{Bool, true, false, cond, _&&_}
 use mathlib.Core.List.{List, [], _∷_}
 use lib.ListN.{length, getD}
 use lib.Dec.{eqb, leb}
-use Rattle.message.specs.Numbers.{twoAt}
+use Rattle.base.specs.Keys.{among}
+use Rattle.base.specs.Numbers.{twoAt}
 use Rattle.message.specs.declared.kind.Kind.{Kind}
 use Rattle.message.specs.declared.kind.Kind.the-variants.{Unlisted, Empty, Information, Action, Status, Report, Onboarding, Network, ModuleReject, BoxReject, Time, Announcement, Ready, Piece}
-
--- whether a number is one of a list
-unfoldable pub among : ℕ → List ℕ → Bool
-among x [] = false
-among x (y ∷ ys) = cond (eqb x y) true (among x ys)
 
 -- what the sizes of a payload may be
 pub data Sizes : Type 0 where

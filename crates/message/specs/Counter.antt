@@ -4,8 +4,8 @@ use mathlib.Core.Bool.{Bool, true, cond, _&&_}
 use mathlib.Core.List.{List, [], _∷_}
 use lib.ListN.{getD}
 use lib.Dec.{eqb, ltb}
-use Rattle.frame.specs.Wire.{two}
-use Rattle.message.specs.Numbers.{num, bit, bits, twoAt, fourAt, four}
+use Rattle.base.specs.Numbers.{two, twoAt, fourAt, four}
+use Rattle.message.specs.Numbers.{num, bit, bits}
 use Rattle.message.specs.declared.counter.Status.{Status}
 use Rattle.message.specs.declared.counter.Control.{Control}
 

@@ -5,8 +5,8 @@ use mathlib.Core.List.{List}
 use lib.ListN.{length, take, drop}
 use lib.Dec.{eqb, leb}
 use denote.Ref.{RefT}
-use Rattle.frame.specs.Parts.{IsPart}
-use Rattle.message.specs.Numbers.{twoAt}
+use Rattle.base.specs.Parts.{IsPart}
+use Rattle.base.specs.Numbers.{twoAt}
 use Rattle.message.specs.Reading.{readOf}
 use Rattle.message.specs.declared.parts.Part.{Part}
 use Rattle.message.specs.declared.parts.Part.the-variants.{SerialVersion, ProtocolVersion, HardwareVersion, SoftwareVersion, ProductKey, Secret, CheckCode, Data}

@@ -4,8 +4,9 @@ use mathlib.Core.Bool.{Bool, true, false, cond, _&&_, _||_}
 use mathlib.Core.List.{List, [], _∷_}
 use lib.ListN.{length, getD, drop}
 use lib.Dec.{eqb, leb}
-use Rattle.frame.specs.Table.{Row, row}
-use Rattle.message.specs.Numbers.{bit, bits, twoAt, fourAt, eightAt}
+use Rattle.base.specs.Rows.{Row, row}
+use Rattle.message.specs.Numbers.{bit, bits, eightAt}
+use Rattle.base.specs.Numbers.{twoAt, fourAt}
 use Rattle.message.specs.Commands.{isListed, kindOf, sizeFits}
 use Rattle.message.specs.Counter.{statusValues, statusAllowed, controlValues, controlAllowed}
 use Rattle.message.specs.declared.kind.Kind.{Kind}

@@ -1,7 +1,7 @@
 -- The number and the values of each answer, as a row of paper 01's table. A message that was read has no number there and stands under 0.
 use Prim.Native.Nat.{ℕ}
 use mathlib.Core.List.{List, [], _∷_}
-use Rattle.frame.specs.Table.{Row, row}
+use Rattle.base.specs.Rows.{Row, row}
 use Rattle.message.specs.Numbers.{num}
 use Rattle.message.specs.Counter.{statusIn, controlIn}
 use Rattle.message.specs.declared.values.Extra.{Extra}

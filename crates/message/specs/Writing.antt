@@ -4,10 +4,11 @@ use mathlib.Core.Bool.{Bool, true, cond, _&&_}
 use mathlib.Core.List.{List, [], _∷_, _++_}
 use lib.ListN.{length, take, drop}
 use lib.Dec.{eqb, ltb, leb}
-use Rattle.frame.specs.Wire.{two}
-use Rattle.frame.specs.Table.{row}
-use Rattle.frame.specs.Calls.{Write, outcome, writeOf}
-use Rattle.message.specs.Numbers.{num, four, eight}
+use Rattle.base.specs.Numbers.{two, four}
+use Rattle.base.specs.Rows.{row}
+use Rattle.base.specs.Outcomes.{Write, outcome}
+use Rattle.frame.specs.Calls.{writeOf}
+use Rattle.message.specs.Numbers.{num, eight}
 use Rattle.message.specs.Commands.{isListed, kindOf, sizeFits}
 use Rattle.message.specs.Counter.{statusBytes, controlBytes, modeAllowed}
 use Rattle.message.specs.Reading.{wayAllowed, codeAllowed}

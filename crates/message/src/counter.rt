@@ -1,10 +1,7 @@
 // The counter's own layout: status in 8 bytes and control in 4, each behind the payload's first byte.
-use super::bytes::byte_at;
 use super::bytes::flagged;
 use super::bytes::flagged_bit;
-use super::bytes::four_at;
 use super::bytes::lowest_bit;
-use super::bytes::two_at;
 ghost use mathlib.Core.Path.{_≡_};
 ghost use mathlib.Core.Bool.{true};
 ghost use mathlib.Core.List.{_∷_};
@@ -43,11 +40,11 @@ pub struct Control {
 pub(crate) fn status_allowed(payload: &[u8]) -> bool
     ensures { λ r. ⌜ r ≡ statusAllowed (drop 1 (now (payload .entry))) ⌝ }
 {
-    let first = byte_at(payload, 1);
+    let first = base::byte_at(payload, 1);
     if 16 <= first {
         return false;
     }
-    if 8 <= byte_at(payload, 8) {
+    if 8 <= base::byte_at(payload, 8) {
         return false;
     }
     first / 4 % 4 < 3
@@ -57,14 +54,14 @@ pub(crate) fn status_allowed(payload: &[u8]) -> bool
 pub(crate) fn status_of(payload: &[u8]) -> Status
     ensures { λ r. ⌜ statusIn r ≡ statusValues (drop 1 (now (payload .entry))) ⌝ }
 {
-    let first = byte_at(payload, 1) as u16;
-    let last = byte_at(payload, 8) as u16;
+    let first = base::byte_at(payload, 1) as u16;
+    let last = base::byte_at(payload, 8) as u16;
     Status {
         feeding: lowest_bit(first),
         lamp: lowest_bit(first / 2),
         mode: (first / 4 % 4) as u8,
-        volume: two_at(payload, 2),
-        leaf: four_at(payload, 4),
+        volume: base::two_at(payload, 2),
+        leaf: base::four_at(payload, 4),
         double: lowest_bit(last),
         skipped: lowest_bit(last / 2),
         fault: lowest_bit(last / 4),
@@ -75,8 +72,8 @@ pub(crate) fn status_of(payload: &[u8]) -> Status
 pub(crate) fn control_allowed(payload: &[u8]) -> bool
     ensures { λ r. ⌜ r ≡ controlAllowed (drop 1 (now (payload .entry))) ⌝ }
 {
-    let flags = byte_at(payload, 1);
-    let values = byte_at(payload, 2);
+    let flags = base::byte_at(payload, 1);
+    let values = base::byte_at(payload, 2);
     if 8 <= flags {
         return false;
     }
@@ -93,8 +90,8 @@ pub(crate) fn control_allowed(payload: &[u8]) -> bool
 pub(crate) fn control_of(payload: &[u8]) -> Control
     ensures { λ r. ⌜ controlIn r ≡ controlValues (drop 1 (now (payload .entry))) ⌝ }
 {
-    let bits = byte_at(payload, 1) as u16;
-    let values = byte_at(payload, 2) as u16;
+    let bits = base::byte_at(payload, 1) as u16;
+    let values = base::byte_at(payload, 2) as u16;
     let flags = Flags {
         lamp: lowest_bit(bits),
         mode: lowest_bit(bits / 2),
@@ -104,7 +101,7 @@ pub(crate) fn control_of(payload: &[u8]) -> Control
         flags,
         lamp: flagged_bit(flags.lamp, lowest_bit(values)),
         mode: flagged(flags.mode, values / 2 % 4) as u8,
-        volume: flagged(flags.volume, two_at(payload, 3)),
+        volume: flagged(flags.volume, base::two_at(payload, 3)),
     }
 }
 

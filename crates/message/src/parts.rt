@@ -1,5 +1,4 @@
 // The parts of a message that are no values: texts, key, secret, check code and data, handed out where they lie.
-use super::bytes::two_at;
 use super::reader::Reading;
 use super::reader::read;
 ghost use mathlib.Core.Path.{_≡_};
@@ -44,13 +43,13 @@ fn span_of_code(command: u8, payload: &[u8]) -> Span
     if command == 0x19 {
         return Span {
             start: 6,
-            size: two_at(payload, 4) as usize,
+            size: base::two_at(payload, 4) as usize,
         };
     }
     if command == 0x1B {
         return Span {
             start: 2,
-            size: two_at(payload, 0) as usize,
+            size: base::two_at(payload, 0) as usize,
         };
     }
     Span { start: 0, size: 0 }

@@ -1,9 +1,6 @@
 // A payload read: the message that it is, or why it is none. Sizes are tested before fields.
-use super::bytes::byte_at;
 use super::bytes::eight_at;
-use super::bytes::four_at;
 use super::bytes::lowest_bit;
-use super::bytes::two_at;
 use super::counter::control_allowed;
 use super::counter::control_of;
 use super::counter::status_allowed;
@@ -49,7 +46,7 @@ fn read_information(payload: &[u8]) -> Reading
     ensures { λ r. ⌜ readingRowOf r ≡ readAs kind.Information 0x02 (now (payload .entry)) ⌝ }
 {
     let size = payload.len();
-    let timeout = two_at(payload, 64);
+    let timeout = base::two_at(payload, 64);
     if size == 66 {
         return Reading::Got {
             message: Message::Information {
@@ -139,7 +136,7 @@ fn read_report(payload: &[u8]) -> Reading
 fn read_onboarding(payload: &[u8]) -> Reading
     ensures { λ r. ⌜ readingRowOf r ≡ readAs kind.Onboarding 0x09 (now (payload .entry)) ⌝ }
 {
-    let way = byte_at(payload, 0);
+    let way = base::byte_at(payload, 0);
     judged(
         payload.len() == 1,
         way_allowed(way),
@@ -151,7 +148,7 @@ fn read_onboarding(payload: &[u8]) -> Reading
 fn network_of(payload: &[u8]) -> Network
     ensures { λ r. ⌜ networkIn r ≡ networkValues (now (payload .entry)) ⌝ }
 {
-    let bits = two_at(payload, 0);
+    let bits = base::two_at(payload, 0);
     Network {
         softap: lowest_bit(bits),
         station: lowest_bit(bits / 2),
@@ -177,7 +174,7 @@ fn read_network(payload: &[u8]) -> Reading
 fn read_module_reject(payload: &[u8]) -> Reading
     ensures { λ r. ⌜ readingRowOf r ≡ readAs kind.ModuleReject 0x11 (now (payload .entry)) ⌝ }
 {
-    let code = byte_at(payload, 0);
+    let code = base::byte_at(payload, 0);
     judged(
         payload.len() == 1,
         code_allowed(code),
@@ -189,7 +186,7 @@ fn read_module_reject(payload: &[u8]) -> Reading
 fn read_box_reject(payload: &[u8]) -> Reading
     ensures { λ r. ⌜ readingRowOf r ≡ readAs kind.BoxReject 0x12 (now (payload .entry)) ⌝ }
 {
-    let code = byte_at(payload, 0);
+    let code = base::byte_at(payload, 0);
     judged(
         payload.len() == 1,
         code_allowed(code),
@@ -202,12 +199,12 @@ fn time_of(payload: &[u8], unix: Unix) -> Time
     ensures { λ r. ⌜ timeIn r ≡ timeValues (now (payload .entry)) (unixIn unix) ⌝ }
 {
     Time {
-        year: two_at(payload, 0),
-        month: byte_at(payload, 2),
-        day: byte_at(payload, 3),
-        hour: byte_at(payload, 4),
-        minute: byte_at(payload, 5),
-        second: byte_at(payload, 6),
+        year: base::two_at(payload, 0),
+        month: base::byte_at(payload, 2),
+        day: base::byte_at(payload, 3),
+        hour: base::byte_at(payload, 4),
+        minute: base::byte_at(payload, 5),
+        second: base::byte_at(payload, 6),
         unix,
     }
 }
@@ -225,7 +222,7 @@ fn read_time(payload: &[u8]) -> Reading
         };
     }
     if size == 11 {
-        let seconds = four_at(payload, 7);
+        let seconds = base::four_at(payload, 7);
         return Reading::Got {
             message: Message::Time {
                 time: time_of(payload, Unix::Seconds { seconds }),
@@ -239,8 +236,8 @@ fn read_time(payload: &[u8]) -> Reading
 fn read_announcement(payload: &[u8]) -> Reading
     ensures { λ r. ⌜ readingRowOf r ≡ readAs kind.Announcement 0x19 (now (payload .entry)) ⌝ }
 {
-    let size = four_at(payload, 0);
-    let count = two_at(payload, 4) as usize;
+    let size = base::four_at(payload, 0);
+    let count = base::two_at(payload, 4) as usize;
     judged(
         payload.len() == 6 + count,
         true,
@@ -252,8 +249,8 @@ fn read_announcement(payload: &[u8]) -> Reading
 fn read_ready(payload: &[u8]) -> Reading
     ensures { λ r. ⌜ readingRowOf r ≡ readAs kind.Ready 0x1B (now (payload .entry)) ⌝ }
 {
-    let count = two_at(payload, 0) as usize;
-    let piece = two_at(payload, 2 + count);
+    let count = base::two_at(payload, 0) as usize;
+    let piece = base::two_at(payload, 2 + count);
     judged(payload.len() == 4 + count, true, Message::Ready { piece })
 }
 
@@ -261,8 +258,8 @@ fn read_ready(payload: &[u8]) -> Reading
 fn read_piece(payload: &[u8]) -> Reading
     ensures { λ r. ⌜ readingRowOf r ≡ readAs kind.Piece 0x1D (now (payload .entry)) ⌝ }
 {
-    let index = two_at(payload, 0);
-    let total = two_at(payload, 2);
+    let index = base::two_at(payload, 0);
+    let total = base::two_at(payload, 2);
     judged(4 <= payload.len(), true, Message::Piece { index, total })
 }
 

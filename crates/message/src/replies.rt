@@ -2,7 +2,6 @@
 use super::BAD_COMMAND;
 use super::BAD_SUM;
 use super::OTHER_FAULT;
-use super::bytes::byte_at;
 use super::kind::from_box;
 use super::reader::Reading;
 use super::reader::read;
@@ -11,7 +10,8 @@ use frame::Written;
 ghost use mathlib.Core.Path.{_≡_};
 ghost use mathlib.Core.List.{[]};
 ghost use Rattle.frame.specs.Table.{rowOf};
-ghost use Rattle.frame.specs.Calls.{outcome, writeOf};
+ghost use Rattle.base.specs.Outcomes.{outcome};
+ghost use Rattle.frame.specs.Calls.{writeOf};
 ghost use Rattle.message.specs.Table.{replyRowOf};
 ghost use Rattle.message.specs.Answers.{dueForAction, dueFor, dueOf, rejectOf, answerFrameOf, answerOf};
 
@@ -38,7 +38,7 @@ pub enum Reply {
 fn due_for_action(payload: &[u8]) -> Due
     ensures { λ r. ⌜ r ≡ dueForAction (now (payload .entry)) ⌝ }
 {
-    if byte_at(payload, 0) == 1 {
+    if base::byte_at(payload, 0) == 1 {
         return Due::Acknowledge { command: 0x04 };
     }
     Due::AskStatus

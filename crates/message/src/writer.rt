@@ -22,10 +22,11 @@ ghost use mathlib.Core.List.{[], _∷_};
 ghost use Prim.Native.Nat.{_<_, _≤_};
 ghost use lib.ListN.{length};
 ghost use lib.Dec.{eqb, ltb};
-ghost use Rattle.frame.specs.Wire.{two};
-ghost use Rattle.frame.specs.Calls.{outcome, writeOf};
+ghost use Rattle.base.specs.Numbers.{two};
+ghost use Rattle.base.specs.Outcomes.{outcome};
+ghost use Rattle.frame.specs.Calls.{writeOf};
 ghost use Rattle.frame.specs.Table.{writtenRowOf};
-ghost use Rattle.message.specs.Numbers.{four, eight};
+ghost use Rattle.message.specs.Numbers.{eight};
 ghost use Rattle.message.specs.Table.{sentRowOf};
 ghost use Rattle.message.specs.Counter.{statusBytes};
 ghost use Rattle.message.specs.Reading.{codeAllowed};
@@ -286,22 +287,10 @@ fn write_time(time: Time, lent: &[u8], number: u8, flags: u16, out: &mut [u8]) -
     match unix {
         Unix::Absent => write_frame(0x18, &bytes, number, flags, out),
         Unix::Seconds { seconds } => {
-            let tail = four_bytes(seconds);
+            let tail = base::four_bytes(seconds);
             passed_on(frame::write_parts(0x18, number, flags, &bytes, lent, &tail, out))
         }
     }
-}
-
-// A number in four bytes, big-endian.
-fn four_bytes(value: u32) -> [u8; 4]
-    ensures { λ r. ⌜ r ≡ four value [] ⌝ }
-{
-    [
-        (value / 65536 / 256) as u8,
-        (value / 65536 % 256) as u8,
-        (value % 65536 / 256) as u8,
-        (value % 65536 % 256) as u8,
-    ]
 }
 
 // Data announced, with its check code.
@@ -312,7 +301,7 @@ fn write_announcement(size: u32, code: &[u8], number: u8, flags: u16, out: &mut 
     if 65535 < count {
         return Sent::Size;
     }
-    let size_bytes = four_bytes(size);
+    let size_bytes = base::four_bytes(size);
     let count_bytes = [(count / 256) as u8, (count % 256) as u8];
     passed_on(frame::write_parts(0x19, number, flags, &size_bytes, &count_bytes, code, out))
 }

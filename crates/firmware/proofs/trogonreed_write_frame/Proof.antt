@@ -2,7 +2,7 @@
 use mathlib.Core.Path.{ap}
 use native.Mathlib.Omega.{arith}
 use borrow.Author.Needs.{needs}
-use Rattle.frame.specs.Calls.{Write}
+use Rattle.base.specs.Outcomes.{Write}
 use Rattle.firmware.specs.Code.{countIn, returnedOf}
 use Rattle.firmware.specs.Claims.{Given, answered}
 use Rattle.firmware.proofs.Codes.{counts-below}

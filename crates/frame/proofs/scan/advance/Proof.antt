@@ -1,6 +1,6 @@
 -- `scan::advance` parts the raw FF from the other bytes.
 use borrow.Author.Needs.{needs}
-use Rattle.frame.proofs.Steps.{tests}
+use Rattle.base.proofs.Tests.{tests}
 use Rattle.frame.proofs.scan.advance.Statement.{statement}
 use Rattle.frame.proofs.scan.advance.Tie as tie
 

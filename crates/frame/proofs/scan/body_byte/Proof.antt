@@ -1,6 +1,6 @@
 -- `scan::body_byte` goes by the bytes that are there: none, one, or more. Each return has what the call there ensures, and the tests on the way.
 use borrow.Author.Needs.{needs}
-use Rattle.frame.proofs.Steps.{tests}
+use Rattle.base.proofs.Tests.{tests}
 use Rattle.frame.proofs.scan.body_byte.Statement.{statement}
 use Rattle.frame.proofs.scan.body_byte.Tie as tie
 

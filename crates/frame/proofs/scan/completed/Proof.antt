@@ -1,6 +1,6 @@
 -- `scan::completed` compares the body's last byte with the sum.
 use borrow.Author.Needs.{needs}
-use Rattle.frame.proofs.Steps.{tests}
+use Rattle.base.proofs.Tests.{tests}
 use Rattle.frame.proofs.scan.completed.Statement.{statement}
 use Rattle.frame.proofs.scan.completed.Tie as tie
 

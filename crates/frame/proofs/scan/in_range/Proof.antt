@@ -1,6 +1,6 @@
 -- `scan::in_range` tests the two ranges.
 use borrow.Author.Needs.{needs}
-use Rattle.frame.proofs.Steps.{tests}
+use Rattle.base.proofs.Tests.{tests}
 use Rattle.frame.proofs.scan.in_range.Statement.{statement}
 use Rattle.frame.proofs.scan.in_range.Tie as tie
 

@@ -1,6 +1,6 @@
 -- `scan::on_escaped` takes the stuffed 55, or refuses the frame.
 use borrow.Author.Needs.{needs}
-use Rattle.frame.proofs.Steps.{tests}
+use Rattle.base.proofs.Tests.{tests}
 use Rattle.frame.proofs.scan.on_escaped.Statement.{statement}
 use Rattle.frame.proofs.scan.on_escaped.Tie as tie
 

@@ -3,9 +3,11 @@ use Prim.Native.Nat.{_+_, _-_, _≤_, _<_, _%_, _^_}
 use mathlib.Core.Path.{_≡_, refl, ap}
 use native.Mathlib.Omega.{arith}
 use lib.ListN.{length, drop}
-use Rattle.frame.specs.Wire.{stuff, total}
+use Rattle.frame.specs.Wire.{stuff}
+use Rattle.base.specs.Sums.{total}
 use Rattle.frame.proofs.Stuffing.{stuff-bound}
-use Rattle.frame.proofs.Writing.{length-left, total-left, stuff-none, total-none}
+use Rattle.frame.proofs.Writing.{length-left, stuff-none}
+use Rattle.base.proofs.Sums.{total-left, total-none}
 use Rattle.frame.proofs.writer.measured.Statement.{statement}
 use Rattle.frame.proofs.writer.measured.Tie as tie
 

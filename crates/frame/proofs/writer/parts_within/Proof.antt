@@ -6,11 +6,15 @@ use native.Mathlib.Omega.{arith}
 use borrow.Author.Tests.{lt-ltb, le-ltb}
 use lib.ListN.{length}
 use lib.Seq.{sets}
-use Rattle.frame.specs.Wire.{wire, total, two, bodyOf}
-use Rattle.frame.specs.Table.{row}
-use Rattle.frame.specs.Calls.{Write, outcome, writeOf}
-use Rattle.frame.proofs.Sums.{total-append}
-use Rattle.frame.proofs.Writing.{parts-length, sets-front}
+use Rattle.frame.specs.Wire.{wire, bodyOf}
+use Rattle.base.specs.Sums.{total}
+use Rattle.base.specs.Numbers.{two}
+use Rattle.base.specs.Rows.{row}
+use Rattle.base.specs.Outcomes.{Write, outcome}
+use Rattle.frame.specs.Calls.{writeOf}
+use Rattle.base.proofs.Sums.{total-append}
+use Rattle.frame.proofs.Writing.{parts-length}
+use Rattle.base.proofs.Stores.{sets-front}
 use borrow.Author.Needs.{needs}
 use Rattle.frame.proofs.writer.parts_within.Statement.{statement}
 use Rattle.frame.proofs.writer.parts_within.Tie as tie

@@ -5,7 +5,8 @@ use native.Mathlib.Omega.{arith}
 use lib.ListN.{length, drop}
 use lib.Seq.{sets}
 use Rattle.frame.specs.Wire.{stuff}
-use Rattle.frame.proofs.Writing.{stuff-left, length-left, stuff-none, sets-append}
+use Rattle.frame.proofs.Writing.{stuff-left, length-left, stuff-none}
+use Rattle.base.proofs.Stores.{sets-append}
 use Rattle.frame.proofs.writer.put_bytes.Statement.{statement}
 use Rattle.frame.proofs.writer.put_bytes.Tie as tie
 

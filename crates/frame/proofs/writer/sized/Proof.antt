@@ -6,7 +6,7 @@ use borrow.Author.Needs.{needs}
 use lib.ListN.{length}
 use Rattle.frame.specs.Wire.{stuff}
 use Rattle.frame.proofs.Stuffing.{stuff-bound}
-use Rattle.frame.proofs.Sums.{sum-append}
+use Rattle.base.proofs.Sums.{sum-append}
 use Rattle.frame.proofs.Writing.{parts-length, wire-length}
 use Rattle.frame.proofs.writer.sized.Statement.{statement}
 use Rattle.frame.proofs.writer.sized.Tie as tie

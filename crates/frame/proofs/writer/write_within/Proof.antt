@@ -3,7 +3,8 @@ use Prim.Native.Nat.{ℕ}
 use mathlib.Core.Path.{_≡_}
 use mathlib.Core.List.{List, [], _++_, append-nil}
 use borrow.Author.Needs.{needs}
-use Rattle.frame.specs.Calls.{Write, writeOf}
+use Rattle.base.specs.Outcomes.{Write}
+use Rattle.frame.specs.Calls.{writeOf}
 use Rattle.frame.proofs.writer.write_within.Statement.{statement}
 use Rattle.frame.proofs.writer.write_within.Tie as tie
 

@@ -3,7 +3,7 @@ use borrow.Author.Needs.{needs}
 use mathlib.Core.Path.{_≡_}
 use mathlib.Core.Bool.{true}
 use Rattle.link.specs.Calls.{inRange}
-use Rattle.link.proofs.Guards.{past, caught}
+use Rattle.base.proofs.Tests.{past, caught}
 use Rattle.link.proofs.arrivals.arrive.Statement.{statement}
 use Rattle.link.proofs.arrivals.arrive.Tie as tie
 

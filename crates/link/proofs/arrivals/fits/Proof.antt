@@ -1,6 +1,6 @@
 -- `arrivals::fits` compares the command with the waiting one plus 1, and then the numbers.
 use borrow.Author.Needs.{needs}
-use Rattle.frame.proofs.Steps.{tests}
+use Rattle.base.proofs.Tests.{tests}
 use Rattle.link.proofs.arrivals.fits.Statement.{statement}
 use Rattle.link.proofs.arrivals.fits.Tie as tie
 

@@ -1,6 +1,6 @@
 -- `clock::is_due` tests the elapsed time at both ends.
 use borrow.Author.Needs.{needs}
-use Rattle.frame.proofs.Steps.{tests}
+use Rattle.base.proofs.Tests.{tests}
 use Rattle.link.proofs.clock.is_due.Statement.{statement}
 use Rattle.link.proofs.clock.is_due.Tie as tie
 

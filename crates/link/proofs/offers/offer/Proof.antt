@@ -7,7 +7,7 @@ use Rattle.link.specs.declared.state.Link.{Link}
 use Rattle.link.specs.declared.state.Wait.the-variants.{Idle}
 use Rattle.link.specs.Sending.{mayWait}
 use Rattle.link.specs.Calls.{inRange, acceptOf, offerOf}
-use Rattle.link.proofs.Guards.{past, caught}
+use Rattle.base.proofs.Tests.{past, caught}
 use Rattle.link.proofs.offers.offer.Statement.{statement}
 use Rattle.link.proofs.offers.offer.Tie as tie
 

@@ -1,6 +1,6 @@
 -- `state::following` counts on, and begins again behind 255.
 use borrow.Author.Needs.{needs}
-use Rattle.frame.proofs.Steps.{tests}
+use Rattle.base.proofs.Tests.{tests}
 use Rattle.link.proofs.state.following.Statement.{statement}
 use Rattle.link.proofs.state.following.Tie as tie
 

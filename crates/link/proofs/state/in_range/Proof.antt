@@ -1,6 +1,6 @@
 -- `state::in_range` tests each field.
 use borrow.Author.Needs.{needs}
-use Rattle.frame.proofs.Steps.{tests}
+use Rattle.base.proofs.Tests.{tests}
 use Rattle.link.proofs.state.in_range.Statement.{statement}
 use Rattle.link.proofs.state.in_range.Tie as tie
 

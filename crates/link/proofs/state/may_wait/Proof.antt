@@ -2,8 +2,8 @@
 use mathlib.Core.Path.{refl}
 use mathlib.Core.List.{[], _∷_}
 use native.Mathlib.Omega.{arith}
-use Rattle.message.specs.Commands.{among}
-use Rattle.message.proofs.Lines.{at-keys, in-range}
+use Rattle.base.specs.Keys.{among}
+use Rattle.base.proofs.Keys.{at-keys, in-range}
 use Rattle.link.specs.Sending.{waitCommands, mayWait}
 use Rattle.link.proofs.state.may_wait.Statement.{statement}
 use Rattle.link.proofs.state.may_wait.Tie as tie

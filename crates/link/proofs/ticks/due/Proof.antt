@@ -1,6 +1,6 @@
 -- `ticks::due` sends again, or gives up behind the last repeat.
 use borrow.Author.Needs.{needs}
-use Rattle.frame.proofs.Steps.{tests}
+use Rattle.base.proofs.Tests.{tests}
 use Rattle.link.proofs.ticks.due.Statement.{statement}
 use Rattle.link.proofs.ticks.due.Tie as tie
 

@@ -4,9 +4,8 @@ use mathlib.Core.Path.{ap}
 use native.Mathlib.Omega.{arith}
 use lib.ListN.{length, take, drop, length-take}
 use Rattle.frame.specs.Table.{rowOf}
-use Rattle.frame.specs.Calls.{Write}
+use Rattle.base.specs.Outcomes.{Write, writtenIn}
 use Rattle.listing.specs.Lines.{answerText}
-use Rattle.listing.specs.Table.{writtenIn}
 use Rattle.listing.proofs.Claims.{within}
 use borrow.Author.Needs.{needs}
 use Rattle.list.proofs.waiting.add.Statement.{statement}

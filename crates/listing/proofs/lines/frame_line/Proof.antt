@@ -5,9 +5,8 @@ use mathlib.Core.List.{List, [], _∷_, _++_}
 use borrow.Author.Needs.{needs}
 use lib.ListN.{length}
 use Rattle.frame.specs.Wire.{commandOf, numberOf, flagsOf, payloadOf}
-use Rattle.frame.specs.Calls.{Write}
+use Rattle.base.specs.Outcomes.{Write, placed}
 use Rattle.listing.specs.Lines.{ascii, textOf, partsOf}
-use Rattle.listing.specs.Calls.{placed}
 use Rattle.listing.proofs.lines.frame_line.Statement.{statement}
 use Rattle.listing.proofs.lines.frame_line.Tie as tie
 

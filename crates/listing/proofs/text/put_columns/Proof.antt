@@ -8,9 +8,6 @@ use Rattle.listing.specs.Decimal.{columnsOf}
 use Rattle.listing.proofs.Puts.{columns-count, columns-put, columns-none}
 use Rattle.listing.proofs.text.put_columns.Statement.{statement}
 use Rattle.listing.proofs.text.put_columns.Tie as tie
-use Rattle.listing.proofs.text.put_columns.Reads as reads
-use Rattle.listing.proofs.text.put_columns.Lts as lts
-use Rattle.listing.proofs.decimal.put_decimal.Reads as put-decimal-reads
 
 abbrev Inv-loop : tie.InvT-loop
 Inv-loop out₀ at numbers next₀ i₀ out next i =

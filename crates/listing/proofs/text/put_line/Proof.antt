@@ -6,7 +6,7 @@ use native.Mathlib.Nat.{zero-add}
 use native.Mathlib.Omega.{arith}
 use borrow.Author.Needs.{needs}
 use lib.ListN.{length, length-append}
-use Rattle.frame.proofs.Writing.{put-join}
+use Rattle.base.proofs.Stores.{put-join}
 use Rattle.listing.specs.Decimal.{columnsOf}
 use Rattle.listing.specs.Lines.{textOf}
 use Rattle.listing.proofs.Puts.{too-long, fitting}

@@ -1,7 +1,7 @@
 -- `counter::control_allowed` tests as the definition does, the control's bytes being those behind the payload's first.
 use borrow.Author.Needs.{needs}
 use lib.Seq.{getD-drop}
-use Rattle.frame.proofs.Steps.{tests}
+use Rattle.base.proofs.Tests.{tests}
 use Rattle.message.proofs.counter.control_allowed.Statement.{statement}
 use Rattle.message.proofs.counter.control_allowed.Tie as tie
 

@@ -4,8 +4,9 @@ use mathlib.Core.Path.{_≡_, refl}
 use mathlib.Core.Bool.{Bool}
 use mathlib.Core.List.{List, [], _∷_}
 use native.Mathlib.Omega.{arith}
-use Rattle.message.specs.Commands.{among, fromBox}
-use Rattle.message.proofs.Lines.{Ranged, at-keys, in-range}
+use Rattle.base.specs.Keys.{among}
+use Rattle.message.specs.Commands.{fromBox}
+use Rattle.base.proofs.Keys.{Ranged, at-keys, in-range}
 use Rattle.message.proofs.kind.from_box.Statement.{statement}
 use Rattle.message.proofs.kind.from_box.Tie as tie
 

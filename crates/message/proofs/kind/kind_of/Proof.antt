@@ -4,9 +4,10 @@ use mathlib.Core.Path.{_≡_, refl}
 use mathlib.Core.List.{List, [], _∷_, map}
 use native.Mathlib.Omega.{arith}
 use lib.ListN.{drop}
-use Rattle.message.specs.Commands.{among, commandsOf, kinds, kindIn, kindOf}
+use Rattle.base.specs.Keys.{among}
+use Rattle.message.specs.Commands.{commandsOf, kinds, kindIn, kindOf}
 use Rattle.message.specs.declared.kind.Kind.{Kind}
-use Rattle.message.proofs.Lines.{Ranged, at-keys, in-range}
+use Rattle.base.proofs.Keys.{Ranged, at-keys, in-range}
 use Rattle.message.proofs.kind.kind_of.Statement.{statement}
 use Rattle.message.proofs.kind.kind_of.Tie as tie
 

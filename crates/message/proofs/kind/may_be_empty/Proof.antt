@@ -1,6 +1,7 @@
 -- `kind::may_be_empty` says of each kind whether no bytes have one of its sizes.
 use borrow.Author.Needs.{needs}
-use Rattle.message.specs.Commands.{among, fits, sizeFits}
+use Rattle.base.specs.Keys.{among}
+use Rattle.message.specs.Commands.{fits, sizeFits}
 use Rattle.message.proofs.kind.may_be_empty.Statement.{statement}
 use Rattle.message.proofs.kind.may_be_empty.Tie as tie
 

@@ -1,6 +1,6 @@
 -- `parts::span_of_code` goes by the command.
 use borrow.Author.Needs.{needs}
-use Rattle.frame.proofs.Steps.{tests}
+use Rattle.base.proofs.Tests.{tests}
 use Rattle.message.proofs.parts.span_of_code.Statement.{statement}
 use Rattle.message.proofs.parts.span_of_code.Tie as tie
 

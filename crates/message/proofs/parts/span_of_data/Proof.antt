@@ -5,7 +5,7 @@ use native.Mathlib.Omega.{arith}
 use borrow.Author.Needs.{needs}
 use borrow.Author.Tests.{eq-eqb}
 use lib.ListN.{length}
-use Rattle.frame.proofs.Steps.{tests}
+use Rattle.base.proofs.Tests.{tests}
 use Rattle.message.proofs.parts.span_of_data.Statement.{statement}
 use Rattle.message.proofs.parts.span_of_data.Tie as tie
 

@@ -1,5 +1,5 @@
 -- `parts::span_of_information` goes by the command and the payload's size.
-use Rattle.frame.proofs.Steps.{tests}
+use Rattle.base.proofs.Tests.{tests}
 use Rattle.message.proofs.parts.span_of_information.Statement.{statement}
 use Rattle.message.proofs.parts.span_of_information.Tie as tie
 

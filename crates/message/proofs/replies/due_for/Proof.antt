@@ -1,7 +1,7 @@
 -- `replies::due_for` goes by the command.
 use borrow.Author.Needs.{needs}
-use Rattle.frame.proofs.Steps.{tests}
-use Rattle.message.specs.Commands.{among}
+use Rattle.base.proofs.Tests.{tests}
+use Rattle.base.specs.Keys.{among}
 use Rattle.message.proofs.replies.due_for.Statement.{statement}
 use Rattle.message.proofs.replies.due_for.Tie as tie
 

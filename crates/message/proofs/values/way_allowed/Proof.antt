@@ -1,5 +1,5 @@
 -- `values::way_allowed` tests as the definition does.
-use Rattle.frame.proofs.Steps.{tests}
+use Rattle.base.proofs.Tests.{tests}
 use Rattle.message.proofs.values.way_allowed.Statement.{statement}
 use Rattle.message.proofs.values.way_allowed.Tie as tie
 

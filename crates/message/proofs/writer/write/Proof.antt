@@ -1,8 +1,9 @@
 -- `write` meets its contract: each arm writes the message that it was told.
 use mathlib.Core.Path.{_≡_, sym, ap, _∙_}
 use borrow.Author.Needs.{needs}
-use Rattle.frame.specs.Calls.{Write}
-use Rattle.message.specs.Commands.{kindIn, among}
+use Rattle.base.specs.Outcomes.{Write}
+use Rattle.message.specs.Commands.{kindIn}
+use Rattle.base.specs.Keys.{among}
 use Rattle.message.specs.Writing.{sendOf}
 use Rattle.message.specs.declared.values.Message.{Message}
 use Rattle.message.proofs.writer.write.Statement.{statement}

@@ -2,8 +2,9 @@
 use mathlib.Core.Path.{refl}
 use borrow.Author.Needs.{needs}
 use borrow.Author.Tests.{le-leb}
-use Rattle.frame.proofs.Steps.{tests}
-use Rattle.message.specs.Commands.{kindIn, among}
+use Rattle.base.proofs.Tests.{tests}
+use Rattle.message.specs.Commands.{kindIn}
+use Rattle.base.specs.Keys.{among}
 use Rattle.message.proofs.Sends.{sent, joined}
 use Rattle.message.proofs.writer.write_announcement.Statement.{statement}
 use Rattle.message.proofs.writer.write_announcement.Tie as tie

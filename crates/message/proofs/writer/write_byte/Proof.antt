@@ -1,7 +1,7 @@
 -- `write_byte` meets its contract: nothing lent, and one byte that is allowed.
 use borrow.Author.Needs.{needs}
 use borrow.Author.Tests.{eq-eqb}
-use Rattle.frame.proofs.Steps.{tests}
+use Rattle.base.proofs.Tests.{tests}
 use Rattle.message.proofs.writer.write_byte.Statement.{statement}
 use Rattle.message.proofs.writer.write_byte.Tie as tie
 

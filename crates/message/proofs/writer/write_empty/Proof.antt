@@ -4,7 +4,7 @@ use mathlib.Core.Bool.{Bool, true}
 use lib.ListN.{length}
 use borrow.Author.Needs.{needs}
 use borrow.Author.Tests.{eq-eqb, ne-eqb, not-true, not-false}
-use Rattle.frame.proofs.Sent.{no-bytes}
+use Rattle.base.proofs.Lists.{no-bytes}
 use Rattle.message.specs.Commands.{isListed, kindOf}
 use Rattle.message.specs.Writing.{lentFits}
 use Rattle.message.specs.declared.values.Message.the-variants as message

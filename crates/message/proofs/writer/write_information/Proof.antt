@@ -1,8 +1,9 @@
 -- `write_information` meets its contract: each arm writes what it was told.
 use mathlib.Core.Path.{_≡_, sym, ap, _∙_}
 use borrow.Author.Needs.{needs}
-use Rattle.frame.specs.Calls.{Write}
-use Rattle.message.specs.Commands.{kindIn, among}
+use Rattle.base.specs.Outcomes.{Write}
+use Rattle.message.specs.Commands.{kindIn}
+use Rattle.base.specs.Keys.{among}
 use Rattle.message.specs.Writing.{sendOf}
 use Rattle.message.specs.declared.values.Extra.{Extra}
 use Rattle.message.specs.declared.values.Message.the-variants as message

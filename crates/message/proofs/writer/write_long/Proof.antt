@@ -4,7 +4,7 @@ use native.Mathlib.Omega.{arith}
 use lib.Seq.{length-take-le}
 use borrow.Author.Needs.{needs}
 use borrow.Author.Tests.{eq-eqb}
-use Rattle.frame.proofs.Steps.{tests}
+use Rattle.base.proofs.Tests.{tests}
 use Rattle.message.proofs.Sends.{sent, between}
 use Rattle.message.proofs.writer.write_long.Statement.{statement}
 use Rattle.message.proofs.writer.write_long.Tie as tie

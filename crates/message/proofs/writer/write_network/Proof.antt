@@ -2,8 +2,9 @@
 use mathlib.Core.Path.{refl}
 use borrow.Author.Needs.{needs}
 use borrow.Author.Tests.{eq-eqb, lt-ltb}
-use Rattle.frame.proofs.Steps.{tests}
-use Rattle.message.specs.Commands.{kindIn, among}
+use Rattle.base.proofs.Tests.{tests}
+use Rattle.message.specs.Commands.{kindIn}
+use Rattle.base.specs.Keys.{among}
 use Rattle.message.proofs.Sends.{sent}
 use Rattle.message.proofs.writer.write_network.Statement.{statement}
 use Rattle.message.proofs.writer.write_network.Tie as tie

@@ -1,6 +1,7 @@
 -- `write_onboarding` meets its contract: one byte, and whether it is allowed.
 use borrow.Author.Needs.{needs}
-use Rattle.message.specs.Commands.{kindIn, among}
+use Rattle.message.specs.Commands.{kindIn}
+use Rattle.base.specs.Keys.{among}
 use Rattle.message.proofs.writer.write_onboarding.Statement.{statement}
 use Rattle.message.proofs.writer.write_onboarding.Tie as tie
 

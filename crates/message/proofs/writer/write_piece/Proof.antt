@@ -1,6 +1,7 @@
 -- `write_piece` meets its contract: index and total, and what is lent.
 use borrow.Author.Needs.{needs}
-use Rattle.message.specs.Commands.{kindIn, among}
+use Rattle.message.specs.Commands.{kindIn}
+use Rattle.base.specs.Keys.{among}
 use Rattle.message.proofs.Sends.{onward}
 use Rattle.message.proofs.writer.write_piece.Statement.{statement}
 use Rattle.message.proofs.writer.write_piece.Tie as tie

@@ -1,6 +1,7 @@
 -- `write_query` meets its contract: one byte, which is allowed.
 use borrow.Author.Needs.{needs}
-use Rattle.message.specs.Commands.{kindIn, among}
+use Rattle.message.specs.Commands.{kindIn}
+use Rattle.base.specs.Keys.{among}
 use Rattle.message.proofs.writer.write_query.Statement.{statement}
 use Rattle.message.proofs.writer.write_query.Tie as tie
 

@@ -1,7 +1,8 @@
 -- `write_ready` meets its contract: the count, what is lent, and the size of a piece.
 use borrow.Author.Needs.{needs}
-use Rattle.frame.proofs.Steps.{tests}
-use Rattle.message.specs.Commands.{kindIn, among}
+use Rattle.base.proofs.Tests.{tests}
+use Rattle.message.specs.Commands.{kindIn}
+use Rattle.base.specs.Keys.{among}
 use Rattle.message.proofs.writer.write_ready.Statement.{statement}
 use Rattle.message.proofs.writer.write_ready.Tie as tie
 

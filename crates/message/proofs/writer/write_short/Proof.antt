@@ -5,9 +5,10 @@ use native.Mathlib.Omega.{arith}
 use lib.Seq.{length-take-le}
 use borrow.Author.Needs.{needs}
 use borrow.Author.Tests.{eq-eqb}
-use Rattle.frame.specs.Wire.{two}
-use Rattle.frame.proofs.Steps.{tests}
-use Rattle.message.specs.Commands.{kindIn, among}
+use Rattle.base.specs.Numbers.{two}
+use Rattle.base.proofs.Tests.{tests}
+use Rattle.message.specs.Commands.{kindIn}
+use Rattle.base.specs.Keys.{among}
 use Rattle.message.proofs.Sends.{sent, between}
 use Rattle.message.proofs.writer.write_short.Statement.{statement}
 use Rattle.message.proofs.writer.write_short.Tie as tie

@@ -2,7 +2,7 @@
 use mathlib.Core.Path.{refl}
 use borrow.Author.Needs.{needs}
 use borrow.Author.Tests.{eq-eqb, lt-ltb}
-use Rattle.frame.proofs.Steps.{tests}
+use Rattle.base.proofs.Tests.{tests}
 use Rattle.message.proofs.Sends.{sent}
 use Rattle.message.proofs.writer.write_status.Statement.{statement}
 use Rattle.message.proofs.writer.write_status.Tie as tie

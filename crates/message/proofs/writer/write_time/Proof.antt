@@ -2,9 +2,10 @@
 use mathlib.Core.Path.{refl, _∙_}
 use borrow.Author.Needs.{needs}
 use borrow.Author.Tests.{eq-eqb}
-use Rattle.frame.proofs.Steps.{tests}
-use Rattle.frame.proofs.Sent.{no-bytes}
-use Rattle.message.specs.Commands.{kindIn, among}
+use Rattle.base.proofs.Tests.{tests}
+use Rattle.base.proofs.Lists.{no-bytes}
+use Rattle.message.specs.Commands.{kindIn}
+use Rattle.base.specs.Keys.{among}
 use Rattle.message.proofs.Sends.{sent, joined, dated}
 use Rattle.message.proofs.writer.write_time.Statement.{statement}
 use Rattle.message.proofs.writer.write_time.Tie as tie

@@ -1,0 +1,9 @@
+-- Laws of tests, rows, lists, stores, keys, sums and numbers that more than one crate cites.
+pub mod Tests
+pub mod Rows
+pub mod Lists
+pub mod Stores
+pub mod Rising
+pub mod Keys
+pub mod Sums
+pub mod Numbers

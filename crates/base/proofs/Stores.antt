@@ -1,0 +1,24 @@
+-- Stores, one behind the other. Assumes nothing.
+use Prim.Native.Nat.{ℕ, suc, _+_, _≤_}
+use mathlib.Core.Path.{_≡_}
+use mathlib.Core.List.{List, [], _∷_, _++_}
+use native.Mathlib.Nat.{zero-add, add-zero}
+use native.Mathlib.Omega.{arith}
+use lib.ListN.{length, drop, set, length-append}
+use lib.Seq.{sets, sets-eq}
+
+pub sets-append : (vs ws l : List ℕ) (i : ℕ) → sets l i (vs ++ ws) ≡ sets (sets l i vs) (i + length vs) ws
+sets-append [] ws l i = rw add-zero
+sets-append (v ∷ vs) ws l i =
+    let e : i + suc (length vs) ≡ suc i + length vs = omega arith in
+    rw e (sets-append vs ws (set l i v) (suc i))
+
+pub sets-front : (vs l : List ℕ) → length vs ≤ length l → sets l 0 vs ≡ vs ++ drop (length vs) l
+sets-front vs l h = rw zero-add at (sets-eq vs l 0 (rw zero-add h))
+
+-- what is put, and more behind it, is their join put
+pub put-join : (out xs ys : List ℕ) (at : ℕ) {a b : List ℕ} {p q : ℕ}
+    → (p ≡ at + length xs) × (a ≡ sets out at xs)
+    → (q ≡ p + length ys) × (b ≡ sets a p ys)
+    → (q ≡ at + length (xs ++ ys)) × (b ≡ sets out at (xs ++ ys))
+put-join out xs ys at e f = (rw length-append (omega arith), rw sets-append (cc))

@@ -1,0 +1,29 @@
+-- What a call that writes into a caller's output answers and leaves there.
+use Prim.Native.Nat.{ℕ}
+use mathlib.Core.Bool.{cond}
+use mathlib.Core.List.{List, [], _∷_, _++_}
+use lib.ListN.{length, getD, drop}
+use lib.Dec.{ltb}
+use Rattle.base.specs.Rows.{Row, row}
+
+-- the call's row, and the output afterwards
+pub record Write : Type 0 where
+  pub row : Row
+  pub out : List ℕ
+
+-- the same of the two
+abbrev pub outcome : Row → List ℕ → Write
+outcome a o = record { row = a; out = o }
+
+-- bytes at the front of an output, whose rest stays
+abbrev pub onto : List ℕ → List ℕ → List ℕ
+onto w out = w ++ drop (length w) out
+
+-- the bytes that an answer counts as written
+abbrev pub writtenIn : Row → ℕ
+writtenIn r = getD (r .values) 0 0
+
+-- bytes that fit stand at the front of the output, under 0 with their count (0 is no number of the table, and not MORE); others are ROOM 22, with
+-- the output as it was
+abbrev pub placed : List ℕ → List ℕ → Write
+placed w out = cond (ltb (length out) (length w)) (outcome (row 22 (0 ∷ [])) out) (outcome (row 0 (length w ∷ [])) (onto w out))

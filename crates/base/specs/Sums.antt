@@ -1,0 +1,12 @@
+-- Sums of bytes.
+use Prim.Native.Nat.{ℕ, _+_, _%_}
+use mathlib.Core.List.{List, [], _∷_}
+
+-- all bytes added up
+unfoldable pub total : List ℕ → ℕ
+total [] = 0
+total (x ∷ xs) = x + total xs
+
+-- the same modulo 256
+abbrev pub checksum : List ℕ → ℕ
+checksum l = total l % 256

@@ -1,0 +1,11 @@
+// What the layers share: bytes at a place, big-endian numbers, and a part of the caller's bytes.
+mod bytes;
+mod slices;
+
+pub use bytes::byte_at;
+pub use bytes::four_at;
+pub use bytes::four_bytes;
+pub use bytes::two_at;
+pub use bytes::two_bytes;
+pub use slices::least;
+pub use slices::part;

@@ -1,0 +1,32 @@
+// Parts of the caller's bytes, returned where they lie.
+ghost use mathlib.Core.Path.{_≡_};
+ghost use Prim.Native.Nat.{min};
+ghost use lib.ListN.{length, drop};
+ghost use Rattle.base.specs.Parts.{IsPart};
+
+// The smaller of two numbers.
+pub fn least(a: usize, b: usize) -> usize
+    ensures { λ r. ⌜ r ≡ min a b ⌝ }
+{
+    if a <= b {
+        return a;
+    }
+    b
+}
+
+// So many bytes from a place on, or as many as there are; none, at the end, where the place lies behind it.
+pub fn part(bytes: &[u8], start: usize, size: usize) -> &[u8]
+    ensures { λ r. ⌜ IsPart (bytes .entry) r (min start (length (now (bytes .entry)))) size ⌝ }
+{
+    let from = least(start, bytes.len());
+    let count = least(size, bytes.len() - from);
+    let to = from + count;
+    &bytes[from..to]
+}
+
+// All bytes from a place on.
+pub(crate) fn rest(bytes: &[u8], start: usize) -> &[u8]
+    ensures { λ r. ⌜ now r ≡ drop start (now (bytes .entry)) ⌝ }
+{
+    part(bytes, start, bytes.len())
+}
