@@ -15,10 +15,10 @@ use Rattle.base.specs.Sums.{total, checksum}
 use Rattle.frame.specs.Frames.{frontBody}
 use Rattle.frame.specs.Lines.{Unfinished}
 use Rattle.frame.specs.Rules.{grownOf, endedOf, completedOf, bodyByteOf}
-use Rattle.frame.specs.declared.scan.Event.{Event}
-use Rattle.frame.specs.declared.scan.Event.the-variants.{Quiet, Frame, Short, Long, Stuff, Cut, Sum}
-use Rattle.frame.specs.declared.scan.Scan.{Scan}
-use Rattle.frame.specs.declared.scan.Step.{Step}
+use Rattle.frame.specs.declared.scan.Verdict.{Verdict}
+use Rattle.frame.specs.declared.scan.Verdict.the-variants.{Frame, Short, Long, Stuff, Cut, Sum}
+use Rattle.frame.specs.State.{Scan}
+use Rattle.frame.specs.State.{Step}
 use Rattle.base.proofs.Tests.{by-test}
 use Rattle.base.proofs.Sums.{checksum-snoc}
 use Rattle.frame.proofs.Here.{lengthOf-append}
@@ -40,9 +40,8 @@ sumIn b = getD b (lengthOf b + 1) 0
 abbrev pub sumDue : List ℕ → ℕ
 sumDue b = checksum (take (lengthOf b + 1) b)
 
--- what the body b is, whose last byte decides e
-abbrev pub Ends : ℕ → List ℕ → Event → Type 0
-Ends limit b Quiet = ⊥
+-- what the body b is, whose last byte decides so
+abbrev pub Ends : ℕ → List ℕ → Verdict → Type 0
 Ends limit b Frame = Good limit b
 Ends limit b Short = (length b ≡ 2) × (lengthOf b < 5)
 Ends limit b Long = (length b ≡ 2) × (getD b 0 0 ≢ 255) × (5 ≤ lengthOf b) × (limit < lengthOf b)
@@ -51,8 +50,7 @@ Ends limit b Cut = ⊥
 Ends limit b Sum = (length b ≡ lengthOf b + 2) × (5 ≤ lengthOf b) × (lengthOf b ≤ limit) × (sumIn b ≢ sumDue b)
 
 module _ (limit : ℕ) (b : List ℕ) where
-  pub never-both : (e : Event) → Ends limit b e → Unfinished limit b → ⊥
-  never-both Quiet p u = p
+  pub never-both : (e : Verdict) → Ends limit b e → Unfinished limit b → ⊥
   never-both Frame p u = omega (arith, p .true-length, u .under)
   never-both Short p u = let two : 2 ≤ length b = omega (arith, p .0) in omega (arith, u .bounds two .0, p .1)
   never-both Long p u = let two : 2 ≤ length b = omega (arith, p .0) in omega (arith, u .bounds two .1, p .3)
@@ -60,12 +58,11 @@ module _ (limit : ℕ) (b : List ℕ) where
   never-both Cut p u = p
   never-both Sum p u = omega (arith, p .0, u .under)
 
-  -- the one event that a body can end in
-  abbrev ending : Event
+  -- the one verdict that a body can end in
+  abbrev ending : Verdict
   ending = cond (ltb (lengthOf b) 5) Short (cond (ltb limit (lengthOf b)) Long (cond (eqb (sumIn b) (sumDue b)) Frame Sum))
 
-  ends-in : (e : Event) → Ends limit b e → ending ≡ e
-  ends-in Quiet p = absurd p
+  ends-in : (e : Verdict) → Ends limit b e → ending ≡ e
   ends-in Frame p = rw (le-ltb (lengthOf b) 5 (p .least), le-ltb limit (lengthOf b) (p .most), eq-eqb (sumIn b) (sumDue b) (p .sum-holds))
   ends-in Short p = rw (lt-ltb (lengthOf b) 5 (p .1))
   ends-in Long p = rw (le-ltb (lengthOf b) 5 (p .2), lt-ltb limit (lengthOf b) (p .3))
@@ -73,7 +70,7 @@ module _ (limit : ℕ) (b : List ℕ) where
   ends-in Cut p = absurd p
   ends-in Sum p = rw (le-ltb (lengthOf b) 5 (p .1), le-ltb limit (lengthOf b) (p .2), ne-eqb (sumIn b) (sumDue b) (p .3))
 
-  pub same-end : (d e : Event) → Ends limit b d → Ends limit b e → d ≡ e
+  pub same-end : (d e : Verdict) → Ends limit b d → Ends limit b e → d ≡ e
   same-end d e p q = sym (ends-in d p) ∙ ends-in e q
 
 pub unfinished-of : {limit h l m : ℕ} {b : List ℕ} → Partial limit h l m b → 1 ≤ length b → Unfinished limit b
@@ -120,9 +117,9 @@ whole-held body h v k full =
     ap (λ (j : ℕ). take j b) all ∙ stored body h v k
 
 -- the byte v, behind the body bytes b so far
-module _ {limit : ℕ} {b : List ℕ} (s : Scan) (p : Partial limit (s .have .0) (s .length) (s .sum) b) (v : ℕ) (first : getD (b ++ v ∷ []) 0 0 ≢ 255) where
+module _ {limit : ℕ} {b : List ℕ} (s : Scan) (p : Partial limit (s .have) (s .length) (s .sum) b) (v : ℕ) (first : getD (b ++ v ∷ []) 0 0 ≢ 255) where
   abbrev h : ℕ
-  h = s .have .0
+  h = s .have
 
   abbrev grown : List ℕ
   grown = b ++ v ∷ []
@@ -141,7 +138,7 @@ module _ {limit : ℕ} {b : List ℕ} (s : Scan) (p : Partial limit (s .have .0)
       omega (arith, p .high e)
 
   module _ (P : Step → Type 0) (goes-on : (k : ℕ) → h ≤ limit → Partial limit (h + 1) k ((s .sum + v) % 2 ^ 8) grown → P (grownOf s k v))
-      (ends : (e : Event) → Ends limit grown e → P (endedOf s v e)) where
+      (ends : (e : Verdict) → Ends limit grown e → P (endedOf s v e)) where
     completed : h ≡ lengthOf b + 1 → 2 ≤ h → P (completedOf s v)
     completed e two =
         let lo : lengthOf grown ≡ lengthOf b = length-on two in

@@ -6,33 +6,28 @@ use native.Mathlib.Omega.{arith}
 use lib.ListN.{length}
 use lib.Dec.{leb}
 use borrow.Author.Tests.{le-leb, leb-true}
-use Rattle.frame.specs.Table.{countOf}
+use Rattle.frame.specs.Table.{countOf, eventRow}
 use Rattle.frame.specs.Rules.{advanceOf, decidesOf, inRangeOf}
-use Rattle.frame.specs.Calls.{Reply, eventRow, nextOf, runOf}
+use Rattle.frame.specs.Calls.{Reply, nextOf, runOf}
 use Rattle.frame.specs.declared.scan.Event.{Event}
-use Rattle.frame.specs.declared.scan.Event.the-variants.{Quiet, Frame, Short, Long, Stuff, Cut, Sum}
-use Rattle.frame.specs.declared.reader.Reader.{Reader}
+use Rattle.frame.specs.declared.scan.Event.the-variants.{Quiet, Decided}
+use Rattle.frame.specs.State.{State}
 use Rattle.frame.specs.Claims.{Within, Progress, EmptyCall}
 use Rattle.base.proofs.Tests.{by-test, both}
 
 pub count-event : (e : Event) (n s p : ℕ) → countOf (eventRow e n s p) ≡ n
 count-event Quiet n s p = refl
-count-event Frame n s p = refl
-count-event Short n s p = refl
-count-event Long n s p = refl
-count-event Stuff n s p = refl
-count-event Cut n s p = refl
-count-event Sum n s p = refl
+count-event (Decided v) n s p = refl
 
 abbrev Counts : ℕ → ℕ → Reply → Type 0
 Counts low high y = (low ≤ countOf (y .row)) × (countOf (y .row) ≤ high)
 
-run-counts : (limit : ℕ) (bs : List ℕ) (n : ℕ) (r : Reader) → Counts n (n + length bs) (runOf limit bs n r)
+run-counts : (limit : ℕ) (bs : List ℕ) (n : ℕ) (r : State) → Counts n (n + length bs) (runOf limit bs n r)
 unfolding runOf
 run-counts limit [] n r = (omega arith, omega arith)
 run-counts limit (x ∷ xs) n r =
     let e : Event = advanceOf limit (r .scan) x .event in
-    let c = count-event e (n + 1) (r .scan .start .0) (nextOf limit r x .scan .taken .0) in
+    let c = count-event e (n + 1) (r .scan .start) (nextOf limit r x .scan .taken) in
     let rest = run-counts limit xs (n + 1) (nextOf limit r x) in
     by-test (Counts n (n + length (x ∷ xs))) (decidesOf e) (λ d. (omega (arith, c), omega (arith, c))) (λ d. (omega (arith, rest .0), omega (arith, rest .1)))
 
@@ -40,23 +35,23 @@ pub within : Within
 within limit r bs =
     let run = run-counts limit bs 0 r in
     by-test (λ (y : Reply). countOf (y .row) ≤ length bs) (inRangeOf limit (r .scan))
-    (λ a. by-test (λ (y : Reply). countOf (y .row) ≤ length bs) (leb (r .scan .taken .0 + length bs) (2 ^ 62)) (λ b. omega (arith, run .1)) (λ b. omega arith))
+    (λ a. by-test (λ (y : Reply). countOf (y .row) ≤ length bs) (leb (r .scan .taken + length bs) (2 ^ 62)) (λ b. omega (arith, run .1)) (λ b. omega arith))
     (λ a. omega arith)
 
-some-run : (limit : ℕ) (x : ℕ) (xs : List ℕ) (r : Reader) → 1 ≤ countOf (runOf limit (x ∷ xs) 0 r .row)
+some-run : (limit : ℕ) (x : ℕ) (xs : List ℕ) (r : State) → 1 ≤ countOf (runOf limit (x ∷ xs) 0 r .row)
 unfolding runOf
 some-run limit x xs r =
     let e : Event = advanceOf limit (r .scan) x .event in
-    let c = count-event e (0 + 1) (r .scan .start .0) (nextOf limit r x .scan .taken .0) in
+    let c = count-event e (0 + 1) (r .scan .start) (nextOf limit r x .scan .taken) in
     let rest = run-counts limit xs (0 + 1) (nextOf limit r x) in
     by-test (λ (y : Reply). 1 ≤ countOf (y .row)) (decidesOf e) (λ d. omega (arith, c)) (λ d. omega (arith, rest .0))
 
 pub progress : Progress
 progress limit r [] a b h = absurd (omega arith)
-progress limit r (x ∷ xs) a b h = rw (a, le-leb (r .scan .taken .0 + length (x ∷ xs)) (2 ^ 62) b) (some-run limit x xs r)
+progress limit r (x ∷ xs) a b h = rw (a, le-leb (r .scan .taken + length (x ∷ xs)) (2 ^ 62) b) (some-run limit x xs r)
 
 pub empty-call : EmptyCall
 unfolding runOf
 empty-call limit r a =
-    let ranges = both (leb (r .scan .taken .0) (2 ^ 62)) a in
-    rw (a, le-leb (r .scan .taken .0 + 0) (2 ^ 62) (omega (arith, leb-true (r .scan .taken .0) (2 ^ 62) (ranges .0))))
+    let ranges = both (leb (r .scan .taken) (2 ^ 62)) a in
+    rw (a, le-leb (r .scan .taken + 0) (2 ^ 62) (omega (arith, leb-true (r .scan .taken) (2 ^ 62) (ranges .0))))

@@ -9,20 +9,17 @@ use lib.ListN.{length, getD, take}
 use lib.Seq.{getD-at}
 use lib.Dec.{eqb}
 use borrow.Author.Tests.{eqb-true}
-use Rattle.frame.specs.Rules.{onWire, inBody, bodyByteOf, advanceOf, decidesOf}
+use Rattle.frame.specs.Rules.{bodyByteOf, advanceOf, decidesOf}
 use Rattle.frame.specs.Calls.{nextOf, freshOf}
 use Rattle.frame.specs.Logs.{logOf, stream}
 use Rattle.frame.specs.Lines.{Line, IsOpen}
 use Rattle.frame.specs.Claims.{NoHeaderLost}
-use Rattle.frame.specs.declared.scan.Phase.{Phase}
-use Rattle.frame.specs.declared.scan.Phase.the-variants.{Idle, Half, Header, Open, Escape}
-use Rattle.frame.specs.declared.scan.Event.{Event}
-use Rattle.frame.specs.declared.scan.Event.the-variants.{Quiet, Frame, Short, Long, Stuff, Cut, Sum}
-use Rattle.frame.specs.declared.scan.Scan.{Scan}
-use Rattle.frame.specs.declared.scan.Step.{Step}
-use Rattle.frame.specs.declared.reader.Reader.{Reader}
+use Rattle.frame.specs.State.{Phase, Idle, Half, Header, Open, Escape}
+use Rattle.frame.specs.State.{Scan}
+use Rattle.frame.specs.State.{Step}
+use Rattle.frame.specs.State.{State}
 use Rattle.base.proofs.Tests.{by-test}
-use Rattle.frame.proofs.Bodies.{Partial, partial-none, first-on, Ends, body-cases}
+use Rattle.frame.proofs.Bodies.{Partial, partial-none, first-on, body-cases}
 use Rattle.frame.proofs.Moves.{held, pending, originIn, Inv, InvIn, moves}
 use Rattle.frame.proofs.Fold.{lineAt, afterAll, saidAll, after-append, said-append, folded, kept}
 use Rattle.frame.proofs.Demand3.{fresh-holds}
@@ -40,26 +37,17 @@ Inside Escape = Unit {0}
 
 -- a step of the frame that starts at st: it is decided, or goes on
 abbrev Follows : ℕ → Step → Type 0
-Follows st s = (decidesOf (s .event) ≡ true) ⊎ (Inside (s .scan .phase) × (s .scan .start .0 ≡ st))
-
-ends-decide : (limit : ℕ) (b : List ℕ) (e : Event) → Ends limit b e → decidesOf e ≡ true
-ends-decide limit b Quiet p = absurd p
-ends-decide limit b Frame p = refl
-ends-decide limit b Short p = refl
-ends-decide limit b Long p = refl
-ends-decide limit b Stuff p = refl
-ends-decide limit b Cut p = refl
-ends-decide limit b Sum p = refl
+Follows st s = (decidesOf (s .event) ≡ true) ⊎ (Inside (s .scan .phase) × (s .scan .start ≡ st))
 
 module _ (limit t st h l m : ℕ) (body : List ℕ) where
   abbrev scanIn : Phase → Scan
-  scanIn f = record { phase = f; taken = onWire t; start = onWire st; have = inBody h; length = l; sum = m }
+  scanIn f = record { phase = f; taken = t; start = st; have = h; length = l; sum = m }
 
   abbrev b : List ℕ
   b = take h body
 
   body-follows : (f : Phase) (v : ℕ) → Partial limit h l m b → getD (b ++ v ∷ []) 0 0 ≢ 255 → Follows st (bodyByteOf limit (scanIn f) v)
-  body-follows f v p first = body-cases (scanIn f) p v first (Follows st) (λ k low q. inr (tt, refl)) (λ e q. inl (ends-decide limit (b ++ v ∷ []) e q))
+  body-follows f v p first = body-cases (scanIn f) p v first (Follows st) (λ k low q. inr (tt, refl)) (λ e q. inl refl)
 
   header-follows : (x : ℕ) → x ≢ 255 → InvIn limit Header (scanIn Header) b → Follows st (advanceOf limit (scanIn Header) x)
   header-follows x k i =
@@ -78,57 +66,57 @@ module _ (limit t st h l m : ℕ) (body : List ℕ) where
       (λ q. by-test (Follows st) (eqb x 85) (λ w. body-follows Escape 255 (i .part) (first-on (i .part) 255 (i .some-byte))) (λ w. inl refl))
 
 -- a line that starts at st is said, or the frame is open still
-abbrev Kept : ℕ → ℕ → Reader → List ℕ → Type 0
+abbrev Kept : ℕ → ℕ → State → List ℕ → Type 0
 Kept limit st r xs =
-    ((a : Line) × (a .start ≡ st) × List·Memᴰ a (saidAll limit r xs)) ⊎ (Inside (afterAll limit r xs .scan .phase) × (afterAll limit r xs .scan .start .0 ≡ st))
+    ((a : Line) × (a .start ≡ st) × List·Memᴰ a (saidAll limit r xs)) ⊎ (Inside (afterAll limit r xs .scan .phase) × (afterAll limit r xs .scan .start ≡ st))
 
 module _ (limit : ℕ) where
   -- a step of the frame, before bytes that keep it
-  step-on : (x : ℕ) (xs : List ℕ) (r : Reader) → (Inside (nextOf limit r x .scan .phase) → Kept limit (nextOf limit r x .scan .start .0) (nextOf limit r x) xs)
-      → Follows (r .scan .start .0) (advanceOf limit (r .scan) x) → Kept limit (r .scan .start .0) r (x ∷ xs)
+  step-on : (x : ℕ) (xs : List ℕ) (r : State) → (Inside (nextOf limit r x .scan .phase) → Kept limit (nextOf limit r x .scan .start) (nextOf limit r x) xs)
+      → Follows (r .scan .start) (advanceOf limit (r .scan) x) → Kept limit (r .scan .start) r (x ∷ xs)
   unfolding saidAll afterAll
   step-on x xs r rest f = go (decidesOf (advanceOf limit (r .scan) x .event)) refl f
     where
-      on : decidesOf (advanceOf limit (r .scan) x .event) ≡ false → nextOf limit r x .scan .start .0 ≡ r .scan .start .0
-          → Kept limit (nextOf limit r x .scan .start .0) (nextOf limit r x) xs → Kept limit (r .scan .start .0) r (x ∷ xs)
+      on : decidesOf (advanceOf limit (r .scan) x .event) ≡ false → nextOf limit r x .scan .start ≡ r .scan .start
+          → Kept limit (nextOf limit r x .scan .start) (nextOf limit r x) xs → Kept limit (r .scan .start) r (x ∷ xs)
       on d s (inl w) = inl (w .0, w .1 ∙ s, (rw d (w .2)))
       on d s (inr w) = inr (w .0, w .1 ∙ s)
 
-      go : (u : Bool) → decidesOf (advanceOf limit (r .scan) x .event) ≡ u → Follows (r .scan .start .0) (advanceOf limit (r .scan) x) → Kept limit (r .scan .start .0) r (x ∷ xs)
+      go : (u : Bool) → decidesOf (advanceOf limit (r .scan) x .event) ≡ u → Follows (r .scan .start) (advanceOf limit (r .scan) x) → Kept limit (r .scan .start) r (x ∷ xs)
       go true d f = inl (lineAt limit r x, refl, (rw d (List·Memᴰ·head refl)))
       go false d (inl e) = absurd (true≢false (sym e ∙ d))
       go false d (inr w) = on d (w .1) (rest (w .0))
 
   module _ (small : limit ≤ 65279) where
-    follows : (xs : List ℕ) (r : Reader) → Inv limit r → Inside (r .scan .phase) → Kept limit (r .scan .start .0) r xs
+    follows : (xs : List ℕ) (r : State) → Inv limit r → Inside (r .scan .phase) → Kept limit (r .scan .start) r xs
     unfolding saidAll afterAll
     follows [] r i n = inr (n, refl)
     follows (x ∷ xs) r i n =
         step-on x xs r (λ k. follows xs (nextOf limit r x) (moves limit small r x i .holds) k)
-        (inside-follows limit (r .scan .taken .0) (r .scan .start .0) (r .scan .have .0) (r .scan .length) (r .scan .sum) (r .body) x (r .scan .phase) n (i .phase))
+        (inside-follows limit (r .scan .taken) (r .scan .start) (r .scan .have) (r .scan .length) (r .scan .sum) (r .body) x (r .scan .phase) n (i .phase))
 
     -- a header that no FF follows
-    header-kept : {st : ℕ} (x : ℕ) (xs : List ℕ) (r : Reader) → At limit st [] r → x ≢ 255 → Kept limit (r .scan .start .0) r (x ∷ xs)
+    header-kept : {st : ℕ} (x : ℕ) (xs : List ℕ) (r : State) → At limit st [] r → x ≢ 255 → Kept limit (r .scan .start) r (x ∷ xs)
     header-kept x xs r a k =
         step-on x xs r (λ n. follows xs (nextOf limit r x) (moves limit small r x (a .holds) .holds) n)
         (go (r .scan .phase) (a .between) (a .holds .phase))
       where
         go : (f : Phase) → Between f → InvIn limit f (r .scan) (held r)
-            → Follows (r .scan .start .0) (advanceOf limit (record { phase = f; taken = r .scan .taken; start = r .scan .start; have = r .scan .have; length = r .scan .length; sum = r .scan .sum }) x)
+            → Follows (r .scan .start) (advanceOf limit (record { phase = f; taken = r .scan .taken; start = r .scan .start; have = r .scan .have; length = r .scan .length; sum = r .scan .sum }) x)
         go Idle n i = absurd n
         go Half n i = absurd n
-        go Header n i = header-follows limit (r .scan .taken .0) (r .scan .start .0) (r .scan .have .0) (r .scan .length) (r .scan .sum) (r .body) x k i
+        go Header n i = header-follows limit (r .scan .taken) (r .scan .start) (r .scan .have) (r .scan .length) (r .scan .sum) (r .body) x k i
         go Open n i = let none : length (held r) ≡ 0 = ap length (a .held-is) in absurd (omega (arith, i .some-byte))
         go Escape n i = absurd n
 
     -- the same behind any bytes of a fresh reader
     from-before : (before after : List ℕ) (x : ℕ) → x ≢ 255 → Kept limit (length before) (freshOf limit) (before ++ 255 ∷ 255 ∷ x ∷ after)
     from-before before after x k =
-        let q : Reader = afterAll limit (freshOf limit) before in
+        let q : State = afterAll limit (freshOf limit) before in
         let there = kept limit small before (freshOf limit) (fresh-holds limit) in
         let h : List ℕ = 255 ∷ 255 ∷ [] in
-        let a : At limit (q .scan .taken .0) [] (afterAll limit q h) = read-header limit small q (there .holds) in
-        let start : afterAll limit q h .scan .start .0 ≡ length before = omega (arith, a .starts, there .place) in
+        let a : At limit (q .scan .taken) [] (afterAll limit q h) = read-header limit small q (there .holds) in
+        let start : afterAll limit q h .scan .start ≡ length before = omega (arith, a .starts, there .place) in
         rw (after-append limit before (h ++ x ∷ after) (freshOf limit), after-append limit h (x ∷ after) q, said-append limit before (h ++ x ∷ after) (freshOf limit), said-append limit h (x ∷ after) q, ← start)
         (wider (saidAll limit (freshOf limit) before) (saidAll limit q h) (header-kept x after (afterAll limit q h) a k))
       where
@@ -136,7 +124,7 @@ module _ (limit : ℕ) where
         wider u v (inl p) = inl (p .0, p .1, Memᴰ·append-right u (Memᴰ·append-right v (p .2)))
         wider u v (inr p) = inr p
 
-inside-opened : (f : Phase) (s : Scan) → Inside f → Opened f × (originIn f s ≡ s .start .0)
+inside-opened : (f : Phase) (s : Scan) → Inside f → Opened f × (originIn f s ≡ s .start)
 inside-opened Idle s n = absurd n
 inside-opened Half s n = absurd n
 inside-opened Header s n = absurd n
@@ -147,7 +135,7 @@ module _ (limit : ℕ) (small : limit ≤ 65279) where
   told-or-open : (xs : List ℕ) (st : ℕ) → Kept limit st (freshOf limit) xs → ((a : Line) × (a .start ≡ st) × List·Memᴰ a (saidAll limit (freshOf limit) xs)) ⊎ IsOpen limit xs st
   told-or-open xs st (inl w) = inl w
   told-or-open xs st (inr p) =
-      let q : Reader = afterAll limit (freshOf limit) xs in
+      let q : State = afterAll limit (freshOf limit) xs in
       let w : Lined limit (freshOf limit) [] xs = from-fresh limit small xs in
       let o = inside-opened (q .scan .phase) (q .scan) (p .0) in
       inr (record {

@@ -12,39 +12,40 @@ use borrow.Author.Tests.{eqb-true, eqb-false}
 use Rattle.frame.specs.Wire.{wire, lengthOf}
 use Rattle.frame.specs.Frames.{frontBody}
 use Rattle.frame.specs.Lines.{Decides, is-frame, is-short, is-long, is-stuff, is-cut, is-sum, heldUnder, Line, IsLine, LinesFrom}
-use Rattle.frame.specs.Rules.{onWire, inBody, bodyByteOf, onFFIn, onOtherIn, advanceOf, decidesOf}
+use Rattle.frame.specs.Table.{codeOf}
+use Rattle.frame.specs.Rules.{bodyByteOf, onFFIn, onOtherIn, advanceOf, decidesOf}
 use Rattle.frame.specs.Calls.{nextOf}
-use Rattle.frame.specs.declared.scan.Phase.{Phase}
-use Rattle.frame.specs.declared.scan.Phase.the-variants.{Idle, Half, Header, Open, Escape}
+use Rattle.frame.specs.State.{Phase, Idle, Half, Header, Open, Escape}
 use Rattle.frame.specs.declared.scan.Event.{Event}
-use Rattle.frame.specs.declared.scan.Event.the-variants.{Quiet, Frame, Short, Long, Stuff, Cut, Sum}
-use Rattle.frame.specs.declared.scan.Scan.{Scan}
-use Rattle.frame.specs.declared.scan.Step.{Step}
-use Rattle.frame.specs.declared.reader.Reader.{Reader}
+use Rattle.frame.specs.declared.scan.Event.the-variants.{Quiet}
+use Rattle.frame.specs.declared.scan.Verdict.{Verdict}
+use Rattle.frame.specs.declared.scan.Verdict.the-variants.{Frame, Short, Long, Stuff, Cut, Sum}
+use Rattle.frame.specs.State.{Scan}
+use Rattle.frame.specs.State.{Step}
+use Rattle.frame.specs.State.{State}
 use Rattle.base.proofs.Tests.{by-test}
 use Rattle.frame.proofs.Moves.{held, pending, pendingIn, origin, originIn, Inv, InvIn, after, moves, wire-snoc, wire-ff, wire-none, wire-wait}
 use Rattle.frame.proofs.Bodies.{Partial, partial-none, first-on, Ends, unfinished-of, stored, whole-held, body-cases}
-use Rattle.frame.proofs.Fold.{codeOf, lineAt, afterAll, saidAll}
+use Rattle.frame.proofs.Fold.{eventCode, lineAt, afterAll, saidAll}
 
 -- the raw bytes, from place o on, of which e is decided; gone are those that are no longer pending then
-pub record Answered (limit o : ℕ) (raw gone : List ℕ) (r : Reader) (e : Event) (held : List ℕ) : Type 0 where
-  pub decides : Decides limit raw (codeOf e) (heldUnder (codeOf e) held)
-  pub starts : r .scan .start .0 ≡ o
+pub record Answered (limit o : ℕ) (raw gone : List ℕ) (r : State) (e : Event) (held : List ℕ) : Type 0 where
+  pub decides : Decides limit raw (eventCode e) (heldUnder (eventCode e) held)
+  pub starts : r .scan .start ≡ o
   pub rises : 1 ≤ length gone
 
 -- a step on the last of the raw bytes
-pub record Tells (limit o : ℕ) (raw : List ℕ) (r : Reader) (s : Step) : Type 0 where
+pub record Tells (limit o : ℕ) (raw : List ℕ) (r : State) (s : Step) : Type 0 where
   pub gone : List ℕ
   pub bytes : raw ≡ gone ++ pending (after r s)
   pub line : decidesOf (s .event) ≡ true → Answered limit o raw gone r (s .event) (after r s .body)
 
 -- a byte that decides nothing
-quiet : {limit o : ℕ} {raw : List ℕ} {r : Reader} {s : Step} → s .event ≡ Quiet → (gone : List ℕ) → raw ≡ gone ++ pending (after r s) → Tells limit o raw r s
+quiet : {limit o : ℕ} {raw : List ℕ} {r : State} {s : Step} → s .event ≡ Quiet → (gone : List ℕ) → raw ≡ gone ++ pending (after r s) → Tells limit o raw r s
 quiet q gone e = record { gone = gone; bytes = e; line = λ d. absurd (true≢false (sym d ∙ ap decidesOf q)) }
 
-body-decides : (limit : ℕ) (b held : List ℕ) {raw : List ℕ} (e : Event) → Ends limit b e → raw ≡ wire b → (length b ≡ lengthOf b + 2 → frontBody held ≡ b)
+body-decides : (limit : ℕ) (b held : List ℕ) {raw : List ℕ} (e : Verdict) → Ends limit b e → raw ≡ wire b → (length b ≡ lengthOf b + 2 → frontBody held ≡ b)
     → Decides limit raw (codeOf e) (heldUnder (codeOf e) held)
-body-decides limit b held Quiet p q w = absurd p
 body-decides limit b held Frame p q w = is-frame b refl (w (p .true-length)) q p
 body-decides limit b held Short p q w = is-short b refl refl q (p .0) (p .1)
 body-decides limit b held Long p q w = is-long b refl refl q (p .0) (p .1) (p .2) (p .3)
@@ -54,9 +55,9 @@ body-decides limit b held Sum p q w = is-sum b refl (w (p .0)) q (p .0) (p .1) (
 
 module _ (limit t st h l m : ℕ) (body : List ℕ) (room : length body ≡ limit + 2) (inside : h ≤ limit + 1) where
   abbrev scanIn : Phase → Scan
-  scanIn f = record { phase = f; taken = onWire t; start = onWire st; have = inBody h; length = l; sum = m }
+  scanIn f = record { phase = f; taken = t; start = st; have = h; length = l; sum = m }
 
-  abbrev readerIn : Phase → Reader
+  abbrev readerIn : Phase → State
   readerIn f = record { scan = scanIn f; body = body }
 
   abbrev b : List ℕ
@@ -122,7 +123,7 @@ module _ (limit t st h l m : ℕ) (body : List ℕ) (room : length body ≡ limi
 
 -- ---- all bytes of a reader that the calls can reach
 
-place-in : (limit : ℕ) (f : Phase) (s : Scan) (b : List ℕ) → InvIn limit f s b → s .taken .0 ≡ originIn f s + length (pendingIn f b)
+place-in : (limit : ℕ) (f : Phase) (s : Scan) (b : List ℕ) → InvIn limit f s b → s .taken ≡ originIn f s + length (pendingIn f b)
 place-in limit Idle s b i = omega arith
 place-in limit Half s b i = omega arith
 place-in limit Header s b i = i .0
@@ -150,7 +151,7 @@ regroup before p gone q xs x e =
     ap (λ (k : List ℕ). before ++ k) (sym (append-assoc p (x ∷ []) xs) ∙ ap (λ (k : List ℕ). k ++ xs) e ∙ append-assoc gone q xs) ∙ sym (append-assoc before gone (q ++ xs))
 
 -- the bytes xs, of a reader that has begun its pending bytes behind the bytes before
-pub record Lined (limit : ℕ) (r : Reader) (before xs : List ℕ) : Type 0 where
+pub record Lined (limit : ℕ) (r : State) (before xs : List ℕ) : Type 0 where
   pub sound : (l : Line) → List·Memᴰ l (saidAll limit r xs) → IsLine limit (before ++ (pending r ++ xs)) l
   pub rising : LinesFrom (origin r) (saidAll limit r xs)
   pub front : List ℕ
@@ -158,17 +159,17 @@ pub record Lined (limit : ℕ) (r : Reader) (before xs : List ℕ) : Type 0 wher
   pub place : length front ≡ origin (afterAll limit r xs)
 
 module _ (limit : ℕ) (small : limit ≤ 65279) where
-  tells : (r : Reader) (x : ℕ) → Inv limit r → Tells limit (origin r) (pending r ++ x ∷ []) r (advanceOf limit (r .scan) x)
+  tells : (r : State) (x : ℕ) → Inv limit r → Tells limit (origin r) (pending r ++ x ∷ []) r (advanceOf limit (r .scan) x)
   tells r x i =
-      byte-tells limit (r .scan .taken .0) (r .scan .start .0) (r .scan .have .0) (r .scan .length) (r .scan .sum) (r .body) (i .room) (i .inside) x (r .scan .phase) (i .phase)
+      byte-tells limit (r .scan .taken) (r .scan .start) (r .scan .have) (r .scan .length) (r .scan .sum) (r .body) (i .room) (i .inside) x (r .scan .phase) (i .phase)
 
-  place-of : (r : Reader) → Inv limit r → r .scan .taken .0 ≡ origin r + length (pending r)
+  place-of : (r : State) → Inv limit r → r .scan .taken ≡ origin r + length (pending r)
   place-of r i = place-in limit (r .scan .phase) (r .scan) (held r) (i .phase)
 
   -- a byte x before the bytes xs
-  lined-on : (x : ℕ) (xs : List ℕ) (r : Reader) (before : List ℕ) → length before ≡ origin r
+  lined-on : (x : ℕ) (xs : List ℕ) (r : State) (before : List ℕ) → length before ≡ origin r
       → (w : Tells limit (origin r) (pending r ++ x ∷ []) r (advanceOf limit (r .scan) x))
-      → nextOf limit r x .scan .taken .0 ≡ origin r + length (pending r ++ x ∷ [])
+      → nextOf limit r x .scan .taken ≡ origin r + length (pending r ++ x ∷ [])
       → origin (nextOf limit r x) ≡ origin r + length (w .gone)
       → Lined limit (nextOf limit r x) (before ++ w .gone) xs → Lined limit r before (x ∷ xs)
   unfolding saidAll afterAll
@@ -193,17 +194,17 @@ module _ (limit : ℕ) (small : limit ≤ 65279) where
       )) in
       record { sound = both .0; rising = both .1; front = rest .front; bytes = left ∙ rest .bytes; place = rest .place }
 
-  pub lined : (xs : List ℕ) (r : Reader) → Inv limit r → (before : List ℕ) → length before ≡ origin r → Lined limit r before xs
+  pub lined : (xs : List ℕ) (r : State) → Inv limit r → (before : List ℕ) → length before ≡ origin r → Lined limit r before xs
   unfolding saidAll afterAll
   lined [] r i before at =
       record { sound = λ l k. absurd (List·Memᴰ·not-nil k); rising = tt; front = before; bytes = ap (λ (k : List ℕ). before ++ k) (append-nil (pending r)); place = at }
   lined (x ∷ xs) r i before at =
       let m = moves limit small r x i in
       let w : Tells limit (origin r) (pending r ++ x ∷ []) r (advanceOf limit (r .scan) x) = tells r x i in
-      let q : Reader = nextOf limit r x in
-      let from : r .scan .taken .0 ≡ origin r + length (pending r) = place-of r i in
-      let to : q .scan .taken .0 ≡ origin q + length (pending q) = place-of q (m .holds) in
-      let end : q .scan .taken .0 ≡ origin r + length (pending r ++ x ∷ []) = omega (arith, m .one, length-append (pending r) (x ∷ [])) in
+      let q : State = nextOf limit r x in
+      let from : r .scan .taken ≡ origin r + length (pending r) = place-of r i in
+      let to : q .scan .taken ≡ origin q + length (pending q) = place-of q (m .holds) in
+      let end : q .scan .taken ≡ origin r + length (pending r ++ x ∷ []) = omega (arith, m .one, length-append (pending r) (x ∷ [])) in
       let parts : length (pending r ++ x ∷ []) ≡ length (w .gone) + length (pending q) = ap length (w .bytes) ∙ length-append (w .gone) (pending q) in
       let on : origin q ≡ origin r + length (w .gone) = omega arith in
       lined-on x xs r before at w end on (lined xs q (m .holds) (before ++ w .gone) (omega (arith, length-append before (w .gone))))

@@ -10,13 +10,12 @@ use lib.Dec.{eqb}
 use Rattle.frame.specs.Wire.{unstuff}
 use Rattle.base.specs.Rows.{Row, row}
 use Rattle.frame.specs.Calls.{reply, endingRow, freshOf}
-use Rattle.frame.specs.Logs.{logOf, readerAfter, stream}
+use Rattle.frame.specs.Logs.{logOf, stateAfter, stream}
 use Rattle.frame.specs.Lines.{Decides, is-frame, is-short, is-long, is-stuff, is-cut, is-sum, Line, IsLine, Opens, at-header, in-body, at-ff, IsOpen}
 use Rattle.frame.specs.Claims.{EachLine, EndTold, EndsTold}
-use Rattle.frame.specs.declared.scan.Phase.{Phase}
-use Rattle.frame.specs.declared.scan.Phase.the-variants.{Idle, Half, Header, Open, Escape}
-use Rattle.frame.specs.declared.scan.Scan.{Scan}
-use Rattle.frame.specs.declared.reader.Reader.{Reader}
+use Rattle.frame.specs.State.{Phase, Idle, Half, Header, Open, Escape}
+use Rattle.frame.specs.State.{Scan}
+use Rattle.frame.specs.State.{State}
 use Rattle.frame.proofs.Stuffing.{stuffed-form}
 use Rattle.frame.proofs.Moves.{held, pending, pendingIn, origin, Inv, InvIn}
 use Rattle.frame.proofs.Logged.{in-range, reached}
@@ -58,13 +57,13 @@ module _ (limit : ℕ) (small : limit ≤ 65279) where
 
   complete : (xs : List ℕ) (l : Line) → IsLine limit xs l → List·Memᴰ l (saidAll limit (freshOf limit) xs)
   complete xs l w =
-      let q : Reader = afterAll limit (freshOf limit) (w .before) in
+      let q : State = afterAll limit (freshOf limit) (w .before) in
       let k = kept limit small (w .before) (freshOf limit) (fresh-holds limit) in
-      let at : q .scan .taken .0 ≡ length (w .before) = omega (arith, k .place) in
+      let at : q .scan .taken ≡ length (w .before) = omega (arith, k .place) in
       let told = reads limit small q (k .holds) (w .decides) in
-      let a : Line = record { number = l .number; start = q .scan .taken .0; end = q .scan .taken .0 + length (w .raw); body = told .0 } in
-      let start : l .start ≡ q .scan .taken .0 = w .starts ∙ sym at in
-      let end : l .end ≡ q .scan .taken .0 + length (w .raw) = w .ends ∙ ap (λ (n : ℕ). n + length (w .raw)) (sym at) in
+      let a : Line = record { number = l .number; start = q .scan .taken; end = q .scan .taken + length (w .raw); body = told .0 } in
+      let start : l .start ≡ q .scan .taken = w .starts ∙ sym at in
+      let end : l .end ≡ q .scan .taken + length (w .raw) = w .ends ∙ ap (λ (n : ℕ). n + length (w .raw)) (sym at) in
       let said : List·Memᴰ a (saidAll limit (freshOf limit) xs) =
       rw (w .bytes, said-append limit (w .before) (w .raw ++ w .after) (freshOf limit), said-append limit (w .raw) (w .after) q)
       (Memᴰ·append-right (saidAll limit (freshOf limit) (w .before)) (Memᴰ·append-left (saidAll limit (afterAll limit q (w .raw)) (w .after)) (told .1))) in
@@ -87,7 +86,7 @@ Opened Header = Unit {0}
 Opened Open = Unit {0}
 Opened Escape = Unit {0}
 
-at-opened : {limit st : ℕ} {b : List ℕ} {r : Reader} → At limit st b r → Opened (r .scan .phase) × (r .scan .start .0 ≡ st)
+at-opened : {limit st : ℕ} {b : List ℕ} {r : State} → At limit st b r → Opened (r .scan .phase) × (r .scan .start ≡ st)
 at-opened {r} a = (go (r .scan .phase) (a .between), a .starts)
   where
     go : (f : Phase) → Between f → Opened f
@@ -97,14 +96,14 @@ at-opened {r} a = (go (r .scan .phase) (a .between), a .starts)
     go Open n = tt
     go Escape n = tt
 
-open-row : (f : Phase) (s : Scan) → Opened f → endingRow f s ≡ row 16 (s .taken .0 ∷ s .start .0 ∷ [])
+open-row : (f : Phase) (s : Scan) → Opened f → endingRow f s ≡ row 16 (s .taken ∷ s .start ∷ [])
 open-row Idle s n = absurd n
 open-row Half s n = absurd n
 open-row Header s n = refl
 open-row Open s n = refl
 open-row Escape s n = refl
 
-clean-row : (f : Phase) (s : Scan) → (Opened f → ⊥) → endingRow f s ≡ row 2 (s .taken .0 ∷ [])
+clean-row : (f : Phase) (s : Scan) → (Opened f → ⊥) → endingRow f s ≡ row 2 (s .taken ∷ [])
 clean-row Idle s n = refl
 clean-row Half s n = refl
 clean-row Header s n = absurd (n tt)
@@ -120,17 +119,17 @@ pending-opens limit Open s b i n = in-body b refl (unfinished-of (i .part) (i .s
 pending-opens limit Escape s b i n = at-ff b refl (unfinished-of (i .part) (i .some-byte))
 
 module _ (limit : ℕ) (small : limit ≤ 65279) where
-  opens-after : (r : Reader) → Inv limit r → {raw : List ℕ} → Opens limit raw → Opened (afterAll limit r raw .scan .phase) × (afterAll limit r raw .scan .start .0 ≡ r .scan .taken .0)
+  opens-after : (r : State) → Inv limit r → {raw : List ℕ} → Opens limit raw → Opened (afterAll limit r raw .scan .phase) × (afterAll limit r raw .scan .start ≡ r .scan .taken)
   opens-after r i (at-header e) = rw e (at-opened (read-header limit small r i))
   opens-after r i (in-body b e u) = rw e (at-opened (read-body limit small r i b u))
   opens-after r i (at-ff b e u) = let w = read-ff limit small r i b u in rw e (rw (w .0) tt, w .1)
 
-  told : (xs : List ℕ) → afterAll limit (freshOf limit) xs .scan .taken .0 ≤ 2 ^ 62 → EndTold limit xs (afterAll limit (freshOf limit) xs)
+  told : (xs : List ℕ) → afterAll limit (freshOf limit) xs .scan .taken ≤ 2 ^ 62 → EndTold limit xs (afterAll limit (freshOf limit) xs)
   told xs most =
-      let q : Reader = afterAll limit (freshOf limit) xs in
+      let q : State = afterAll limit (freshOf limit) xs in
       let k = kept limit small xs (freshOf limit) (fresh-holds limit) in
       let w : Lined limit (freshOf limit) [] xs = from-fresh limit small xs in
-      let at : q .scan .taken .0 ≡ length xs = omega (arith, k .place) in
+      let at : q .scan .taken ≡ length xs = omega (arith, k .place) in
       record {
         left-open = λ start o. rw (in-range limit small q (k .holds) most) (ap (λ (a : Row). reply a q) (open-is xs start o at));
         left-clean = λ none. rw (in-range limit small q (k .holds) most) (ap (λ (a : Row). reply a q)
@@ -143,20 +142,20 @@ module _ (limit : ℕ) (small : limit ≤ 65279) where
             })) ∙ ap (λ (n : ℕ). row 2 (n ∷ [])) at));
       }
     where
-      open-is : (xs : List ℕ) (start : ℕ) → IsOpen limit xs start → afterAll limit (freshOf limit) xs .scan .taken .0 ≡ length xs
+      open-is : (xs : List ℕ) (start : ℕ) → IsOpen limit xs start → afterAll limit (freshOf limit) xs .scan .taken ≡ length xs
           → endingRow (afterAll limit (freshOf limit) xs .scan .phase) (afterAll limit (freshOf limit) xs .scan) ≡ row 16 (length xs ∷ start ∷ [])
       open-is xs start o at =
-          let q : Reader = afterAll limit (freshOf limit) xs in
-          let p : Reader = afterAll limit (freshOf limit) (o .before) in
+          let q : State = afterAll limit (freshOf limit) xs in
+          let p : State = afterAll limit (freshOf limit) (o .before) in
           let k = kept limit small (o .before) (freshOf limit) (fresh-holds limit) in
           let there : q ≡ afterAll limit p (o .raw) = ap (λ (l : List ℕ). afterAll limit (freshOf limit) l) (o .bytes) ∙ after-append limit (o .before) (o .raw) (freshOf limit) in
-          let opened : Opened (q .scan .phase) × (q .scan .start .0 ≡ p .scan .taken .0) = rw there (opens-after p (k .holds) (o .opens)) in
-          let from : q .scan .start .0 ≡ start = omega (arith, opened .1, k .place, o .starts) in
+          let opened : Opened (q .scan .phase) × (q .scan .start ≡ p .scan .taken) = rw there (opens-after p (k .holds) (o .opens)) in
+          let from : q .scan .start ≡ start = omega (arith, opened .1, k .place, o .starts) in
           open-row (q .scan .phase) (q .scan) (opened .0) ∙ rw (at, from)
 
 pub end-told : EndsTold
 end-told limit small calls =
     let s : List ℕ = stream (logOf limit (freshOf limit) calls) in
-    let e : readerAfter limit (freshOf limit) calls ≡ afterAll limit (freshOf limit) s = folded limit calls (freshOf limit) .reader in
+    let e : stateAfter limit (freshOf limit) calls ≡ afterAll limit (freshOf limit) s = folded limit calls (freshOf limit) .reader in
     let r = reached limit small calls (freshOf limit) (fresh-holds limit) (omega arith) in
     rw e (told limit small s (rw e at (r .most)))

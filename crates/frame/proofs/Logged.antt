@@ -2,7 +2,7 @@
 use Prim.Native.Nat.{ℕ, suc, _+_, _^_, _≤_, _<_}
 use mathlib.Core.Path.{_≡_, refl, sym, ap, _∙_}
 use mathlib.Core.List.{List, [], _∷_, _++_, List·Memᴰ, List·Memᴰ·not-nil, List·Memᴰ·cases-cons}
-use mathlib.Core.Bool.{true, false, _||_, true≢false}
+use mathlib.Core.Bool.{true, false, true≢false}
 use mathlib.Core.Logic.{_≢_, _⊎_, inl, inr}
 use native.Mathlib.Nat.{add-zero}
 use native.Mathlib.Numerals.{add-one}
@@ -13,25 +13,26 @@ use lib.Dec.{eqb, leb}
 use borrow.Author.Tests.{le-leb, leb-true, leb-false, ne-eqb}
 use Rattle.frame.specs.Frames.{Found, frontBody, framesFrom}
 use Rattle.base.specs.Rows.{Row, row}
-use Rattle.frame.specs.Table.{countOf}
+use Rattle.frame.specs.Table.{codeOf, eventRow}
 use Rattle.frame.specs.Rules.{advanceOf, decidesOf, inRangeOf}
-use Rattle.frame.specs.Calls.{Reply, reply, nextOf, eventRow, endingRow, runOf, feedOf, finishOf}
-use Rattle.frame.specs.Logs.{Call, give, ask, callOf, Entry, logOf, readerAfter, offered, stream, handed, handedOut, decided, Account, Accounts}
-use Rattle.frame.specs.declared.scan.Phase.{Phase}
-use Rattle.frame.specs.declared.scan.Phase.the-variants.{Idle, Half, Header, Open, Escape}
+use Rattle.frame.specs.Calls.{Reply, reply, nextOf, endingRow, runOf, feedOf, finishOf}
+use Rattle.frame.specs.Logs.{Call, give, ask, callOf, Entry, entryOf, logOf, stateAfter, offered, takenBy, takenIn, stream, handed, handedOut, decided, Account, Accounts}
+use Rattle.frame.specs.State.{Phase, Idle, Half, Header, Open, Escape}
 use Rattle.frame.specs.declared.scan.Event.{Event}
-use Rattle.frame.specs.declared.scan.Event.the-variants.{Quiet, Frame, Short, Long, Stuff, Cut, Sum}
-use Rattle.frame.specs.declared.reader.Reader.{Reader}
+use Rattle.frame.specs.declared.scan.Event.the-variants.{Quiet, Decided}
+use Rattle.frame.specs.declared.scan.Verdict.{Verdict}
+use Rattle.frame.specs.declared.scan.Verdict.the-variants.{Frame, Short, Long, Stuff, Cut, Sum}
+use Rattle.frame.specs.State.{State}
 use Rattle.base.proofs.Tests.{by-test}
 use Rattle.frame.proofs.Moves.{Inv, origin, pending, handedBy, moves, nothing-left}
 
-abbrev taken : Reader → ℕ
-taken r = r .scan .taken .0
+abbrev taken : State → ℕ
+taken r = r .scan .taken
 
 -- ---- the bytes of a call
 
 -- a call took k of the bytes bs, after n others, by its last event
-record Took (limit : ℕ) (r : Reader) (n : ℕ) (bs : List ℕ) (y : Reply) : Type 0 where
+record Took (limit : ℕ) (r : State) (n : ℕ) (bs : List ℕ) (y : Reply) : Type 0 where
   k : ℕ
   event : Event
   start : ℕ
@@ -39,21 +40,16 @@ record Took (limit : ℕ) (r : Reader) (n : ℕ) (bs : List ℕ) (y : Reply) : T
   all : decidesOf event ≡ false → k ≡ length bs
   some : decidesOf event ≡ true → 1 ≤ k
   row-is : y .row ≡ eventRow event (n + k) start (taken r + k)
-  place : taken (y .reader) ≡ taken r + k
-  holds : Inv limit (y .reader)
+  place : taken (y .state) ≡ taken r + k
+  holds : Inv limit (y .state)
   frames : (t : List ℕ) → framesFrom limit (origin r) (pending r ++ (take k bs ++ t))
-      ≡ handedBy event (record { start = start; end = taken r + k; body = frontBody (y .reader .body) }) (framesFrom limit (origin (y .reader)) (pending (y .reader) ++ t))
+      ≡ handedBy event (record { start = start; end = taken r + k; body = frontBody (y .state .body) }) (framesFrom limit (origin (y .state)) (pending (y .state) ++ t))
 
 silent : (e : Event) → decidesOf e ≡ false → (f : Found) (l : List Found) → handedBy e f l ≡ l
 silent Quiet d f l = refl
-silent Frame d f l = absurd (true≢false d)
-silent Short d f l = refl
-silent Long d f l = refl
-silent Stuff d f l = refl
-silent Cut d f l = refl
-silent Sum d f l = refl
+silent (Decided v) d f l = absurd (true≢false d)
 
-took : (limit : ℕ) → limit ≤ 65279 → (bs : List ℕ) (n : ℕ) (r : Reader) → Inv limit r → Took limit r n bs (runOf limit bs n r)
+took : (limit : ℕ) → limit ≤ 65279 → (bs : List ℕ) (n : ℕ) (r : State) → Inv limit r → Took limit r n bs (runOf limit bs n r)
 unfolding runOf
 took limit small [] n r i =
     record {
@@ -76,11 +72,11 @@ took limit small (x ∷ xs) n r i =
     (λ d. record {
       k = 1;
       event = e;
-      start = r .scan .start .0;
+      start = r .scan .start;
       within = omega arith;
       all = λ q. absurd (true≢false (sym d ∙ q));
       some = λ q. omega arith;
-      row-is = ap (λ (j : ℕ). eventRow e (n + 1) (r .scan .start .0) j) one;
+      row-is = ap (λ (j : ℕ). eventRow e (n + 1) (r .scan .start) j) one;
       place = one;
       holds = m .holds;
       frames = λ t. rw (← one) (m .frames t);
@@ -104,23 +100,24 @@ took limit small (x ∷ xs) n r i =
 
 -- ---- one call
 
-abbrev pub entry : Call → Reply → Entry
-entry c y = record { call = c; row = y .row; held = y .reader .body }
-
 -- what a call of a reader that the calls can reach gives
-pub record Called (limit : ℕ) (r : Reader) (c : Call) (y : Reply) : Type 0 where
-  pub holds : Inv limit (y .reader)
-  pub most : taken (y .reader) ≤ 2 ^ 62
-  pub place : taken (y .reader) ≡ taken r + countOf (y .row)
-  pub account : Account (taken r) (entry c y)
-  pub shape : y .row .number ≡ 1 → y .row ≡ row 1 (countOf (y .row) ∷ getD (y .row .values) 1 0 ∷ getD (y .row .values) 2 0 ∷ [])
-  pub frames : (t : List ℕ) → framesFrom limit (origin r) (pending r ++ (take (countOf (y .row)) (offered c) ++ t))
-      ≡ handed (entry c y) (framesFrom limit (origin (y .reader)) (pending (y .reader) ++ t))
+pub record Called (limit : ℕ) (r : State) (c : Call) (y : Reply) : Type 0 where
+  pub holds : Inv limit (y .state)
+  pub most : taken (y .state) ≤ 2 ^ 62
+  pub place : taken (y .state) ≡ taken r + takenBy c (y .row)
+  pub account : Account (taken r) (entryOf r c y)
+  pub shape : y .row .number ≡ 1 → y .row ≡ row 1 (takenBy c (y .row) ∷ getD (y .row .values) 1 0 ∷ getD (y .row .values) 2 0 ∷ [])
+  pub frames : (t : List ℕ) → framesFrom limit (origin r) (pending r ++ (take (takenBy c (y .row)) (offered c) ++ t))
+      ≡ handed (entryOf r c y) (framesFrom limit (origin (y .state)) (pending (y .state) ++ t))
 
-with-row : (limit : ℕ) (r : Reader) (c : Call) (y : Reply) (a : Row) → y .row ≡ a → Called limit r c (reply a (y .reader)) → Called limit r c y
+-- bytes given are no end asked
+not-asked : {A : Type 0} {bs : List ℕ} → give bs ≡ ask → A
+not-asked e = let z : _≡_ {A = ℕ} 0 1 = cc in absurd (omega arith)
+
+with-row : (limit : ℕ) (r : State) (c : Call) (y : Reply) (a : Row) → y .row ≡ a → Called limit r c (reply a (y .state)) → Called limit r c y
 with-row limit r c y a e h = rw (← e) at h
 
-module _ (limit : ℕ) (r q : Reader) (bs : List ℕ) (k s : ℕ) (fits : taken r + length bs ≤ 2 ^ 62) (within : k ≤ length bs)
+module _ (limit : ℕ) (r q : State) (bs : List ℕ) (k s : ℕ) (fits : taken r + length bs ≤ 2 ^ 62) (within : k ≤ length bs)
     (place : taken q ≡ taken r + k) (holds : Inv limit q) where
   -- MORE
   more-called : k ≡ length bs
@@ -139,52 +136,58 @@ module _ (limit : ℕ) (r q : Reader) (bs : List ℕ) (k s : ℕ) (fits : taken 
           in-range = λ e. omega arith;
           used = λ e. absurd (omega arith);
           unused = λ e. fits;
-          asked = λ e. let z : _≡_ {A = ℕ} 0 1 = cc in absurd (omega arith);
+          asked = λ e. not-asked e;
+          used-kept = λ e. absurd (omega arith);
+          asked-kept = λ e. not-asked e;
         };
         shape = λ e. absurd (omega arith);
         frames = f;
       }
 
-  -- a line of FRAME or of a refused frame, of number d
-  decided-called : (d : ℕ) → 1 ≤ k → decided d ≡ true → (eqb d 2 || eqb d 16) ≡ false → 1 ≤ d → d < 17
-      → ((t : List ℕ) → framesFrom limit (origin r) (pending r ++ (take k bs ++ t))
-      ≡ handed (record { call = give bs; row = row d (k ∷ s ∷ (taken r + k) ∷ []); held = q .body }) (framesFrom limit (origin q) (pending q ++ t)))
-      → Called limit r (give bs) (reply (row d (k ∷ s ∷ (taken r + k) ∷ [])) q)
-  decided-called d some is-decided counts low high f =
-      let count : countOf (row d (k ∷ s ∷ (taken r + k) ∷ [])) ≡ k = rw counts in
-      record {
-        holds = holds;
-        most = omega arith;
-        place = rw count place;
-        account = record {
-          within = rw count within;
-          all = λ e. absurd (omega arith);
-          some = λ e. rw count some;
-          ends = λ e. rw count;
-          in-range = λ e. omega arith;
-          used = λ e. absurd (omega arith);
-          unused = λ e. fits;
-          asked = λ e. let z : _≡_ {A = ℕ} 0 1 = cc in absurd (omega arith);
-        };
-        shape = λ e. rw (count, e);
-        frames = λ t. rw count (f t);
-      }
+  -- a verdict's line: FRAME or a refused frame
+  record Numbered (d : ℕ) : Type 0 where
+    is-decided : decided d ≡ true
+    low : 1 ≤ d
+    high : d < 17
+
+  numbered : (v : Verdict) → Numbered (codeOf v)
+  numbered Frame = record { is-decided = refl; low = omega arith; high = omega arith }
+  numbered Short = record { is-decided = refl; low = omega arith; high = omega arith }
+  numbered Long = record { is-decided = refl; low = omega arith; high = omega arith }
+  numbered Stuff = record { is-decided = refl; low = omega arith; high = omega arith }
+  numbered Cut = record { is-decided = refl; low = omega arith; high = omega arith }
+  numbered Sum = record { is-decided = refl; low = omega arith; high = omega arith }
 
   event-called : (e : Event) → (decidesOf e ≡ false → k ≡ length bs) → (decidesOf e ≡ true → 1 ≤ k)
       → ((t : List ℕ) → framesFrom limit (origin r) (pending r ++ (take k bs ++ t))
       ≡ handedBy e (record { start = s; end = taken r + k; body = frontBody (q .body) }) (framesFrom limit (origin q) (pending q ++ t)))
       → Called limit r (give bs) (reply (eventRow e k s (taken r + k)) q)
   event-called Quiet all some f = more-called (all refl) f
-  event-called Frame all some f = decided-called 1 (some refl) refl refl (omega arith) (omega arith) f
-  event-called Short all some f = decided-called 11 (some refl) refl refl (omega arith) (omega arith) f
-  event-called Long all some f = decided-called 12 (some refl) refl refl (omega arith) (omega arith) f
-  event-called Stuff all some f = decided-called 13 (some refl) refl refl (omega arith) (omega arith) f
-  event-called Cut all some f = decided-called 14 (some refl) refl refl (omega arith) (omega arith) f
-  event-called Sum all some f = decided-called 15 (some refl) refl refl (omega arith) (omega arith) f
+  event-called (Decided v) all some f =
+      let n : Numbered (codeOf v) = numbered v in
+      record {
+        holds = holds;
+        most = omega arith;
+        place = place;
+        account = record {
+          within = within;
+          all = λ e. absurd (omega (arith, n .low));
+          some = λ e. some refl;
+          ends = λ e. refl;
+          in-range = λ e. omega (arith, n .high);
+          used = λ e. absurd (omega (arith, n .high));
+          unused = λ e. fits;
+          asked = λ e. not-asked e;
+          used-kept = λ e. absurd (omega (arith, n .high));
+          asked-kept = λ e. not-asked e;
+        };
+        shape = λ e. rw e;
+        frames = f;
+      }
 
-module _ (limit : ℕ) (small : limit ≤ 65279) (r : Reader) (i : Inv limit r) (most : taken r ≤ 2 ^ 62) where
+module _ (limit : ℕ) (small : limit ≤ 65279) (r : State) (i : Inv limit r) (most : taken r ≤ 2 ^ 62) where
   pub in-range : inRangeOf limit (r .scan) ≡ true
-  in-range = rw (le-leb (taken r) (2 ^ 62) most, le-leb (r .scan .have .0) (limit + 1) (i .inside))
+  in-range = rw (le-leb (taken r) (2 ^ 62) most, le-leb (r .scan .have) (limit + 1) (i .inside))
 
   give-called : (bs : List ℕ) → Called limit r (give bs) (feedOf limit r bs)
   give-called bs =
@@ -195,7 +198,7 @@ module _ (limit : ℕ) (small : limit ≤ 65279) (r : Reader) (i : Inv limit r) 
       let n : 0 + w .k ≡ w .k = omega arith in
       with-row limit r (give bs) (runOf limit bs 0 r) (eventRow (w .event) (w .k) (w .start) (taken r + w .k))
       (w .row-is ∙ ap (λ (j : ℕ). eventRow (w .event) j (w .start) (taken r + w .k)) n)
-      (event-called limit r (runOf limit bs 0 r .reader) bs (w .k) (w .start) (leb-true (taken r + length bs) (2 ^ 62) d) (w .within) (w .place) (w .holds) (w .event) (w .all) (w .some) (w .frames)))
+      (event-called limit r (runOf limit bs 0 r .state) bs (w .k) (w .start) (leb-true (taken r + length bs) (2 ^ 62) d) (w .within) (w .place) (w .holds) (w .event) (w .all) (w .some) (w .frames)))
       (λ d.
       let over : 2 ^ 62 < taken r + length bs = leb-false (taken r + length bs) (2 ^ 62) d in
       record {
@@ -210,23 +213,24 @@ module _ (limit : ℕ) (small : limit ≤ 65279) (r : Reader) (i : Inv limit r) 
           in-range = λ e. omega arith;
           used = λ e. over;
           unused = λ e. absurd (e refl);
-          asked = λ e. let z : _≡_ {A = ℕ} 0 1 = cc in absurd (omega arith);
+          asked = λ e. not-asked e;
+          used-kept = λ e. refl;
+          asked-kept = λ e. not-asked e;
         };
         shape = λ e. absurd (omega arith);
         frames = λ t. refl;
       }))
 
   -- CLEAN or OPEN, of number d
-  end-called : (d : ℕ) (v : List ℕ) → (eqb d 2 || eqb d 16) ≡ true → decided d ≡ false → 2 ≤ d → d < 17 → getD v 0 0 ≡ taken r → Called limit r ask (reply (row d v) r)
-  end-called d v counts undecided low high first =
-      let count : countOf (row d v) ≡ 0 = rw counts in
+  end-called : (d : ℕ) (v : List ℕ) → decided d ≡ false → 2 ≤ d → d < 17 → getD v 0 0 ≡ taken r → Called limit r ask (reply (row d v) r)
+  end-called d v undecided low high first =
       let other : eqb d 1 ≡ false = ne-eqb d 1 (λ e. omega arith) in
       record {
         holds = i;
         most = most;
-        place = omega (arith, count);
+        place = omega arith;
         account = record {
-          within = omega (arith, count);
+          within = omega arith;
           all = λ e. absurd (omega arith);
           some = λ e. absurd (true≢false (sym e ∙ undecided));
           ends = λ e. absurd (true≢false (sym e ∙ undecided));
@@ -234,20 +238,22 @@ module _ (limit : ℕ) (small : limit ≤ 65279) (r : Reader) (i : Inv limit r) 
           used = λ e. absurd (omega arith);
           unused = λ e. omega arith;
           asked = λ e. first;
+          used-kept = λ e. refl;
+          asked-kept = λ e. refl;
         };
         shape = λ e. absurd (omega arith);
-        frames = λ t. rw (count, other);
+        frames = λ t. rw other;
       }
 
   ask-called : Called limit r ask (finishOf limit r)
   ask-called = rw in-range (go (r .scan .phase))
     where
       go : (f : Phase) → Called limit r ask (reply (endingRow f (r .scan)) r)
-      go Idle = end-called 2 (taken r ∷ []) refl refl (omega arith) (omega arith) refl
-      go Half = end-called 2 (taken r ∷ []) refl refl (omega arith) (omega arith) refl
-      go Header = end-called 16 (taken r ∷ r .scan .start .0 ∷ []) refl refl (omega arith) (omega arith) refl
-      go Open = end-called 16 (taken r ∷ r .scan .start .0 ∷ []) refl refl (omega arith) (omega arith) refl
-      go Escape = end-called 16 (taken r ∷ r .scan .start .0 ∷ []) refl refl (omega arith) (omega arith) refl
+      go Idle = end-called 2 (taken r ∷ []) refl (omega arith) (omega arith) refl
+      go Half = end-called 2 (taken r ∷ []) refl (omega arith) (omega arith) refl
+      go Header = end-called 16 (taken r ∷ r .scan .start ∷ []) refl (omega arith) (omega arith) refl
+      go Open = end-called 16 (taken r ∷ r .scan .start ∷ []) refl (omega arith) (omega arith) refl
+      go Escape = end-called 16 (taken r ∷ r .scan .start ∷ []) refl (omega arith) (omega arith) refl
 
   pub called : (c : Call) → Called limit r c (callOf limit r c)
   called (give bs) = give-called bs
@@ -255,11 +261,11 @@ module _ (limit : ℕ) (small : limit ≤ 65279) (r : Reader) (i : Inv limit r) 
 
 -- ---- all calls
 
-pub record Logged (limit : ℕ) (r : Reader) (log : List Entry) : Type 0 where
+pub record Logged (limit : ℕ) (r : State) (log : List Entry) : Type 0 where
   pub frames : handedOut log ≡ framesFrom limit (origin r) (pending r ++ stream log)
   pub accounts : Accounts (taken r) log
   pub never : (e : Entry) → List·Memᴰ e log → e .row .number ≢ 17
-  pub shapes : (e : Entry) → List·Memᴰ e log → e .row .number ≡ 1 → e .row ≡ row 1 (countOf (e .row) ∷ getD (e .row .values) 1 0 ∷ getD (e .row .values) 2 0 ∷ [])
+  pub shapes : (e : Entry) → List·Memᴰ e log → e .row .number ≡ 1 → e .row ≡ row 1 (takenIn e ∷ getD (e .row .values) 1 0 ∷ getD (e .row .values) 2 0 ∷ [])
 
 -- what holds of the first and of the others holds of each
 each : (P : Entry → Type 0) (a e : Entry) (l : List Entry) → P a → ((e : Entry) → List·Memᴰ e l → P e) → List·Memᴰ e (a ∷ l) → P e
@@ -270,38 +276,38 @@ each P a e l first rest m = go (List·Memᴰ·cases-cons m)
     go (inr k) = rest e k
 
 module _ (limit : ℕ) (small : limit ≤ 65279) where
-  pub logged : (cs : List Call) (r : Reader) → Inv limit r → taken r ≤ 2 ^ 62 → Logged limit r (logOf limit r cs)
+  pub logged : (cs : List Call) (r : State) → Inv limit r → taken r ≤ 2 ^ 62 → Logged limit r (logOf limit r cs)
   unfolding logOf handedOut stream Accounts
   logged [] r i most =
       record { frames = sym (nothing-left limit r i); accounts = tt; never = λ e m. absurd (List·Memᴰ·not-nil m); shapes = λ e m. absurd (List·Memᴰ·not-nil m) }
   logged (c ∷ cs) r i most =
       let y : Reply = callOf limit r c in
       let ok : Called limit r c y = called limit small r i most c in
-      let rest = logged cs (y .reader) (ok .holds) (ok .most) in
+      let rest = logged cs (y .state) (ok .holds) (ok .most) in
       record {
-        frames = ap (λ (l : List Found). handed (entry c y) l) (rest .frames) ∙ sym (ok .frames (stream (logOf limit (y .reader) cs)));
+        frames = ap (λ (l : List Found). handed (entryOf r c y) l) (rest .frames) ∙ sym (ok .frames (stream (logOf limit (y .state) cs)));
         accounts = (ok .account, (rw (ok .place) at (rest .accounts)));
-        never = λ e m. each (λ e. e .row .number ≢ 17) (entry c y) e (logOf limit (y .reader) cs) (ok .account .in-range) (rest .never) m;
-        shapes = λ e m. each (λ e. e .row .number ≡ 1 → e .row ≡ row 1 (countOf (e .row) ∷ getD (e .row .values) 1 0 ∷ getD (e .row .values) 2 0 ∷ [])) (entry c y) e (logOf limit (y .reader) cs) (ok .shape) (rest .shapes) m;
+        never = λ e m. each (λ e. e .row .number ≢ 17) (entryOf r c y) e (logOf limit (y .state) cs) (ok .account .in-range) (rest .never) m;
+        shapes = λ e m. each (λ e. e .row .number ≡ 1 → e .row ≡ row 1 (takenIn e ∷ getD (e .row .values) 1 0 ∷ getD (e .row .values) 2 0 ∷ [])) (entryOf r c y) e (logOf limit (y .state) cs) (ok .shape) (rest .shapes) m;
       }
 
   -- the reader after the calls
-  pub record Reached (r q : Reader) (log : List Entry) : Type 0 where
+  pub record Reached (r q : State) (log : List Entry) : Type 0 where
     pub holds : Inv limit q
     pub most : taken q ≤ 2 ^ 62
     pub place : taken q ≡ taken r + length (stream log)
 
-  pub reached : (cs : List Call) (r : Reader) → Inv limit r → taken r ≤ 2 ^ 62 → Reached r (readerAfter limit r cs) (logOf limit r cs)
-  unfolding logOf readerAfter stream
+  pub reached : (cs : List Call) (r : State) → Inv limit r → taken r ≤ 2 ^ 62 → Reached r (stateAfter limit r cs) (logOf limit r cs)
+  unfolding logOf stateAfter stream
   reached [] r i most = record { holds = i; most = most; place = omega arith }
   reached (c ∷ cs) r i most =
       let y : Reply = callOf limit r c in
       let ok : Called limit r c y = called limit small r i most c in
-      let rest = reached cs (y .reader) (ok .holds) (ok .most) in
-      let front : List ℕ = take (countOf (y .row)) (offered c) in
-      let size : length front ≡ countOf (y .row) = length-take-le (countOf (y .row)) (offered c) (ok .account .within) in
+      let rest = reached cs (y .state) (ok .holds) (ok .most) in
+      let front : List ℕ = take (takenBy c (y .row)) (offered c) in
+      let size : length front ≡ takenBy c (y .row) = length-take-le (takenBy c (y .row)) (offered c) (ok .account .within) in
       record {
         holds = rest .holds;
         most = rest .most;
-        place = omega (arith, rest .place, ok .place, length-append front (stream (logOf limit (y .reader) cs)));
+        place = omega (arith, rest .place, ok .place, length-append front (stream (logOf limit (y .state) cs)));
       }

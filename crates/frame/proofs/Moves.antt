@@ -3,6 +3,7 @@
 use Prim.Native.Nat.{ℕ, suc, _+_, _-_, _%_, _^_, _≤_}
 use mathlib.Core.Path.{_≡_, refl, sym, ap, _∙_}
 use mathlib.Core.List.{List, [], _∷_, _++_, append-assoc}
+use mathlib.Core.Bool.{cond, false}
 use mathlib.Core.Logic.{_≢_}
 use mathlib.Core.Option.{none}
 use native.Mathlib.Numerals.{add-one}
@@ -13,14 +14,16 @@ use lib.Dec.{eqb}
 use borrow.Author.Tests.{eqb-true, eqb-false, eq-eqb, ne-eqb, le-leb}
 use Rattle.frame.specs.Wire.{stuff, wire, lengthOf, Good}
 use Rattle.frame.specs.Frames.{Found, frontBody, isGood, sumHolds, framesFrom, here}
-use Rattle.frame.specs.Rules.{onWire, inBody, putOf, grownOf, endedOf, bodyByteOf, onFFIn, onOtherIn, advanceOf}
-use Rattle.frame.specs.declared.scan.Phase.{Phase}
-use Rattle.frame.specs.declared.scan.Phase.the-variants.{Idle, Half, Header, Open, Escape}
+use Rattle.frame.specs.Table.{codeOf}
+use Rattle.frame.specs.Rules.{putOf, grownOf, endedOf, bodyByteOf, onFFIn, onOtherIn, advanceOf}
+use Rattle.frame.specs.State.{Phase, Idle, Half, Header, Open, Escape}
 use Rattle.frame.specs.declared.scan.Event.{Event}
-use Rattle.frame.specs.declared.scan.Event.the-variants.{Quiet, Frame, Short, Long, Stuff, Cut, Sum}
-use Rattle.frame.specs.declared.scan.Scan.{Scan}
-use Rattle.frame.specs.declared.scan.Step.{Step}
-use Rattle.frame.specs.declared.reader.Reader.{Reader}
+use Rattle.frame.specs.declared.scan.Event.the-variants.{Quiet, Decided}
+use Rattle.frame.specs.declared.scan.Verdict.{Verdict}
+use Rattle.frame.specs.declared.scan.Verdict.the-variants.{Frame, Short, Long, Stuff, Cut, Sum}
+use Rattle.frame.specs.State.{Scan}
+use Rattle.frame.specs.State.{Step}
+use Rattle.frame.specs.State.{State}
 use Rattle.base.proofs.Tests.{by-test}
 use Rattle.frame.proofs.Stuffing.{stuff-append}
 use Rattle.frame.proofs.Bodies.{Partial, partial-none, first-on, sumIn, sumDue, Ends, size, stored, body-cases, whole-held}
@@ -29,8 +32,8 @@ use Rattle.frame.proofs.Skip.{pass, pass-other, pass-pair, pass-lone, p
 -- ---- what a state stands for
 
 -- the body bytes so far
-abbrev pub held : Reader → List ℕ
-held r = take (r .scan .have .0) (r .body)
+abbrev pub held : State → List ℕ
+held r = take (r .scan .have) (r .body)
 
 abbrev pub pendingIn : Phase → List ℕ → List ℕ
 pendingIn Idle b = []
@@ -39,58 +42,54 @@ pendingIn Header b = 255 ∷ 255 ∷ []
 pendingIn Open b = wire b
 pendingIn Escape b = wire b ++ 255 ∷ []
 
-abbrev pub pending : Reader → List ℕ
+abbrev pub pending : State → List ℕ
 pending r = pendingIn (r .scan .phase) (held r)
 
 -- the place of the first pending byte
 abbrev pub originIn : Phase → Scan → ℕ
-originIn Idle s = s .taken .0
-originIn Half s = s .taken .0 - 1
-originIn Header s = s .start .0
-originIn Open s = s .start .0
-originIn Escape s = s .start .0
+originIn Idle s = s .taken
+originIn Half s = s .taken - 1
+originIn Header s = s .start
+originIn Open s = s .start
+originIn Escape s = s .start
 
-abbrev pub origin : Reader → ℕ
+abbrev pub origin : State → ℕ
 origin r = originIn (r .scan .phase) (r .scan)
 
 -- an open frame of which n raw bytes are there
 pub record Begun (limit : ℕ) (s : Scan) (b : List ℕ) (n : ℕ) : Type 0 where
   pub some-byte : 1 ≤ length b
-  pub place : s .taken .0 ≡ s .start .0 + n
-  pub part : Partial limit (s .have .0) (s .length) (s .sum) b
+  pub place : s .taken ≡ s .start + n
+  pub part : Partial limit (s .have) (s .length) (s .sum) b
 
 abbrev pub InvIn : ℕ → Phase → Scan → List ℕ → Type 0
 InvIn limit Idle s b = Unit {0}
-InvIn limit Half s b = 1 ≤ s .taken .0
-InvIn limit Header s b = (s .taken .0 ≡ s .start .0 + 2) × (s .have .0 ≡ 0) × (s .sum ≡ 0)
+InvIn limit Half s b = 1 ≤ s .taken
+InvIn limit Header s b = (s .taken ≡ s .start + 2) × (s .have ≡ 0) × (s .sum ≡ 0)
 InvIn limit Open s b = Begun limit s b (length (wire b))
 InvIn limit Escape s b = Begun limit s b (suc (length (wire b)))
 
 -- what holds of a reader after any calls
-pub record Inv (limit : ℕ) (r : Reader) : Type 0 where
+pub record Inv (limit : ℕ) (r : State) : Type 0 where
   pub phase : InvIn limit (r .scan .phase) (r .scan) (held r)
   pub room : length (r .body) ≡ limit + 2
-  pub inside : r .scan .have .0 ≤ limit + 1
+  pub inside : r .scan .have ≤ limit + 1
 
+-- the frame that an event hands out, before others
 abbrev pub handedBy : Event → Found → List Found → List Found
 handedBy Quiet f l = l
-handedBy Frame f l = f ∷ l
-handedBy Short f l = l
-handedBy Long f l = l
-handedBy Stuff f l = l
-handedBy Cut f l = l
-handedBy Sum f l = l
+handedBy (Decided v) f l = cond (eqb (codeOf v) 1) (f ∷ l) l
 
 -- the reader after a step, and the frame that the step completes
-abbrev pub after : Reader → Step → Reader
-after r s = record { scan = s .scan; body = putOf (s .put) (r .body) (r .scan .have .0) (s .byte) }
+abbrev pub after : State → Step → State
+after r s = record { scan = s .scan; body = putOf (s .put) (r .body) (r .scan .have) (s .byte) }
 
-abbrev pub foundBy : Reader → Step → Found
-foundBy r s = record { start = r .scan .start .0; end = s .scan .taken .0; body = frontBody (after r s .body) }
+abbrev pub foundBy : State → Step → Found
+foundBy r s = record { start = r .scan .start; end = s .scan .taken; body = frontBody (after r s .body) }
 
 -- a step from the pending bytes p at place o, with any rest
-pub record Moved (limit o : ℕ) (p : List ℕ → List ℕ) (r : Reader) (s : Step) : Type 0 where
-  pub one : s .scan .taken .0 ≡ suc (r .scan .taken .0)
+pub record Moved (limit o : ℕ) (p : List ℕ → List ℕ) (r : State) (s : Step) : Type 0 where
+  pub one : s .scan .taken ≡ suc (r .scan .taken)
   pub holds : Inv limit (after r s)
   pub frames : (t : List ℕ) → framesFrom limit o (p t) ≡ handedBy (s .event) (foundBy r s) (framesFrom limit (origin (after r s)) (pending (after r s) ++ t))
 
@@ -131,8 +130,8 @@ wire-none e = rw e refl
 module _ (limit : ℕ) (f : Phase) (t st h l m : ℕ) (body : List ℕ) (room : length body ≡ limit + 2) (inside : h ≤ limit + 1)
     (p : Partial limit h l m (take h body)) (v : ℕ) (first : getD (take h body ++ v ∷ []) 0 0 ≢ 255)
     (place : suc t ≡ st + length (wire (take h body ++ v ∷ []))) where
-  abbrev from : Reader
-  from = record { scan = record { phase = f; taken = onWire t; start = onWire st; have = inBody h; length = l; sum = m }; body = body }
+  abbrev from : State
+  from = record { scan = record { phase = f; taken = t; start = st; have = h; length = l; sum = m }; body = body }
 
   abbrev grown-body : List ℕ
   grown-body = take h body ++ v ∷ []
@@ -156,14 +155,13 @@ module _ (limit : ℕ) (f : Phase) (t st h l m : ℕ) (body : List ℕ) (room : 
       }
 
   -- a refused frame is none
-  refused : (e : Event) → ((g : Found) (r : List Found) → handedBy e g r ≡ r) → ((r : List ℕ) → here limit (wire grown-body ++ r) ≡ none) → Moves (endedOf (from .scan) v e)
-  refused e silent none-here =
+  refused : (e : Verdict) → eqb (codeOf e) 1 ≡ false → ((r : List ℕ) → here limit (wire grown-body ++ r) ≡ none) → Moves (endedOf (from .scan) v e)
+  refused e other none-here =
       record {
         one = add-one t;
         holds = record { phase = tt; room = length-set body h v ∙ room; inside = omega arith };
         frames = λ r.
-            pass-wire limit grown-body r st (omega (arith, size p v)) first (none-here r) ∙ at-place limit r (omega arith)
-            ∙ sym (silent (foundBy from (endedOf (from .scan) v e)) (framesFrom limit (t + 1) r));
+            pass-wire limit grown-body r st (omega (arith, size p v)) first (none-here r) ∙ at-place limit r {n = t + 1} (omega arith) ∙ rw other;
       }
 
   completes : Good limit grown-body → Moves (endedOf (from .scan) v Frame)
@@ -177,16 +175,15 @@ module _ (limit : ℕ) (f : Phase) (t st h l m : ℕ) (body : List ℕ) (room : 
             ∙ ap (λ (g : Found). g ∷ framesFrom limit (t + 1) r) (found-path refl (omega arith) (sym (whole-held body h v (omega arith) (g .true-length))));
       }
 
-  ended-moves : (e : Event) → Ends limit grown-body e → Moves (endedOf (from .scan) v e)
+  ended-moves : (e : Verdict) → Ends limit grown-body e → Moves (endedOf (from .scan) v e)
   unfolding isGood sumHolds
-  ended-moves Quiet q = absurd q
   ended-moves Frame q = completes q
-  ended-moves Short q = refused Short (λ g r. refl) (λ r. none-short limit grown-body r (omega (arith, q .0)) (q .1))
-  ended-moves Long q = refused Long (λ g r. refl) (λ r. none-long limit grown-body r (omega (arith, q .0)) (q .3))
+  ended-moves Short q = refused Short refl (λ r. none-short limit grown-body r (omega (arith, q .0)) (q .1))
+  ended-moves Long q = refused Long refl (λ r. none-long limit grown-body r (omega (arith, q .0)) (q .3))
   ended-moves Stuff q = absurd q
   ended-moves Cut q = absurd q
   ended-moves Sum q =
-      refused Sum (λ g r. refl) (λ r. none-sum limit grown-body r (q .0)
+      refused Sum refl (λ r. none-sum limit grown-body r (q .0)
       (rw (eq-eqb (length grown-body) (lengthOf grown-body + 2) (q .0), le-leb 5 (lengthOf grown-body) (q .1), le-leb (lengthOf grown-body) limit (q .2))
       (ne-eqb (sumIn grown-body) (sumDue grown-body) (q .3))))
 
@@ -197,16 +194,16 @@ module _ (limit : ℕ) (f : Phase) (t st h l m : ℕ) (body : List ℕ) (room : 
 
 module _ (limit : ℕ) (small : limit ≤ 65279) (t st h l m : ℕ) (body : List ℕ) (room : length body ≡ limit + 2) (inside : h ≤ limit + 1) where
   abbrev scanIn : Phase → Scan
-  scanIn f = record { phase = f; taken = onWire t; start = onWire st; have = inBody h; length = l; sum = m }
+  scanIn f = record { phase = f; taken = t; start = st; have = h; length = l; sum = m }
 
-  abbrev readerIn : Phase → Reader
+  abbrev readerIn : Phase → State
   readerIn f = record { scan = scanIn f; body = body }
 
   abbrev MovesFrom : Phase → ℕ → Step → Type 0
   MovesFrom f x s = Moved limit (originIn f (scanIn f)) (λ r. pendingIn f (take h body) ++ x ∷ r) (readerIn f) s
 
   -- a header is made
-  header-holds : {k : ℕ} → t ≡ suc k → InvIn limit Header (record { phase = Header; taken = onWire (t + 1); start = onWire (t - 1); have = inBody 0; length = 0; sum = 0 }) []
+  header-holds : {k : ℕ} → t ≡ suc k → InvIn limit Header (record { phase = Header; taken = (t + 1); start = (t - 1); have = 0; length = 0; sum = 0 }) []
   header-holds e = (omega arith, refl, refl)
 
   ff-moves : (f : Phase) → InvIn limit f (scanIn f) (take h body) → MovesFrom f 255 (onFFIn f (scanIn f))
@@ -289,42 +286,42 @@ module _ (limit : ℕ) (small : limit ≤ 65279) (t st h l m : ℕ) (body : List
       (λ q. other-moves x (eqb-false x 255 q) f i)
 
 -- a raw byte, of any reader that the calls can reach
-pub moves : (limit : ℕ) → limit ≤ 65279 → (r : Reader) (x : ℕ) → Inv limit r → Moved limit (origin r) (λ t. pending r ++ x ∷ t) r (advanceOf limit (r .scan) x)
+pub moves : (limit : ℕ) → limit ≤ 65279 → (r : State) (x : ℕ) → Inv limit r → Moved limit (origin r) (λ t. pending r ++ x ∷ t) r (advanceOf limit (r .scan) x)
 moves limit small r x i =
-    byte-moves limit small (r .scan .taken .0) (r .scan .start .0) (r .scan .have .0) (r .scan .length) (r .scan .sum) (r .body) (i .room) (i .inside) x (r .scan .phase) (i .phase)
+    byte-moves limit small (r .scan .taken) (r .scan .start) (r .scan .have) (r .scan .length) (r .scan .sum) (r .body) (i .room) (i .inside) x (r .scan .phase) (i .phase)
 
 -- ---- where a frame begins or the bytes end
 
 module _ (limit : ℕ) where
   -- nothing that is pending is a frame
-  pub nothing-left : (r : Reader) → Inv limit r → framesFrom limit (origin r) (pending r ++ []) ≡ []
+  pub nothing-left : (r : State) → Inv limit r → framesFrom limit (origin r) (pending r ++ []) ≡ []
   unfolding framesFrom stuff
   nothing-left r i = go (r .scan .phase) (r .scan) (held r) (i .phase)
     where
       go : (f : Phase) (s : Scan) (b : List ℕ) → InvIn limit f s b → framesFrom limit (originIn f s) (pendingIn f b ++ []) ≡ []
       go Idle s b h = refl
-      go Half s b h = pass-lone limit (s .taken .0 - 1) 255
-      go Header s b h = pass limit (s .start .0) 255 (255 ∷ []) (none-end limit [] (omega arith)) ∙ pass-lone limit (suc (s .start .0)) 255
-      go Open s b h = pass-wire limit b [] (s .start .0) (h .some-byte) (h .part .first) (none-end limit b (rw (h .part .count) (h .part .under)))
+      go Half s b h = pass-lone limit (s .taken - 1) 255
+      go Header s b h = pass limit (s .start) 255 (255 ∷ []) (none-end limit [] (omega arith)) ∙ pass-lone limit (suc (s .start)) 255
+      go Open s b h = pass-wire limit b [] (s .start) (h .some-byte) (h .part .first) (none-end limit b (rw (h .part .count) (h .part .under)))
       go Escape s b h =
-          ap (λ (l : List ℕ). framesFrom limit (s .start .0) l) (wire-wait b [])
-          ∙ pass-wire limit b (255 ∷ []) (s .start .0) (h .some-byte) (h .part .first) (none-lone limit b (rw (h .part .count) (h .part .under)))
-          ∙ pass-lone limit (s .start .0 + length (wire b)) 255
+          ap (λ (l : List ℕ). framesFrom limit (s .start) l) (wire-wait b [])
+          ∙ pass-wire limit b (255 ∷ []) (s .start) (h .some-byte) (h .part .first) (none-lone limit b (rw (h .part .count) (h .part .under)))
+          ∙ pass-lone limit (s .start + length (wire b)) 255
 
   -- a header that follows ends whatever is pending
-  pub settles : limit ≤ 65279 → (r : Reader) → Inv limit r → (t : List ℕ)
-      → framesFrom limit (origin r) (pending r ++ 255 ∷ 255 ∷ t) ≡ framesFrom limit (r .scan .taken .0) (255 ∷ 255 ∷ t)
+  pub settles : limit ≤ 65279 → (r : State) → Inv limit r → (t : List ℕ)
+      → framesFrom limit (origin r) (pending r ++ 255 ∷ 255 ∷ t) ≡ framesFrom limit (r .scan .taken) (255 ∷ 255 ∷ t)
   settles small r i t = go (r .scan .phase) (r .scan) (held r) (i .phase)
     where
-      go : (f : Phase) (s : Scan) (b : List ℕ) → InvIn limit f s b → framesFrom limit (originIn f s) (pendingIn f b ++ 255 ∷ 255 ∷ t) ≡ framesFrom limit (s .taken .0) (255 ∷ 255 ∷ t)
+      go : (f : Phase) (s : Scan) (b : List ℕ) → InvIn limit f s b → framesFrom limit (originIn f s) (pendingIn f b ++ 255 ∷ 255 ∷ t) ≡ framesFrom limit (s .taken) (255 ∷ 255 ∷ t)
       go Idle s b h = refl
-      go Half s b h = pass-triple limit small (s .taken .0 - 1) t ∙ at-place limit (255 ∷ 255 ∷ t) (omega arith)
+      go Half s b h = pass-triple limit small (s .taken - 1) t ∙ at-place limit (255 ∷ 255 ∷ t) (omega arith)
       go Header s b h =
-          pass-triple limit small (s .start .0) (255 ∷ t) ∙ pass-triple limit small (suc (s .start .0)) t ∙ at-place limit (255 ∷ 255 ∷ t) (omega (arith, h .0))
+          pass-triple limit small (s .start) (255 ∷ t) ∙ pass-triple limit small (suc (s .start)) t ∙ at-place limit (255 ∷ 255 ∷ t) (omega (arith, h .0))
       go Open s b h =
-          pass-wire limit b (255 ∷ 255 ∷ t) (s .start .0) (h .some-byte) (h .part .first) (none-broken limit b 255 t (rw (h .part .count) (h .part .under)) (omega arith))
+          pass-wire limit b (255 ∷ 255 ∷ t) (s .start) (h .some-byte) (h .part .first) (none-broken limit b 255 t (rw (h .part .count) (h .part .under)) (omega arith))
           ∙ at-place limit (255 ∷ 255 ∷ t) (omega (arith, h .place))
       go Escape s b h =
-          ap (λ (l : List ℕ). framesFrom limit (s .start .0) l) (wire-wait b (255 ∷ 255 ∷ t))
-          ∙ pass-wire limit b (255 ∷ 255 ∷ 255 ∷ t) (s .start .0) (h .some-byte) (h .part .first) (none-broken limit b 255 (255 ∷ t) (rw (h .part .count) (h .part .under)) (omega arith))
-          ∙ pass-triple limit small (s .start .0 + length (wire b)) t ∙ at-place limit (255 ∷ 255 ∷ t) (omega (arith, h .place))
+          ap (λ (l : List ℕ). framesFrom limit (s .start) l) (wire-wait b (255 ∷ 255 ∷ t))
+          ∙ pass-wire limit b (255 ∷ 255 ∷ 255 ∷ t) (s .start) (h .some-byte) (h .part .first) (none-broken limit b 255 (255 ∷ t) (rw (h .part .count) (h .part .under)) (omega arith))
+          ∙ pass-triple limit small (s .start + length (wire b)) t ∙ at-place limit (255 ∷ 255 ∷ t) (omega (arith, h .place))

@@ -11,21 +11,22 @@ use lib.Dec.{eqb, ltb}
 use borrow.Author.Tests.{eqb-true, ne-eqb, ltb-true, ltb-false}
 use Rattle.frame.specs.Wire.{stuff, wire, lengthOf}
 use Rattle.frame.specs.Lines.{Unfinished, Decides, is-frame, is-short, is-long, is-stuff, is-cut, is-sum, Line}
-use Rattle.frame.specs.Rules.{onWire, inBody, behindOf, escapeOf, bodyByteOf, advanceOf, decidesOf}
+use Rattle.frame.specs.Rules.{escapeOf, bodyByteOf, advanceOf, decidesOf}
 use Rattle.frame.specs.Calls.{nextOf}
-use Rattle.frame.specs.declared.scan.Phase.{Phase}
-use Rattle.frame.specs.declared.scan.Phase.the-variants.{Idle, Half, Header, Open, Escape}
-use Rattle.frame.specs.declared.scan.Event.{Event}
-use Rattle.frame.specs.declared.scan.Event.the-variants.{Quiet, Frame, Short, Long, Stuff, Cut, Sum}
-use Rattle.frame.specs.declared.scan.Scan.{Scan}
-use Rattle.frame.specs.declared.scan.Step.{Step}
-use Rattle.frame.specs.declared.reader.Reader.{Reader}
+use Rattle.frame.specs.State.{Phase, Idle, Half, Header, Open, Escape}
+use Rattle.frame.specs.declared.scan.Event.the-variants.{Decided}
+use Rattle.frame.specs.declared.scan.Verdict.{Verdict}
+use Rattle.frame.specs.declared.scan.Verdict.the-variants.{Frame, Short, Long, Stuff, Cut, Sum}
+use Rattle.frame.specs.State.{Scan}
+use Rattle.frame.specs.State.{Step}
+use Rattle.frame.specs.State.{State}
 use Rattle.frame.proofs.Stuffing.{stuff-append}
 use Rattle.frame.proofs.Here.{lengthOf-append}
 use Rattle.frame.proofs.Skip.{good-first}
 use Rattle.frame.proofs.Moves.{held, Inv, InvIn, after}
 use Rattle.frame.proofs.Bodies.{Partial, partial-none, Ends, never-both, same-end, unfinished-of, stored, body-cases}
-use Rattle.frame.proofs.Fold.{codeOf, lineAt, afterAll, saidAll, after-append, said-append, kept}
+use Rattle.frame.specs.Table.{codeOf}
+use Rattle.frame.proofs.Fold.{eventCode, lineAt, afterAll, saidAll, after-append, said-append, kept}
 
 -- ---- fronts of bodies
 
@@ -49,8 +50,7 @@ module _ (limit : ℕ) (a c : List ℕ) (some : 1 ≤ length a) where
       let size : length (a ++ c) ≡ length a + length c = length-append a c in
       front-of (u .first) (omega (arith, u .under)) (λ k. u .bounds (omega arith))
 
-ends-first : (limit : ℕ) → limit ≤ 65279 → (b : List ℕ) (e : Event) → Ends limit b e → getD b 0 0 ≢ 255
-ends-first limit small b Quiet p = absurd p
+ends-first : (limit : ℕ) → limit ≤ 65279 → (b : List ℕ) (e : Verdict) → Ends limit b e → getD b 0 0 ≢ 255
 ends-first limit small b Frame p = good-first limit b small p
 ends-first limit small b Short p = λ q. omega (arith, p .1)
 ends-first limit small b Long p = p .1
@@ -59,11 +59,10 @@ ends-first limit small b Cut p = absurd p
 ends-first limit small b Sum p = λ q. omega (arith, p .2)
 
 -- the body before a last byte that decides
-ends-front : (limit : ℕ) → limit ≤ 65279 → (a : List ℕ) (v : ℕ) (e : Event) → Ends limit (a ++ v ∷ []) e → Unfinished limit a
+ends-front : (limit : ℕ) → limit ≤ 65279 → (a : List ℕ) (v : ℕ) (e : Verdict) → Ends limit (a ++ v ∷ []) e → Unfinished limit a
 ends-front limit small a v e p = go e p (length-append a (v ∷ [])) (ends-first limit small (a ++ v ∷ []) e p)
   where
-    go : (e : Event) → Ends limit (a ++ v ∷ []) e → length (a ++ v ∷ []) ≡ length a + 1 → getD (a ++ v ∷ []) 0 0 ≢ 255 → Unfinished limit a
-    go Quiet p n f = absurd p
+    go : (e : Verdict) → Ends limit (a ++ v ∷ []) e → length (a ++ v ∷ []) ≡ length a + 1 → getD (a ++ v ∷ []) 0 0 ≢ 255 → Unfinished limit a
     go Frame p n f = front-of limit a (v ∷ []) (omega (arith, p .true-length, p .least)) f (omega (arith, p .true-length)) (λ k. (p .least, p .most))
     go Short p n f = front-of limit a (v ∷ []) (omega (arith, p .0)) f (omega (arith, p .0)) (λ k. absurd (omega (arith, p .0)))
     go Long p n f = front-of limit a (v ∷ []) (omega (arith, p .0)) f (omega (arith, p .0)) (λ k. absurd (omega (arith, p .0)))
@@ -91,30 +90,30 @@ Between Open = Unit {0}
 Between Escape = ⊥
 
 -- a frame that starts at st is open, with the body bytes b
-pub record At (limit st : ℕ) (b : List ℕ) (r : Reader) : Type 0 where
+pub record At (limit st : ℕ) (b : List ℕ) (r : State) : Type 0 where
   pub holds : Inv limit r
   pub between : Between (r .scan .phase)
   pub held-is : held r ≡ b
-  pub starts : r .scan .start .0 ≡ st
+  pub starts : r .scan .start ≡ st
 
 -- before the last raw byte of the body byte v
-record Due (limit : ℕ) (r : Reader) (v : ℕ) : Type 0 where
+record Due (limit : ℕ) (r : State) (v : ℕ) : Type 0 where
   pre : List ℕ
   last : ℕ
   split : stuff (v ∷ []) ≡ pre ++ last ∷ []
-  q : Reader
+  q : State
   runs : afterAll limit r pre ≡ q
   room : length (q .body) ≡ limit + 2
-  part : Partial limit (q .scan .have .0) (q .scan .length) (q .scan .sum) (held q)
+  part : Partial limit (q .scan .have) (q .scan .length) (q .scan .sum) (held q)
   same : held q ≡ held r
-  starts : q .scan .start .0 ≡ r .scan .start .0
+  starts : q .scan .start ≡ r .scan .start
   step : advanceOf limit (q .scan) last ≡ bodyByteOf limit (q .scan) v
 
 module _ (limit t st h l m : ℕ) (body : List ℕ) (room : length body ≡ limit + 2) where
   abbrev scanIn : Phase → Scan
-  scanIn f = record { phase = f; taken = onWire t; start = onWire st; have = inBody h; length = l; sum = m }
+  scanIn f = record { phase = f; taken = t; start = st; have = h; length = l; sum = m }
 
-  abbrev readerIn : Phase → Reader
+  abbrev readerIn : Phase → State
   readerIn f = record { scan = scanIn f; body = body }
 
   abbrev b : List ℕ
@@ -138,7 +137,7 @@ module _ (limit t st h l m : ℕ) (body : List ℕ) (room : length body ≡ limi
             pre = 255 ∷ [];
             last = 85;
             split = rw ff;
-            q = record { scan = escapeOf (scanIn Open) (behindOf (onWire t)); body = body };
+            q = record { scan = escapeOf (scanIn Open) (t + 1); body = body };
             runs = refl;
             room = room;
             part = i .part;
@@ -150,7 +149,7 @@ module _ (limit t st h l m : ℕ) (body : List ℕ) (room : length body ≡ limi
   due-in Escape n i v first = absurd n
 
   -- two FF make a header
-  header-in : (f : Phase) → (Between (afterAll limit (readerIn f) (255 ∷ 255 ∷ []) .scan .phase)) × (held (afterAll limit (readerIn f) (255 ∷ 255 ∷ [])) ≡ []) × (afterAll limit (readerIn f) (255 ∷ 255 ∷ []) .scan .start .0 ≡ t)
+  header-in : (f : Phase) → (Between (afterAll limit (readerIn f) (255 ∷ 255 ∷ []) .scan .phase)) × (held (afterAll limit (readerIn f) (255 ∷ 255 ∷ [])) ≡ []) × (afterAll limit (readerIn f) (255 ∷ 255 ∷ []) .scan .start ≡ t)
   unfolding afterAll
   header-in Idle = (tt, refl, omega arith)
   header-in Half = (tt, refl, omega arith)
@@ -159,7 +158,7 @@ module _ (limit t st h l m : ℕ) (body : List ℕ) (room : length body ≡ limi
   header-in Escape = (tt, refl, omega arith)
 
   -- an FF of the body waits
-  wait-in : (f : Phase) → Between f → InvIn limit f (scanIn f) b → 1 ≤ length b → (nextOf limit (readerIn f) 255 .scan .phase ≡ Escape) × (nextOf limit (readerIn f) 255 .scan .start .0 ≡ st)
+  wait-in : (f : Phase) → Between f → InvIn limit f (scanIn f) b → 1 ≤ length b → (nextOf limit (readerIn f) 255 .scan .phase ≡ Escape) × (nextOf limit (readerIn f) 255 .scan .start ≡ st)
   wait-in Idle n i some = absurd n
   wait-in Half n i some = absurd n
   wait-in Header n i some = let none-yet : length b ≡ 0 = ap (λ (j : ℕ). length (take j body)) (i .1) in absurd (omega arith)
@@ -169,18 +168,18 @@ module _ (limit t st h l m : ℕ) (body : List ℕ) (room : length body ≡ limi
 -- ---- to the deciding byte
 
 -- before the last of the raw bytes, which decides e for the frame that starts at st
-pub record Ready (limit : ℕ) (r : Reader) (raw : List ℕ) (st : ℕ) (e : Event) : Type 0 where
+pub record Ready (limit : ℕ) (r : State) (raw : List ℕ) (st : ℕ) (e : Verdict) : Type 0 where
   pub pre : List ℕ
   pub last : ℕ
   pub parts : raw ≡ pre ++ last ∷ []
-  pub starts : afterAll limit r pre .scan .start .0 ≡ st
-  pub event : advanceOf limit (afterAll limit r pre .scan) last .event ≡ e
+  pub starts : afterAll limit r pre .scan .start ≡ st
+  pub event : advanceOf limit (afterAll limit r pre .scan) last .event ≡ Decided e
 
 pub line-path : {a a′ b b′ c c′ : ℕ} {d d′ : List ℕ} → a ≡ a′ → b ≡ b′ → c ≡ c′ → d ≡ d′
     → _≡_ {A = Line} (record { number = a; start = b; end = c; body = d }) (record { number = a′; start = b′; end = c′; body = d′ })
 line-path p q w v = λ j. record { number = p j; start = q j; end = w j; body = v j }
 
-ready-behind : {limit : ℕ} {r : Reader} {raw : List ℕ} {st : ℕ} {e : Event} (c : List ℕ) → Ready limit (afterAll limit r c) raw st e → Ready limit r (c ++ raw) st e
+ready-behind : {limit : ℕ} {r : State} {raw : List ℕ} {st : ℕ} {e : Verdict} (c : List ℕ) → Ready limit (afterAll limit r c) raw st e → Ready limit r (c ++ raw) st e
 ready-behind {limit} {r} c w =
     let there : afterAll limit r (c ++ w .pre) ≡ afterAll limit (afterAll limit r c) (w .pre) = after-append limit c (w .pre) r in
     record {
@@ -192,41 +191,41 @@ ready-behind {limit} {r} c w =
     }
 
 module _ (limit : ℕ) (small : limit ≤ 65279) where
-  due : {st : ℕ} {b : List ℕ} {r : Reader} → At limit st b r → (v : ℕ) → getD (b ++ v ∷ []) 0 0 ≢ 255 → Due limit r v
+  due : {st : ℕ} {b : List ℕ} {r : State} → At limit st b r → (v : ℕ) → getD (b ++ v ∷ []) 0 0 ≢ 255 → Due limit r v
   due {st} {b} {r} a v first =
-      due-in limit (r .scan .taken .0) (r .scan .start .0) (r .scan .have .0) (r .scan .length) (r .scan .sum) (r .body) (a .holds .room) (r .scan .phase)
+      due-in limit (r .scan .taken) (r .scan .start) (r .scan .have) (r .scan .length) (r .scan .sum) (r .body) (a .holds .room) (r .scan .phase)
       (a .between) (a .holds .phase) v (rw (a .held-is) first)
 
-  step-on : {st : ℕ} {b : List ℕ} {r : Reader} → At limit st b r → (v : ℕ) → Unfinished limit (b ++ v ∷ []) → At limit st (b ++ v ∷ []) (afterAll limit r (stuff (v ∷ [])))
+  step-on : {st : ℕ} {b : List ℕ} {r : State} → At limit st b r → (v : ℕ) → Unfinished limit (b ++ v ∷ []) → At limit st (b ++ v ∷ []) (afterAll limit r (stuff (v ∷ [])))
   unfolding afterAll
   step-on {st} {b} {r} a v u =
       let d : Due limit r v = due a v (u .first) in
-      let q : Reader = d .q in
+      let q : State = d .q in
       let b-is : held q ≡ b = d .same ∙ a .held-is in
-      let Goes : Step → Type 0 = λ (s : Step). Between (s .scan .phase) × (held (after q s) ≡ b ++ v ∷ []) × (s .scan .start .0 ≡ st) in
+      let Goes : Step → Type 0 = λ (s : Step). Between (s .scan .phase) × (held (after q s) ≡ b ++ v ∷ []) × (s .scan .start ≡ st) in
       let g : Goes (advanceOf limit (q .scan) (d .last)) =
       rw (d .step)
       (body-cases (q .scan) (d .part) v (rw b-is (u .first)) Goes
-      (λ k low p. (tt, stored (q .body) (q .scan .have .0) v (omega (arith, d .room)) ∙ ap (λ (j : List ℕ). j ++ v ∷ []) b-is, d .starts ∙ a .starts))
+      (λ k low p. (tt, stored (q .body) (q .scan .have) v (omega (arith, d .room)) ∙ ap (λ (j : List ℕ). j ++ v ∷ []) b-is, d .starts ∙ a .starts))
       (λ e p. absurd (never-both limit (b ++ v ∷ []) e (rw b-is at p) u))) in
       let there : afterAll limit r (stuff (v ∷ [])) ≡ nextOf limit q (d .last) = rw (d .split, after-append limit (d .pre) (d .last ∷ []) r, d .runs) in
       record { holds = kept limit small (stuff (v ∷ [])) r (a .holds) .holds; between = rw there (g .0); held-is = rw there (g .1); starts = rw there (g .2) }
 
-  step-end : {st : ℕ} {b : List ℕ} {r : Reader} → At limit st b r → (v : ℕ) (e : Event) → Ends limit (b ++ v ∷ []) e → Ready limit r (stuff (v ∷ [])) st e
+  step-end : {st : ℕ} {b : List ℕ} {r : State} → At limit st b r → (v : ℕ) (e : Verdict) → Ends limit (b ++ v ∷ []) e → Ready limit r (stuff (v ∷ [])) st e
   step-end {st} {b} {r} a v e p =
       let first : getD (b ++ v ∷ []) 0 0 ≢ 255 = ends-first limit small (b ++ v ∷ []) e p in
       let d : Due limit r v = due a v first in
-      let q : Reader = d .q in
+      let q : State = d .q in
       let b-is : held q ≡ b = d .same ∙ a .held-is in
-      let says : advanceOf limit (q .scan) (d .last) .event ≡ e =
+      let says : advanceOf limit (q .scan) (d .last) .event ≡ Decided e =
       rw (d .step)
-      (body-cases (q .scan) (d .part) v (rw b-is first) (λ (s : Step). s .event ≡ e)
+      (body-cases (q .scan) (d .part) v (rw b-is first) (λ (s : Step). s .event ≡ Decided e)
       (λ k low w. absurd (never-both limit (b ++ v ∷ []) e p (rw b-is at (unfinished-of w (omega (arith, w .count))))))
-      (λ e′ w. same-end limit (b ++ v ∷ []) e′ e (rw b-is at w) p)) in
+      (λ e′ w. ap Decided (same-end limit (b ++ v ∷ []) e′ e (rw b-is at w) p))) in
       record { pre = d .pre; last = d .last; parts = d .split; starts = rw (d .runs) (d .starts ∙ a .starts); event = rw (d .runs) says }
 
   -- a stuffed body that decides nothing
-  run : (c b : List ℕ) {st : ℕ} {r : Reader} → At limit st b r → Unfinished limit (b ++ c) → At limit st (b ++ c) (afterAll limit r (stuff c))
+  run : (c b : List ℕ) {st : ℕ} {r : State} → At limit st b r → Unfinished limit (b ++ c) → At limit st (b ++ c) (afterAll limit r (stuff c))
   unfolding afterAll stuff
   run [] b a u = rw (append-nil b) a
   run (v ∷ c) b {st} {r} a u =
@@ -236,33 +235,32 @@ module _ (limit : ℕ) (small : limit ≤ 65279) where
       let next : At limit st (b ++ v ∷ []) (afterAll limit r (stuff (v ∷ []))) = step-on a v (front-unfinished limit (b ++ v ∷ []) c some all) in
       rw (stuff-append (v ∷ []) c, after-append limit (stuff (v ∷ [])) (stuff c) r, ← whole) (run c (b ++ v ∷ []) next all)
 
-  module _ (r : Reader) (i : Inv limit r) where
+  module _ (r : State) (i : Inv limit r) where
     abbrev st : ℕ
-    st = r .scan .taken .0
+    st = r .scan .taken
 
     pub read-header : At limit st [] (afterAll limit r (255 ∷ 255 ∷ []))
     read-header =
-        let g = header-in limit (r .scan .taken .0) (r .scan .start .0) (r .scan .have .0) (r .scan .length) (r .scan .sum) (r .body) (i .room) (r .scan .phase) in
+        let g = header-in limit (r .scan .taken) (r .scan .start) (r .scan .have) (r .scan .length) (r .scan .sum) (r .body) (i .room) (r .scan .phase) in
         record { holds = kept limit small (255 ∷ 255 ∷ []) r i .holds; between = g .0; held-is = g .1; starts = g .2 }
 
     pub read-body : (b : List ℕ) → Unfinished limit b → At limit st b (afterAll limit r (wire b))
     read-body b u = rw (after-append limit (255 ∷ 255 ∷ []) (stuff b) r) (run b [] read-header u)
 
-    pub read-ff : (b : List ℕ) → Unfinished limit b → (afterAll limit r (wire b ++ 255 ∷ []) .scan .phase ≡ Escape) × (afterAll limit r (wire b ++ 255 ∷ []) .scan .start .0 ≡ st)
+    pub read-ff : (b : List ℕ) → Unfinished limit b → (afterAll limit r (wire b ++ 255 ∷ []) .scan .phase ≡ Escape) × (afterAll limit r (wire b ++ 255 ∷ []) .scan .start ≡ st)
     unfolding afterAll
     read-ff b u =
-        let q : Reader = afterAll limit r (wire b) in
+        let q : State = afterAll limit r (wire b) in
         let a : At limit st b q = read-body b u in
-        let w = wait-in limit (q .scan .taken .0) (q .scan .start .0) (q .scan .have .0) (q .scan .length) (q .scan .sum) (q .body) (a .holds .room) (q .scan .phase)
+        let w = wait-in limit (q .scan .taken) (q .scan .start) (q .scan .have) (q .scan .length) (q .scan .sum) (q .body) (a .holds .room) (q .scan .phase)
         (a .between) (a .holds .phase) (rw (a .held-is) (u .some-byte)) in
         rw (after-append limit (wire b) (255 ∷ []) r) (w .0, w .1 ∙ a .starts)
 
     -- SHORT, LONG, FRAME and SUM
-    body-ready : (b : List ℕ) (e : Event) → Ends limit b e → Ready limit r (wire b) st e
+    body-ready : (b : List ℕ) (e : Verdict) → Ends limit b e → Ready limit r (wire b) st e
     body-ready b e p = go b (some-byte e p) p
       where
-        some-byte : (e : Event) → Ends limit b e → 1 ≤ length b
-        some-byte Quiet p = absurd p
+        some-byte : (e : Verdict) → Ends limit b e → 1 ≤ length b
         some-byte Frame p = omega (arith, p .true-length)
         some-byte Short p = omega (arith, p .0)
         some-byte Long p = omega (arith, p .0)
@@ -281,7 +279,7 @@ module _ (limit : ℕ) (small : limit ≤ 65279) where
             rw (s .parts, stuff-append a (v ∷ [])) (ready-behind (wire a) w)
 
     -- CUT and STUFF: the byte x behind an FF that waits
-    ff-ready : (b : List ℕ) (x : ℕ) (e : Event) → Unfinished limit b → ((s : Scan) → s .phase ≡ Escape → advanceOf limit s x .event ≡ e) → Ready limit r (wire b ++ 255 ∷ x ∷ []) st e
+    ff-ready : (b : List ℕ) (x : ℕ) (e : Verdict) → Unfinished limit b → ((s : Scan) → s .phase ≡ Escape → advanceOf limit s x .event ≡ Decided e) → Ready limit r (wire b ++ 255 ∷ x ∷ []) st e
     ff-ready b x e u says =
         let w = read-ff b u in
         record { pre = wire b ++ 255 ∷ []; last = x; parts = sym (append-assoc (wire b) (255 ∷ []) (x ∷ [])); starts = w .1; event = says (afterAll limit r (wire b ++ 255 ∷ []) .scan) (w .0) }
@@ -290,30 +288,30 @@ module _ (limit : ℕ) (small : limit ≤ 65279) where
     abbrev Told : List ℕ → ℕ → Type 0
     Told raw n = (b : List ℕ) × List·Memᴰ (record { number = n; start = st; end = st + length raw; body = b }) (saidAll limit r raw)
 
-    says : {raw : List ℕ} {n : ℕ} (e : Event) → decidesOf e ≡ true → n ≡ codeOf e → Ready limit r raw st e → Told raw n
+    says : {raw : List ℕ} {n : ℕ} (e : Verdict) → n ≡ codeOf e → Ready limit r raw st e → Told raw n
     unfolding saidAll afterAll
-    says {raw} {n} e d code w =
-        let q : Reader = afterAll limit r (w .pre) in
-        let ev : advanceOf limit (q .scan) (w .last) .event ≡ e = w .event in
-        let yes : decidesOf (advanceOf limit (q .scan) (w .last) .event) ≡ true = ap decidesOf ev ∙ d in
+    says {raw} {n} e code w =
+        let q : State = afterAll limit r (w .pre) in
+        let ev : advanceOf limit (q .scan) (w .last) .event ≡ Decided e = w .event in
+        let yes : decidesOf (advanceOf limit (q .scan) (w .last) .event) ≡ true = ap decidesOf ev in
         let all : List ℕ = w .pre ++ w .last ∷ [] in
-        let end : nextOf limit q (w .last) .scan .taken .0 ≡ st + length all
-        = ap (λ (z : Reader). z .scan .taken .0) (sym (after-append limit (w .pre) (w .last ∷ []) r)) ∙ kept limit small all r i .place in
+        let end : nextOf limit q (w .last) .scan .taken ≡ st + length all
+        = ap (λ (z : State). z .scan .taken) (sym (after-append limit (w .pre) (w .last ∷ []) r)) ∙ kept limit small all r i .place in
         let b : List ℕ = lineAt limit q (w .last) .body in
         let here : List·Memᴰ (record { number = n; start = st; end = st + length all; body = b }) (saidAll limit q (w .last ∷ []))
-        = rw yes (List·Memᴰ·head (line-path (code ∙ sym (ap codeOf ev)) (sym (w .starts)) (sym end) refl)) in
+        = rw yes (List·Memᴰ·head (line-path (code ∙ sym (ap eventCode ev)) (sym (w .starts)) (sym end) refl)) in
         (b, (rw (w .parts, said-append limit (w .pre) (w .last ∷ []) r) (Memᴰ·append-right (saidAll limit r (w .pre)) here)))
 
-    cut-at : (s : Scan) → s .phase ≡ Escape → advanceOf limit s 255 .event ≡ Cut
+    cut-at : (s : Scan) → s .phase ≡ Escape → advanceOf limit s 255 .event ≡ Decided Cut
     cut-at s e = rw e
 
-    stuff-at : (x : ℕ) → x ≢ 85 → x ≢ 255 → (s : Scan) → s .phase ≡ Escape → advanceOf limit s x .event ≡ Stuff
+    stuff-at : (x : ℕ) → x ≢ 85 → x ≢ 255 → (s : Scan) → s .phase ≡ Escape → advanceOf limit s x .event ≡ Decided Stuff
     stuff-at x k n s e = rw (ne-eqb x 255 n, e, ne-eqb x 85 k)
 
     pub reads : {raw : List ℕ} {n : ℕ} {body : List ℕ} → Decides limit raw n body → Told raw n
-    reads (is-frame b n h e g) = says Frame refl n (rw e (body-ready b Frame g))
-    reads (is-short b n h e l k) = says Short refl n (rw e (body-ready b Short (l, k)))
-    reads (is-long b n h e l f five k) = says Long refl n (rw e (body-ready b Long (l, f, five, k)))
-    reads (is-stuff b x n h e u k f) = says Stuff refl n (rw e (ff-ready b x Stuff u (stuff-at x k f)))
-    reads (is-cut b n h e u) = says Cut refl n (rw e (ff-ready b 255 Cut u cut-at))
-    reads (is-sum b n h e l k m w) = says Sum refl n (rw e (body-ready b Sum (l, k, m, w)))
+    reads (is-frame b n h e g) = says Frame n (rw e (body-ready b Frame g))
+    reads (is-short b n h e l k) = says Short n (rw e (body-ready b Short (l, k)))
+    reads (is-long b n h e l f five k) = says Long n (rw e (body-ready b Long (l, f, five, k)))
+    reads (is-stuff b x n h e u k f) = says Stuff n (rw e (ff-ready b x Stuff u (stuff-at x k f)))
+    reads (is-cut b n h e u) = says Cut n (rw e (ff-ready b 255 Cut u cut-at))
+    reads (is-sum b n h e l k m w) = says Sum n (rw e (body-ready b Sum (l, k, m, w)))

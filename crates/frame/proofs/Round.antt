@@ -14,11 +14,10 @@ use Rattle.frame.specs.Wire.{stuff, wire, lengthOf, commandOf, numberOf,
 use Rattle.base.specs.Sums.{checksum}
 use Rattle.frame.specs.Frames.{Found, frontBody, framesFrom}
 use Rattle.base.specs.Rows.{row}
-use Rattle.frame.specs.Table.{countOf}
 use Rattle.frame.specs.Calls.{freshOf}
-use Rattle.frame.specs.Logs.{Entry, logOf, readerAfter, offered, stream, handedOut, decided, Account, Accounts}
+use Rattle.frame.specs.Logs.{Entry, takenIn, logOf, stateAfter, offered, stream, handedOut, decided, Account, Accounts}
 use Rattle.frame.specs.Claims.{MadeGood, ReadBack, RoundTrip, ReadAnywhere}
-use Rattle.frame.specs.declared.reader.Reader.{Reader}
+use Rattle.frame.specs.State.{State}
 use Rattle.frame.proofs.Skip.{good-first, take-wire}
 use Rattle.frame.proofs.Moves.{Inv, origin, pending, settles}
 use Rattle.frame.proofs.Logged.{Logged, logged, reached}
@@ -97,7 +96,7 @@ module _ (u b : List ℕ) (e : frontBody u ≡ b) where
 -- ---- the call that hands out the one frame of a log
 
 abbrev foundIn : Entry → Found
-foundIn e = record { start = getD (e .row .values) 1 0; end = getD (e .row .values) 2 0; body = frontBody (e .held) }
+foundIn e = record { start = getD (e .row .values) 1 0; end = getD (e .row .values) 2 0; body = frontBody (e .after .body) }
 
 record Single (log : List Entry) (f : Found) : Type 0 where
   early : List Entry
@@ -121,17 +120,17 @@ single (a ∷ l) f e = go (eqb (a .row .number) 1) refl e (λ k. single l f k)
 -- what a log's parts owe to the counts
 record Split (n : ℕ) (early : List Entry) (last : Entry) (late : List Entry) : Type 0 where
   account : Account (n + length (stream early)) last
-  size : length (stream (early ++ last ∷ late)) ≡ length (stream early) + (countOf (last .row) + length (stream late))
+  size : length (stream (early ++ last ∷ late)) ≡ length (stream early) + (takenIn last + length (stream late))
   member : List·Memᴰ last (early ++ last ∷ late)
 
 split : (early : List Entry) (last : Entry) (late : List Entry) (n : ℕ) → Accounts n (early ++ last ∷ late) → Split n early last late
 unfolding Accounts stream
 split [] last late n a =
-    let taken : length (take (countOf (last .row)) (offered (last .call))) ≡ countOf (last .row) = length-take-le (countOf (last .row)) (offered (last .call)) (a .0 .within) in
-    record { account = rw add-zero (a .0); size = omega (arith, length-append (take (countOf (last .row)) (offered (last .call))) (stream late)); member = List·Memᴰ·head refl }
+    let taken : length (take (takenIn last) (offered (last .call))) ≡ takenIn last = length-take-le (takenIn last) (offered (last .call)) (a .0 .within) in
+    record { account = rw add-zero (a .0); size = omega (arith, length-append (take (takenIn last) (offered (last .call))) (stream late)); member = List·Memᴰ·head refl }
 split (e ∷ early) last late n a =
-    let s : Split (n + countOf (e .row)) early last late = split early last late (n + countOf (e .row)) (a .1) in
-    let c : ℕ = countOf (e .row) in
+    let s : Split (n + takenIn e) early last late = split early last late (n + takenIn e) (a .1) in
+    let c : ℕ = takenIn e in
     let f : List ℕ = take c (offered (e .call)) in
     let taken : length f ≡ c = length-take-le c (offered (e .call)) (a .0 .within) in
     let all : length (f ++ stream early) ≡ c + length (stream early) = length-append f (stream early) ∙ ap (λ (k : ℕ). k + length (stream early)) taken in
@@ -154,27 +153,27 @@ module _ (limit : ℕ) (small : limit ≤ 65279) (command number flags : ℕ) (p
   abbrev whole : ℕ → Found
   whole n = record { start = n; end = n + length (wire body); body = body }
 
-  one-frame : (r : Reader) → Inv limit r → framesFrom limit (origin r) (pending r ++ wire body) ≡ whole (r .scan .taken .0) ∷ []
+  one-frame : (r : State) → Inv limit r → framesFrom limit (origin r) (pending r ++ wire body) ≡ whole (r .scan .taken) ∷ []
   unfolding framesFrom
   one-frame r i =
       let g : Good limit body = good-made command number flags payload limit fits in
-      let n : ℕ = r .scan .taken .0 in
+      let n : ℕ = r .scan .taken in
       settles limit small r i (stuff body) ∙ ap (λ (l : List ℕ). framesFrom limit n l) (sym (append-nil (wire body)))
       ∙ take-wire limit body [] n (omega (arith, g .true-length)) (good-first limit body small g) g
 
-  read-back : (r : Reader) (log : List Entry) (n : ℕ) → r .scan .taken .0 ≡ n → Inv limit r → Logged limit r log → stream log ≡ wire body → ReadBack n command number flags payload log
+  read-back : (r : State) (log : List Entry) (n : ℕ) → r .scan .taken ≡ n → Inv limit r → Logged limit r log → stream log ≡ wire body → ReadBack n command number flags payload log
   read-back r log n at-n i ok all =
       let g : Good limit body = good-made command number flags payload limit fits in
-      let s : Single log (whole (r .scan .taken .0)) = single log (whole (r .scan .taken .0)) (ok .frames ∙ ap (λ (l : List ℕ). framesFrom limit (origin r) (pending r ++ l)) all ∙ one-frame r i) in
+      let s : Single log (whole (r .scan .taken)) = single log (whole (r .scan .taken)) (ok .frames ∙ ap (λ (l : List ℕ). framesFrom limit (origin r) (pending r ++ l)) all ∙ one-frame r i) in
       let e : Entry = s .last in
-      let w : Split (r .scan .taken .0) (s .early) e (s .late) = split (s .early) e (s .late) (r .scan .taken .0) (rw (s .parts) at (ok .accounts)) in
-      let start : getD (e .row .values) 1 0 ≡ r .scan .taken .0 = ap (λ (f : Found). f .start) (s .found) in
-      let end : getD (e .row .values) 2 0 ≡ r .scan .taken .0 + length (wire body) = ap (λ (f : Found). f .end) (s .found) in
-      let held : frontBody (e .held) ≡ body = ap (λ (f : Found). f .body) (s .found) in
+      let w : Split (r .scan .taken) (s .early) e (s .late) = split (s .early) e (s .late) (r .scan .taken) (rw (s .parts) at (ok .accounts)) in
+      let start : getD (e .row .values) 1 0 ≡ r .scan .taken = ap (λ (f : Found). f .start) (s .found) in
+      let end : getD (e .row .values) 2 0 ≡ r .scan .taken + length (wire body) = ap (λ (f : Found). f .end) (s .found) in
+      let held : frontBody (e .after .body) ≡ body = ap (λ (f : Found). f .body) (s .found) in
       let is-decided : decided (e .row .number) ≡ true = rw (s .number) in
-      let size : length (wire body) ≡ length (stream (s .early)) + (countOf (e .row) + length (stream (s .late))) = sym (ap length all) ∙ ap (λ (l : List Entry). length (stream l)) (s .parts) ∙ w .size in
+      let size : length (wire body) ≡ length (stream (s .early)) + (takenIn e + length (stream (s .late))) = sym (ap length all) ∙ ap (λ (l : List Entry). length (stream l)) (s .parts) ∙ w .size in
       let five : lengthOf body ≡ length payload + 5 = length-made command number flags payload in
-      let same : lengthOf (e .held) ≡ lengthOf body = same-length (e .held) body held in
+      let same : lengthOf (e .after .body) ≡ lengthOf body = same-length (e .after .body) body held in
       record {
         early = s .early;
         last = e;
@@ -184,10 +183,10 @@ module _ (limit : ℕ) (small : limit ≤ 65279) (command number flags : ℕ) (p
         some-taken = w .account .some is-decided;
         frame = ok .shapes e (member-of (s .parts) (w .member)) (s .number) ∙ frame-row (start ∙ at-n) (end ∙ ap (λ (k : ℕ). k + length (wire body)) at-n);
         body = held;
-        command-is = at (e .held) body held 2 (omega arith) ∙ command-made command number flags payload;
-        number-is = at (e .held) body held 3 (omega arith) ∙ number-made command number flags payload;
-        flags-are = omega (arith, at (e .held) body held 4 (omega arith), at (e .held) body held 5 (omega arith), flags-made command number flags payload);
-        payload-is = same-payload (e .held) body held (g .true-length) (omega arith) ∙ payload-made command number flags payload;
+        command-is = at (e .after .body) body held 2 (omega arith) ∙ command-made command number flags payload;
+        number-is = at (e .after .body) body held 3 (omega arith) ∙ number-made command number flags payload;
+        flags-are = omega (arith, at (e .after .body) body held 4 (omega arith), at (e .after .body) body held 5 (omega arith), flags-made command number flags payload);
+        payload-is = same-payload (e .after .body) body held (g .true-length) (omega arith) ∙ payload-made command number flags payload;
       }
     where
       frame-row : {c a a′ b b′ : ℕ} → a ≡ a′ → b ≡ b′ → row 1 (c ∷ a ∷ b ∷ []) ≡ row 1 (c ∷ a′ ∷ b′ ∷ [])
@@ -196,7 +195,7 @@ module _ (limit : ℕ) (small : limit ≤ 65279) (command number flags : ℕ) (p
 pub round-trip : RoundTrip
 round-trip limit small command number flags payload fits earlier later all =
     let r = reached limit small earlier (freshOf limit) (fresh-holds limit) (omega arith) in
-    let q : Reader = readerAfter limit (freshOf limit) earlier in
+    let q : State = stateAfter limit (freshOf limit) earlier in
     read-back limit small command number flags payload fits q (logOf limit q later) (length (stream (logOf limit (freshOf limit) earlier))) (omega (arith, r .place)) (r .holds) (logged limit small later q (r .holds) (r .most)) all
 
 pub read-anywhere : ReadAnywhere

@@ -1,10 +1,17 @@
--- An answer can be read back from its line of the table, so no two have one line. Assumes nothing.
+-- An answer can be read back from its line of the table, and a reader from its state, so no two have the same. Assumes nothing.
+use Prim.Native.Nat.{ℕ}
 use mathlib.Core.Path.{_≡_, refl}
 use Rattle.base.specs.Rows.{Row}
 use Rattle.base.proofs.Rows.{told-apart, under, value}
 use Rattle.frame.specs.Table.{rowOf, endRowOf, writtenRowOf}
-use Rattle.frame.specs.Rules.{onWire}
-use Rattle.frame.specs.Claims.{RowsTell}
+use Rattle.frame.specs.State.{Phase, Idle, Half, Header, Open, Escape, State, phaseOf, stateOf}
+use Rattle.frame.specs.Claims.{RowsTell, StatesTold}
+use Rattle.frame.specs.declared.place.WirePlace.{WirePlace}
+use Rattle.frame.specs.declared.scan.Phase.{Phase as CodePhase}
+use Rattle.frame.specs.declared.scan.Phase.the-variants as phase
+use Rattle.frame.specs.declared.scan.Verdict.{Verdict}
+use Rattle.frame.specs.declared.scan.Verdict.the-variants.{Frame, Short, Long, Stuff, Cut, Sum}
+use Rattle.frame.specs.declared.reader.Reader.{Reader}
 use Rattle.frame.specs.declared.reader.Answer.{Answer}
 use Rattle.frame.specs.declared.reader.Answer.the-variants as answer
 use Rattle.frame.specs.declared.reader.Ending.{Ending}
@@ -12,30 +19,31 @@ use Rattle.frame.specs.declared.reader.Ending.the-variants as ending
 use Rattle.frame.specs.declared.writer.Written.{Written}
 use Rattle.frame.specs.declared.writer.Written.the-variants as written
 
+-- a place on the wire
+abbrev wirePlace : ℕ → WirePlace
+wirePlace n = record { 0 = n }
+
+abbrev verdictFrom : Row → Verdict
+verdictFrom r = under r 1 Frame (under r 11 Short (under r 12 Long (under r 13 Stuff (under r 14 Cut Sum))))
+
 abbrev answerFrom : Row → Answer
 answerFrom r =
-    under r 0 (answer.More (value r 0))
-    (under r 1 (answer.Frame (value r 0) (onWire (value r 1)) (onWire (value r 2)))
-    (under r 11 (answer.Short (value r 0) (onWire (value r 1)) (onWire (value r 2)))
-    (under r 12 (answer.Long (value r 0) (onWire (value r 1)) (onWire (value r 2)))
-    (under r 13 (answer.Stuff (value r 0) (onWire (value r 1)) (onWire (value r 2)))
-    (under r 14 (answer.Cut (value r 0) (onWire (value r 1)) (onWire (value r 2)))
-    (under r 15 (answer.Sum (value r 0) (onWire (value r 1)) (onWire (value r 2)))
-    (under r 17 answer.State answer.Used)))))))
+    under r 0 (answer.More (value r 0)) (under r 17 answer.State (under r 18 answer.Used
+    (answer.Decided (value r 0) (wirePlace (value r 1)) (wirePlace (value r 2)) (verdictFrom r))))
 
 answer-back : (a : Answer) → answerFrom (rowOf a) ≡ a
 answer-back (answer.More c) = refl
-answer-back (answer.Frame c s e) = refl
-answer-back (answer.Short c s e) = refl
-answer-back (answer.Long c s e) = refl
-answer-back (answer.Stuff c s e) = refl
-answer-back (answer.Cut c s e) = refl
-answer-back (answer.Sum c s e) = refl
+answer-back (answer.Decided c s e Frame) = refl
+answer-back (answer.Decided c s e Short) = refl
+answer-back (answer.Decided c s e Long) = refl
+answer-back (answer.Decided c s e Stuff) = refl
+answer-back (answer.Decided c s e Cut) = refl
+answer-back (answer.Decided c s e Sum) = refl
 answer-back answer.State = refl
 answer-back answer.Used = refl
 
 abbrev endingFrom : Row → Ending
-endingFrom r = under r 2 (ending.Clean (onWire (value r 0))) (under r 16 (ending.Open (onWire (value r 0)) (onWire (value r 1))) ending.State)
+endingFrom r = under r 2 (ending.Clean (wirePlace (value r 0))) (under r 16 (ending.Open (wirePlace (value r 0)) (wirePlace (value r 1))) ending.State)
 
 ending-back : (a : Ending) → endingFrom (endRowOf a) ≡ a
 ending-back (ending.Clean t) = refl
@@ -57,3 +65,39 @@ rows-tell =
       endings = told-apart endRowOf endingFrom ending-back;
       writings = told-apart writtenRowOf writtenFrom written-back;
     }
+
+-- ---- a reader
+
+abbrev phaseFrom : Phase → CodePhase
+phaseFrom Idle = phase.Idle
+phaseFrom Half = phase.Half
+phaseFrom Header = phase.Header
+phaseFrom Open = phase.Open
+phaseFrom Escape = phase.Escape
+
+phase-back : (p : CodePhase) → phaseFrom (phaseOf p) ≡ p
+phase-back phase.Idle = refl
+phase-back phase.Half = refl
+phase-back phase.Header = refl
+phase-back phase.Open = refl
+phase-back phase.Escape = refl
+
+abbrev readerFrom : State → Reader
+readerFrom s =
+    record {
+      scan = record {
+        phase = phaseFrom (s .scan .phase);
+        taken = wirePlace (s .scan .taken);
+        start = wirePlace (s .scan .start);
+        have = record { 0 = s .scan .have };
+        length = s .scan .length;
+        sum = s .scan .sum;
+      };
+      body = s .body;
+    }
+
+reader-back : (r : Reader) → readerFrom (stateOf r) ≡ r
+reader-back r = rw (phase-back (r .scan .phase))
+
+pub states-told : StatesTold
+states-told = told-apart stateOf readerFrom reader-back

@@ -5,9 +5,8 @@ use mathlib.Core.List.{List, [], _∷_, _++_, append-assoc, append-nil}
 use native.Mathlib.Omega.{arith}
 use lib.ListN.{length, take, drop, take-append-drop, length-append}
 use lib.Seq.{take-append-le}
-use Rattle.frame.specs.Table.{countOf}
 use Rattle.frame.specs.Calls.{freshOf}
-use Rattle.frame.specs.Logs.{Entry, logOf, offered, stream, Accounts, OffersFront}
+use Rattle.frame.specs.Logs.{Entry, takenIn, logOf, offered, stream, Accounts, OffersFront}
 use Rattle.frame.specs.Claims.{Front, SentAgain}
 use Rattle.base.proofs.Lists.{no-bytes}
 use Rattle.frame.proofs.Demand3.{from-fresh}
@@ -16,7 +15,7 @@ front : (n : ℕ) (log : List Entry) (sent : List ℕ) → Accounts n log → Of
 unfolding OffersFront Accounts stream
 front n [] sent a f = (sent, refl)
 front n (e ∷ es) sent a f =
-    let c : ℕ = countOf (e .row) in
+    let c : ℕ = takenIn e in
     let ih = front (n + c) es (drop c sent) (a .1) (f .1) in
     let t : take c sent ≡ take c (offered (e .call)) =
     ap (λ (l : List ℕ). take c l) (f .0 .1) ∙ take-append-le c (offered (e .call)) (f .0 .0) (a .0 .within) in (

@@ -11,12 +11,12 @@ use lib.Seq.{drop-cons, drop-length}
 use lib.Dec.{ltb, leb, eqb}
 use Rattle.base.specs.Rows.{row}
 use Rattle.frame.specs.Rules.{Ready, inRangeOf, completedOf, bodyByteOf, onFFIn, onOtherIn, advanceOf, decidesOf, putOf}
-use Rattle.frame.specs.Calls.{reply, eventRow, runOf}
-use Rattle.frame.specs.declared.scan.Phase.{Phase}
-use Rattle.frame.specs.declared.scan.Phase.the-variants.{Idle, Half, Header, Open, Escape}
-use Rattle.frame.specs.declared.scan.Scan.{Scan}
-use Rattle.frame.specs.declared.scan.Step.{Step}
-use Rattle.frame.specs.declared.reader.Reader.{Reader}
+use Rattle.frame.specs.Table.{eventRow}
+use Rattle.frame.specs.Calls.{reply, runOf}
+use Rattle.frame.specs.State.{Phase, Idle, Half, Header, Open, Escape}
+use Rattle.frame.specs.State.{Scan}
+use Rattle.frame.specs.State.{Step}
+use Rattle.frame.specs.State.{State}
 use Rattle.base.proofs.Tests.{by-test, both}
 
 -- ---- one byte
@@ -31,12 +31,12 @@ module _ {limit : ℕ} {s : Scan} (n : ℕ) (h : Ready limit s (n + 1)) where
   -- a fact that `omega` reads is named
   kept-body : (v : ℕ) → Kept (bodyByteOf limit s v)
   kept-body v =
-      by-test Kept (eqb (s .have .0) 0) (λ none. omega (arith, eqb-true))
-      λ _. by-test Kept (eqb (s .have .0) 1)
+      by-test Kept (eqb (s .have) 0) (λ none. omega (arith, eqb-true))
+      λ _. by-test Kept (eqb (s .have) 1)
       (λ one. by-test Kept (ltb (s .length * 256 + v) 5) (λ _. omega arith)
       λ least. by-test Kept (ltb limit (s .length * 256 + v)) (λ _. omega arith) λ most. omega (arith, eqb-true, ltb-false))
-      λ _. by-test Kept (ltb (s .length) (s .have .0)) (λ _. kept-completed v)
-      λ _. by-test Kept (ltb limit (s .have .0)) (λ _. kept-completed v) λ within. omega (arith, ltb-false)
+      λ _. by-test Kept (ltb (s .length) (s .have)) (λ _. kept-completed v)
+      λ _. by-test Kept (ltb limit (s .have)) (λ _. kept-completed v) λ within. omega (arith, ltb-false)
 
   kept-ff : (p : Phase) → Kept (onFFIn p s)
   kept-ff Idle = omega arith
@@ -59,7 +59,7 @@ module _ {limit : ℕ} {s : Scan} (n : ℕ) (h : Ready limit s (n + 1)) where
 -- ---- a run of bytes
 
 -- a call that began with the reader r₀ has taken i bytes, which decided nothing, and has the reader r and room for the rest
-pub record At (limit : ℕ) (bytes : List ℕ) (r₀ : Reader) (i : ℕ) (r : Reader) : Type 0 where
+pub record At (limit : ℕ) (bytes : List ℕ) (r₀ : State) (i : ℕ) (r : State) : Type 0 where
   pub within : i ≤ length bytes
   pub room : Ready limit (r .scan) (length bytes - i)
   pub same : runOf limit bytes 0 r₀ ≡ runOf limit (drop i bytes) i r
@@ -67,14 +67,14 @@ pub record At (limit : ℕ) (bytes : List ℕ) (r₀ : Reader) (i : ℕ) (r : Re
 next-byte : (bytes : List ℕ) (i : ℕ) → i < length bytes → drop i bytes ≡ getD bytes i 0 ∷ drop (i + 1) bytes
 next-byte bytes i h = rw (add-one, drop-cons bytes i 0)
 
-module _ {limit : ℕ} {bytes : List ℕ} {r₀ r : Reader} {i : ℕ} (at : At limit bytes r₀ i r) where
+module _ {limit : ℕ} {bytes : List ℕ} {r₀ r : State} {i : ℕ} (at : At limit bytes r₀ i r) where
   -- all bytes are taken: the answer is MORE
   pub run-end : i ≡ length bytes → runOf limit bytes 0 r₀ ≡ reply (row 0 (i ∷ [])) r
   unfolding runOf
   run-end e = at .same ∙ rw (e, drop-length)
 
-  module _ (h : i < length bytes) {step : Step} {body : List ℕ} (e : step ≡ advanceOf limit (r .scan) (getD bytes i 0)) (f : body ≡ putOf (step .put) (r .body) (r .scan .have .0) (step .byte)) where
-    abbrev after : Reader
+  module _ (h : i < length bytes) {step : Step} {body : List ℕ} (e : step ≡ advanceOf limit (r .scan) (getD bytes i 0)) (f : body ≡ putOf (step .put) (r .body) (r .scan .have) (step .byte)) where
+    abbrev after : State
     after = record { scan = step .scan; body = body }
 
     -- the next byte decides nothing: the run goes on behind it
@@ -85,15 +85,15 @@ module _ {limit : ℕ} {bytes : List ℕ} {r₀ r : Reader} {i : ℕ} (at : At l
         record { within = omega arith; room = rw e (kept _ room (getD bytes i 0)); same = at .same ∙ rw (next-byte bytes i h) (simp (← e, q, f)) }
 
     -- the next byte decides: the run stops behind it
-    pub run-stop : decidesOf (step .event) ≡ true → runOf limit bytes 0 r₀ ≡ reply (eventRow (step .event) (i + 1) (r .scan .start .0) (step .scan .taken .0)) after
+    pub run-stop : decidesOf (step .event) ≡ true → runOf limit bytes 0 r₀ ≡ reply (eventRow (step .event) (i + 1) (r .scan .start) (step .scan .taken)) after
     unfolding runOf
     run-stop q = at .same ∙ rw (next-byte bytes i h) (simp (← e, q, f))
 
 -- ---- a state in range
 
 -- a state in range, with room for what may still be taken
-pub in-range : (limit : ℕ) (s : Scan) → limit ≤ 65279 → inRangeOf limit s ≡ true → Ready limit s (2 ^ 62 - s .taken .0)
+pub in-range : (limit : ℕ) (s : Scan) → limit ≤ 65279 → inRangeOf limit s ≡ true → Ready limit s (2 ^ 62 - s .taken)
 in-range limit s l e =
-    let ranges = both (leb (s .taken .0) (2 ^ 62)) e in
-    let taken : s .taken .0 ≤ 2 ^ 62 = leb-true _ _ (ranges .0) in
+    let ranges = both (leb (s .taken) (2 ^ 62)) e in
+    let taken : s .taken ≤ 2 ^ 62 = leb-true _ _ (ranges .0) in
     record { room = omega arith; inside = leb-true _ _ (ranges .1); small = l }

@@ -7,85 +7,70 @@ use lib.Dec.{ltb, leb}
 use Rattle.frame.specs.Wire.{wire, bodyOf}
 use Rattle.base.specs.Rows.{Row, row}
 use Rattle.base.specs.Outcomes.{Write, outcome, placed}
-use Rattle.frame.specs.Table.{rowOf, endRowOf}
-use Rattle.frame.specs.Rules.{onWire, inRangeOf, closedOf, advanceOf, decidesOf, putOf}
-use Rattle.frame.specs.declared.scan.Phase.{Phase}
-use Rattle.frame.specs.declared.scan.Phase.the-variants.{Idle, Half, Header, Open, Escape}
-use Rattle.frame.specs.declared.scan.Event.{Event}
-use Rattle.frame.specs.declared.scan.Event.the-variants.{Quiet, Frame, Short, Long, Stuff, Cut, Sum}
-use Rattle.frame.specs.declared.scan.Scan.{Scan}
-use Rattle.frame.specs.declared.reader.Reader.{Reader}
+use Rattle.frame.specs.State.{Phase, Idle, Half, Header, Open, Escape, Scan, State, stateOf}
+use Rattle.frame.specs.Table.{rowOf, endRowOf, eventRow}
+use Rattle.frame.specs.Rules.{inRangeOf, closedOf, advanceOf, decidesOf, putOf}
 use Rattle.frame.specs.declared.reader.Fed.{Fed}
 use Rattle.frame.specs.declared.reader.Finished.{Finished}
 
--- a call's row, and the reader that it returns
+-- a call's row, and the state that it leaves
 pub record Reply : Type 0 where
   pub row : Row
-  pub reader : Reader
+  pub state : State
 
 -- a reply of the two
-abbrev pub reply : Row → Reader → Reply
-reply a r = record { row = a; reader = r }
+abbrev pub reply : Row → State → Reply
+reply a r = record { row = a; state = r }
 
 -- the same of what the code returns
 abbrev pub replyOf : Fed → Reply
-replyOf f = reply (rowOf (f .answer)) (f .reader)
+replyOf f = reply (rowOf (f .answer)) (stateOf (f .reader))
 
 -- the same of an end asked
 abbrev pub endingOf : Finished → Reply
-endingOf f = reply (endRowOf (f .answer)) (f .reader)
+endingOf f = reply (endRowOf (f .answer)) (stateOf (f .reader))
 
 -- "The reader keeps the body in its own 1,026 bytes, all zero at the start"
 unfoldable pub zeros : ℕ → List ℕ
 zeros n = replicate n 0
 
 -- a fresh reader: nothing taken, no frame open
-abbrev pub freshOf : ℕ → Reader
-freshOf limit = record { scan = closedOf (onWire 0); body = zeros (limit + 2) }
+abbrev pub freshOf : ℕ → State
+freshOf limit = record { scan = closedOf 0; body = zeros (limit + 2) }
 
--- the row of what a byte decides: "Start is the place of the header's first byte; end is the place behind the deciding byte."
-abbrev pub eventRow : Event → ℕ → ℕ → ℕ → Row
-eventRow Quiet count start end = row 0 (count ∷ [])
-eventRow Frame count start end = row 1 (count ∷ start ∷ end ∷ [])
-eventRow Short count start end = row 11 (count ∷ start ∷ end ∷ [])
-eventRow Long count start end = row 12 (count ∷ start ∷ end ∷ [])
-eventRow Stuff count start end = row 13 (count ∷ start ∷ end ∷ [])
-eventRow Cut count start end = row 14 (count ∷ start ∷ end ∷ [])
-eventRow Sum count start end = row 15 (count ∷ start ∷ end ∷ [])
-
--- the reader after one byte
-abbrev pub nextOf : ℕ → Reader → ℕ → Reader
+-- the state after one byte
+abbrev pub nextOf : ℕ → State → ℕ → State
 nextOf limit r x =
     record {
       scan = advanceOf limit (r .scan) x .scan;
-      body = putOf (advanceOf limit (r .scan) x .put) (r .body) (r .scan .have .0) (advanceOf limit (r .scan) x .byte);
+      body = putOf (advanceOf limit (r .scan) x .put) (r .body) (r .scan .have) (advanceOf limit (r .scan) x .byte);
     }
 
 -- bytes from the n-th of a call on: it "stops behind the byte that decides something, and says how many bytes it took"
-unfoldable pub runOf : ℕ → List ℕ → ℕ → Reader → Reply
+unfoldable pub runOf : ℕ → List ℕ → ℕ → State → Reply
 runOf limit [] n r = reply (row 0 (n ∷ [])) r
 runOf limit (x ∷ xs) n r =
     cond (decidesOf (advanceOf limit (r .scan) x .event))
-    (reply (eventRow (advanceOf limit (r .scan) x .event) (n + 1) (r .scan .start .0) (nextOf limit r x .scan .taken .0)) (nextOf limit r x))
+    (reply (eventRow (advanceOf limit (r .scan) x .event) (n + 1) (r .scan .start) (nextOf limit r x .scan .taken)) (nextOf limit r x))
     (runOf limit xs (n + 1) (nextOf limit r x))
 
 -- bytes given. "Order: 17, then 18"
-abbrev pub feedOf : ℕ → Reader → List ℕ → Reply
+abbrev pub feedOf : ℕ → State → List ℕ → Reply
 feedOf limit r bytes =
     cond (inRangeOf limit (r .scan))
-    (cond (leb (r .scan .taken .0 + length bytes) (2 ^ 62)) (runOf limit bytes 0 r) (reply (row 18 (0 ∷ [])) r))
+    (cond (leb (r .scan .taken + length bytes) (2 ^ 62)) (runOf limit bytes 0 r) (reply (row 18 (0 ∷ [])) r))
     (reply (row 17 (0 ∷ [])) r)
 
 -- a frame is open from its header on
 abbrev pub endingRow : Phase → Scan → Row
-endingRow Idle s = row 2 (s .taken .0 ∷ [])
-endingRow Half s = row 2 (s .taken .0 ∷ [])
-endingRow Header s = row 16 (s .taken .0 ∷ s .start .0 ∷ [])
-endingRow Open s = row 16 (s .taken .0 ∷ s .start .0 ∷ [])
-endingRow Escape s = row 16 (s .taken .0 ∷ s .start .0 ∷ [])
+endingRow Idle s = row 2 (s .taken ∷ [])
+endingRow Half s = row 2 (s .taken ∷ [])
+endingRow Header s = row 16 (s .taken ∷ s .start ∷ [])
+endingRow Open s = row 16 (s .taken ∷ s .start ∷ [])
+endingRow Escape s = row 16 (s .taken ∷ s .start ∷ [])
 
 -- end asked. "Order: 17, then .. 16"
-abbrev pub finishOf : ℕ → Reader → Reply
+abbrev pub finishOf : ℕ → State → Reply
 finishOf limit r = cond (inRangeOf limit (r .scan)) (reply (endingRow (r .scan .phase) (r .scan)) r) (reply (row 17 (0 ∷ [])) r)
 
 -- "21, 22"; "the wire form, exactly, at the front of the output; the rest of the output stays"

@@ -8,11 +8,12 @@ use lib.ListN.{length}
 use Rattle.frame.specs.Wire.{stuff, unstuff, wire, commandOf, numberOf, flagsOf, payloadOf, bodyOf, Good, widest}
 use Rattle.frame.specs.Frames.{Found, Lists, framesOf, frontBody}
 use Rattle.base.specs.Rows.{row}
+use Rattle.frame.specs.State.{State, stateOf}
 use Rattle.frame.specs.Table.{rowOf, endRowOf, writtenRowOf, countOf}
 use Rattle.frame.specs.Rules.{inRangeOf}
 use Rattle.frame.specs.Calls.{reply, freshOf, feedOf, finishOf}
 use Rattle.frame.specs.Lines.{Line, Answers, linesOf, IsOpen}
-use Rattle.frame.specs.Logs.{Call, Entry, logOf, readerAfter, stream, handedOut, Accounts, OffersFront, send, joined}
+use Rattle.frame.specs.Logs.{Call, Entry, logOf, stateAfter, takenIn, stream, handedOut, Accounts, OffersFront, send, joined}
 use Rattle.frame.specs.declared.reader.Answer.{Answer}
 use Rattle.frame.specs.declared.reader.Ending.{Ending}
 use Rattle.frame.specs.declared.reader.Reader.{Reader}
@@ -71,7 +72,7 @@ NoHeaderLost =
     ⊎ IsOpen limit (stream (logOf limit (freshOf limit) calls)) (length before)
 
 -- ---- end-told: an end asked after any calls is OPEN with the start of the frame that is open in the stream, or CLEAN where none is
-pub record EndTold (limit : ℕ) (taken : List ℕ) (r : Reader) : Type 0 where
+pub record EndTold (limit : ℕ) (taken : List ℕ) (r : State) : Type 0 where
   pub left-open : (start : ℕ) → IsOpen limit taken start → finishOf limit r ≡ reply (row 16 (length taken ∷ start ∷ [])) r
   pub left-clean : ((start : ℕ) → IsOpen limit taken start → ⊥) → finishOf limit r ≡ reply (row 2 (length taken ∷ [])) r
 
@@ -79,7 +80,7 @@ pub record EndTold (limit : ℕ) (taken : List ℕ) (r : Reader) : Type 0 where
 abbrev pub EndsTold : Type 0
 EndsTold =
     (limit : ℕ) → limit ≤ widest → (calls : List Call)
-    → EndTold limit (stream (logOf limit (freshOf limit) calls)) (readerAfter limit (freshOf limit) calls)
+    → EndTold limit (stream (logOf limit (freshOf limit) calls)) (stateAfter limit (freshOf limit) calls)
 
 -- ---- one-list: `Lists` and the equation with `framesOf` say the same, since a stream has one such list
 abbrev pub OneList : Type 0
@@ -87,23 +88,27 @@ OneList = (limit : ℕ) → limit ≤ widest → (t : List ℕ) → Lists limit 
 
 -- ---- within: "never more than were offered", of any reader
 abbrev pub Within : Type 0
-Within = (limit : ℕ) (r : Reader) (bytes : List ℕ) → countOf (feedOf limit r bytes .row) ≤ length bytes
+Within = (limit : ℕ) (r : State) (bytes : List ℕ) → countOf (feedOf limit r bytes .row) ≤ length bytes
 
 -- ---- progress: where neither STATE nor USED is due, a call that is offered a byte takes one
 abbrev pub Progress : Type 0
 Progress =
-    (limit : ℕ) (r : Reader) (bytes : List ℕ) → inRangeOf limit (r .scan) ≡ true → r .scan .taken .0 + length bytes ≤ 2 ^ 62 → 1 ≤ length bytes
+    (limit : ℕ) (r : State) (bytes : List ℕ) → inRangeOf limit (r .scan) ≡ true → r .scan .taken + length bytes ≤ 2 ^ 62 → 1 ≤ length bytes
     → 1 ≤ countOf (feedOf limit r bytes .row)
 
 -- ---- empty-call: "An empty call gives MORE and changes nothing."
 abbrev pub EmptyCall : Type 0
-EmptyCall = (limit : ℕ) (r : Reader) → inRangeOf limit (r .scan) ≡ true → feedOf limit r [] ≡ reply (row 0 (0 ∷ [])) r
+EmptyCall = (limit : ℕ) (r : State) → inRangeOf limit (r .scan) ≡ true → feedOf limit r [] ≡ reply (row 0 (0 ∷ [])) r
 
 -- ---- rows-tell: two answers of one enum never have the same number and values, so an equation of rows fixes the answer
 pub record RowsTell : Type 0 where
   pub answers : (a b : Answer) → rowOf a ≡ rowOf b → a ≡ b
   pub endings : (a b : Ending) → endRowOf a ≡ endRowOf b → a ≡ b
   pub writings : (a b : Written) → writtenRowOf a ≡ writtenRowOf b → a ≡ b
+
+-- ---- states-told: two readers never have the same state, so an equation of states fixes every field and byte of the reader
+abbrev pub StatesTold : Type 0
+StatesTold = (a b : Reader) → stateOf a ≡ stateOf b → a ≡ b
 
 -- ---- never-state: "no state reached from a fresh one gets it"
 abbrev pub NeverState : Type 0
@@ -127,7 +132,7 @@ abbrev pub SentWhole : Type 0
 SentWhole =
     (limit : ℕ) → limit ≤ widest → (earlier : List Call) (pieces : List (List ℕ))
     → length (stream (logOf limit (freshOf limit) earlier)) + length (joined pieces) ≤ 2 ^ 62
-    → stream (logOf limit (readerAfter limit (freshOf limit) earlier) (send limit (readerAfter limit (freshOf limit) earlier) pieces)) ≡ joined pieces
+    → stream (logOf limit (stateAfter limit (freshOf limit) earlier) (send limit (stateAfter limit (freshOf limit) earlier) pieces)) ≡ joined pieces
 
 -- ---- round-trip: of the calls that took a wire form, in whatever pieces, the last that took a byte is answered FRAME; its values are read back
 pub record ReadBack (start command number flags : ℕ) (payload : List ℕ) (log : List Entry) : Type 0 where
@@ -136,20 +141,20 @@ pub record ReadBack (start command number flags : ℕ) (payload : List ℕ) (log
   pub late : List Entry
   pub parts : log ≡ early ++ last ∷ late
   pub nothing-later : stream late ≡ []
-  pub some-taken : 1 ≤ countOf (last .row)
-  pub frame : last .row ≡ row 1 (countOf (last .row) ∷ start ∷ (start + length (wire (bodyOf command number flags payload))) ∷ [])
-  pub body : frontBody (last .held) ≡ bodyOf command number flags payload
-  pub command-is : commandOf (last .held) ≡ command
-  pub number-is : numberOf (last .held) ≡ number
-  pub flags-are : flagsOf (last .held) ≡ flags
-  pub payload-is : payloadOf (last .held) ≡ payload
+  pub some-taken : 1 ≤ takenIn last
+  pub frame : last .row ≡ row 1 (takenIn last ∷ start ∷ (start + length (wire (bodyOf command number flags payload))) ∷ [])
+  pub body : frontBody (last .after .body) ≡ bodyOf command number flags payload
+  pub command-is : commandOf (last .after .body) ≡ command
+  pub number-is : numberOf (last .after .body) ≡ number
+  pub flags-are : flagsOf (last .after .body) ≡ flags
+  pub payload-is : payloadOf (last .after .body) ≡ payload
 
 -- after every list of calls of a fresh reader, of every list of calls that takes the wire form
 abbrev pub RoundTrip : Type 0
 RoundTrip =
     (limit : ℕ) → limit ≤ widest → (command number flags : ℕ) (payload : List ℕ) → length payload + 5 ≤ limit → (earlier later : List Call)
-    → stream (logOf limit (readerAfter limit (freshOf limit) earlier) later) ≡ wire (bodyOf command number flags payload)
-    → ReadBack (length (stream (logOf limit (freshOf limit) earlier))) command number flags payload (logOf limit (readerAfter limit (freshOf limit) earlier) later)
+    → stream (logOf limit (stateAfter limit (freshOf limit) earlier) later) ≡ wire (bodyOf command number flags payload)
+    → ReadBack (length (stream (logOf limit (freshOf limit) earlier))) command number flags payload (logOf limit (stateAfter limit (freshOf limit) earlier) later)
 
 -- ---- read-anywhere: a wire form anywhere in the bytes taken, with others before and behind it in the same calls, is handed out as a frame
 abbrev pub ReadAnywhere : Type 0

@@ -1,6 +1,7 @@
 -- What a reader of this crate has to believe: the wire and its frames, then the reader and the writer, then the claims.
 pub mod Wire
 pub mod Frames
+pub mod State
 pub mod Table
 pub mod Rules
 pub mod Calls

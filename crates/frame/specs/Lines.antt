@@ -70,7 +70,7 @@ heldUnder number held = cond (eqb number 1 || eqb number 15) (frontBody held) []
 -- a call's answer as a line
 abbrev pub lineOf : Entry → Line
 lineOf e =
-    record { number = e .row .number; start = getD (e .row .values) 1 0; end = getD (e .row .values) 2 0; body = heldUnder (e .row .number) (e .held) }
+    record { number = e .row .number; start = getD (e .row .values) 1 0; end = getD (e .row .values) 2 0; body = heldUnder (e .row .number) (e .after .body) }
 
 -- the answers 1 and 11 to 15 of a list of calls, in the order of the calls
 abbrev pub lined : Entry → List Line → List Line

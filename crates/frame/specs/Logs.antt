@@ -9,8 +9,8 @@ use lib.Dec.{eqb, leb}
 use Rattle.frame.specs.Frames.{Found, frontBody}
 use Rattle.base.specs.Rows.{Row}
 use Rattle.frame.specs.Table.{countOf}
+use Rattle.frame.specs.State.{State}
 use Rattle.frame.specs.Calls.{Reply, feedOf, finishOf}
-use Rattle.frame.specs.declared.reader.Reader.{Reader}
 
 -- "both calls, bytes given and end asked"
 pub data Call : Type 0 where
@@ -18,42 +18,55 @@ pub data Call : Type 0 where
   ask : Call  -- end asked
 
 -- the very definitions that the contracts of the two calls state
-abbrev pub callOf : ℕ → Reader → Call → Reply
+abbrev pub callOf : ℕ → State → Call → Reply
 callOf limit r (give bytes) = feedOf limit r bytes
 callOf limit r ask = finishOf limit r
 
--- a call, its row, and all the bytes that the reader keeps for a body when the call returns
+-- a call, its row, and the reader's whole state before and after it
 pub record Entry : Type 0 where
   pub call : Call
   pub row : Row
-  pub held : List ℕ
+  pub before : State
+  pub after : State
+
+-- the entry of a call of a reader in some state
+abbrev pub entryOf : State → Call → Reply → Entry
+entryOf r c y = record { call = c; row = y .row; before = r; after = y .state }
 
 -- all calls, refused ones included, each of the reader that the one before returned
-unfoldable pub logOf : ℕ → Reader → List Call → List Entry
+unfoldable pub logOf : ℕ → State → List Call → List Entry
 logOf limit r [] = []
-logOf limit r (c ∷ cs) =
-    record { call = c; row = callOf limit r c .row; held = callOf limit r c .reader .body } ∷ logOf limit (callOf limit r c .reader) cs
+logOf limit r (c ∷ cs) = entryOf r c (callOf limit r c) ∷ logOf limit (callOf limit r c .state) cs
 
 -- the reader that the last of them returned
-unfoldable pub readerAfter : ℕ → Reader → List Call → Reader
-readerAfter limit r [] = r
-readerAfter limit r (c ∷ cs) = readerAfter limit (callOf limit r c .reader) cs
+unfoldable pub stateAfter : ℕ → State → List Call → State
+stateAfter limit r [] = r
+stateAfter limit r (c ∷ cs) = stateAfter limit (callOf limit r c .state) cs
 
 -- the bytes that a call is offered
 abbrev pub offered : Call → List ℕ
 offered (give bytes) = bytes
 offered ask = []
 
+-- the bytes that a call took, by the call and its row: bytes given as many as its answer counts, an end asked none
+abbrev pub takenBy : Call → Row → ℕ
+takenBy (give bytes) r = countOf r
+takenBy ask r = 0
+
+-- the same of an entry
+abbrev pub takenIn : Entry → ℕ
+takenIn e = takenBy (e .call) (e .row)
+
 -- "A call takes the first of the bytes offered to it, as many as its answer counts .. The stream is the bytes taken, in the order of the calls"
 unfoldable pub stream : List Entry → List ℕ
 stream [] = []
-stream (e ∷ es) = take (countOf (e .row)) (offered (e .call)) ++ stream es
+stream (e ∷ es) = take (takenIn e) (offered (e .call)) ++ stream es
 
 -- a FRAME answer's start and end, "and as body the first L + 2 bytes that the reader holds when that call returns"
 abbrev pub handed : Entry → List Found → List Found
 handed e l =
     cond (eqb (e .row .number) 1)
-    (record { start = getD (e .row .values) 1 0; end = getD (e .row .values) 2 0; body = frontBody (e .held) } ∷ l)
+    (record { start = getD (e .row .values) 1 0; end = getD (e .row .values) 2 0; body = frontBody (e .after .body) } ∷ l)
     l
 
 -- the FRAME answers, in the order of the calls
@@ -67,34 +80,36 @@ decided number = eqb number 1 || (leb 11 number && leb number 15)
 
 -- what a call owes to the counts, of which those before it add up to n
 pub record Account (n : ℕ) (e : Entry) : Type 0 where
-  pub within : countOf (e .row) ≤ length (offered (e .call))  -- "never more than were offered"
-  pub all : e .row .number ≡ 0 → countOf (e .row) ≡ length (offered (e .call))  -- MORE: "bytes all taken"
-  pub some : decided (e .row .number) ≡ true → 1 ≤ countOf (e .row)  -- "the deciding byte" is taken
-  pub ends : decided (e .row .number) ≡ true → getD (e .row .values) 2 0 ≡ n + countOf (e .row)  -- "add up to the frame's end"
+  pub within : takenIn e ≤ length (offered (e .call))  -- "never more than were offered"
+  pub all : e .row .number ≡ 0 → takenIn e ≡ length (offered (e .call))  -- MORE: "bytes all taken"
+  pub some : decided (e .row .number) ≡ true → 1 ≤ takenIn e  -- "the deciding byte" is taken
+  pub ends : decided (e .row .number) ≡ true → getD (e .row .values) 2 0 ≡ n + takenIn e  -- "add up to the frame's end"
   pub in-range : e .row .number ≢ 17  -- STATE: "no state reached from a fresh one gets it"
   pub used : e .row .number ≡ 18 → 2 ^ 62 < n + length (offered (e .call))  -- USED, "exactly when"
   pub unused : e .row .number ≢ 18 → n + length (offered (e .call)) ≤ 2 ^ 62
   pub asked : e .call ≡ ask → getD (e .row .values) 0 0 ≡ n  -- "is the sum of all counts before it"
+  pub used-kept : e .row .number ≡ 18 → e .after ≡ e .before  -- USED and an end asked "leave the reader unchanged"
+  pub asked-kept : e .call ≡ ask → e .after ≡ e .before
 
 -- of each call of a list, of which the counts before it add up to n
 unfoldable pub Accounts : ℕ → List Entry → Type 0
 Accounts n [] = Unit {0}
-Accounts n (e ∷ es) = Account n e × Accounts (n + countOf (e .row)) es
+Accounts n (e ∷ es) = Account n e × Accounts (n + takenIn e) es
 
 -- "Untaken bytes .. where they always come again first": each call is offered a front of what is left to send
 unfoldable pub OffersFront : List ℕ → List Entry → Type 0
 OffersFront left [] = Unit {0}
-OffersFront left (e ∷ es) = ((r : List ℕ) × (left ≡ offered (e .call) ++ r)) × OffersFront (drop (countOf (e .row)) left) es
+OffersFront left (e ∷ es) = ((r : List ℕ) × (left ≡ offered (e .call) ++ r)) × OffersFront (drop (takenIn e) left) es
 
 -- a sender that offers bytes and then what is left of them, in n calls, of which the later may be empty
-unfoldable pub offer : ℕ → ℕ → Reader → List ℕ → List Call
+unfoldable pub offer : ℕ → ℕ → State → List ℕ → List Call
 offer limit zero r bytes = []
-offer limit (suc n) r bytes = give bytes ∷ offer limit n (feedOf limit r bytes .reader) (drop (countOf (feedOf limit r bytes .row)) bytes)
+offer limit (suc n) r bytes = give bytes ∷ offer limit n (feedOf limit r bytes .state) (drop (countOf (feedOf limit r bytes .row)) bytes)
 
 -- the same for bytes in pieces, one piece after the other
-unfoldable pub send : ℕ → Reader → List (List ℕ) → List Call
+unfoldable pub send : ℕ → State → List (List ℕ) → List Call
 send limit r [] = []
-send limit r (p ∷ ps) = offer limit (length p) r p ++ send limit (readerAfter limit r (offer limit (length p) r p)) ps
+send limit r (p ∷ ps) = offer limit (length p) r p ++ send limit (stateAfter limit r (offer limit (length p) r p)) ps
 
 -- the pieces, one behind the other
 unfoldable pub joined : List (List ℕ) → List ℕ

@@ -1,63 +1,42 @@
--- Paper 01, "The reader": its states and the byte rules.
+-- Paper 01, "The reader": the byte rules.
 use Prim.Native.Nat.{ℕ, _+_, _-_, _*_, _%_, _^_, _≤_}
 use mathlib.Core.Bool.{Bool, cond, _&&_, true, false}
 use mathlib.Core.List.{List}
 use lib.ListN.{set}
 use Rattle.frame.specs.Wire.{widest}
 use lib.Dec.{ltb, leb, eqb}
-use Rattle.frame.specs.declared.place.WirePlace.{WirePlace}
-use Rattle.frame.specs.declared.place.BodyPlace.{BodyPlace}
-use Rattle.frame.specs.declared.scan.Phase.{Phase}
-use Rattle.frame.specs.declared.scan.Phase.the-variants.{Idle, Half, Header, Open, Escape}
+use Rattle.frame.specs.declared.scan.Verdict.{Verdict}
+use Rattle.frame.specs.declared.scan.Verdict.the-variants.{Frame, Short, Long, Stuff, Cut, Sum}
 use Rattle.frame.specs.declared.scan.Event.{Event}
-use Rattle.frame.specs.declared.scan.Event.the-variants.{Quiet, Frame, Short, Long, Stuff, Cut, Sum}
-use Rattle.frame.specs.declared.scan.Scan.{Scan}
-use Rattle.frame.specs.declared.scan.Step.{Step}
-
--- ---- places: "places on the wire and places in the body are counted apart"
-
--- the n-th raw place
-abbrev pub onWire : ℕ → WirePlace
-onWire n = record { 0 = n }
-
--- the n-th body place
-abbrev pub inBody : ℕ → BodyPlace
-inBody n = record { 0 = n }
-
--- the raw place before, or 0
-abbrev pub beforeOf : WirePlace → WirePlace
-beforeOf p = onWire (p .0 - 1)
-
--- the raw place behind
-abbrev pub behindOf : WirePlace → WirePlace
-behindOf p = onWire (p .0 + 1)
+use Rattle.frame.specs.declared.scan.Event.the-variants.{Quiet, Decided}
+use Rattle.frame.specs.State.{Phase, Idle, Half, Header, Open, Escape, Scan, Step}
 
 -- ---- states
 
 -- row 17: the ranges of docs/STATES.md
 abbrev pub inRangeOf : ℕ → Scan → Bool
-inRangeOf limit s = leb (s .taken .0) (2 ^ 62) && leb (s .have .0) (limit + 1)
+inRangeOf limit s = leb (s .taken) (2 ^ 62) && leb (s .have) (limit + 1)
 
 -- what the byte rules ask of their caller: the state and the limit are in range, and n bytes more may be taken
 pub record Ready (limit : ℕ) (s : Scan) (n : ℕ) : Type 0 where
-  pub room : s .taken .0 + n ≤ 2 ^ 62
-  pub inside : s .have .0 ≤ limit + 1
+  pub room : s .taken + n ≤ 2 ^ 62
+  pub inside : s .have ≤ limit + 1
   pub small : limit ≤ widest
 
 -- no frame is open, and the last raw byte is no FF
-abbrev pub closedOf : WirePlace → Scan
-closedOf taken = record { phase = Idle; taken = taken; start = onWire 0; have = inBody 0; length = 0; sum = 0 }
+abbrev pub closedOf : ℕ → Scan
+closedOf taken = record { phase = Idle; taken = taken; start = 0; have = 0; length = 0; sum = 0 }
 
 -- the same, and the last raw byte is FF
-abbrev pub halfOf : WirePlace → Scan
-halfOf taken = record { phase = Half; taken = taken; start = onWire 0; have = inBody 0; length = 0; sum = 0 }
+abbrev pub halfOf : ℕ → Scan
+halfOf taken = record { phase = Half; taken = taken; start = 0; have = 0; length = 0; sum = 0 }
 
 -- "the frame's start is the first of the two": the one before the FF at place last
-abbrev pub headerOf : WirePlace → WirePlace → Scan
-headerOf last taken = record { phase = Header; taken = taken; start = beforeOf last; have = inBody 0; length = 0; sum = 0 }
+abbrev pub headerOf : ℕ → ℕ → Scan
+headerOf last taken = record { phase = Header; taken = taken; start = last - 1; have = 0; length = 0; sum = 0 }
 
 -- "an FF other than the header's waits for its successor"
-abbrev pub escapeOf : Scan → WirePlace → Scan
+abbrev pub escapeOf : Scan → ℕ → Scan
 escapeOf s taken = record { phase = Escape; taken = taken; start = s .start; have = s .have; length = s .length; sum = s .sum }
 
 -- ---- one raw byte
@@ -67,8 +46,8 @@ abbrev pub silentOf : Scan → Event → Step
 silentOf s e = record { scan = s; put = false; byte = 0; event = e }
 
 -- "except after CUT, where the new one is": the header that refuses an open frame opens the next
-abbrev pub cutOf : WirePlace → WirePlace → Step
-cutOf last taken = silentOf (headerOf last taken) Cut
+abbrev pub cutOf : ℕ → ℕ → Step
+cutOf last taken = silentOf (headerOf last taken) (Decided Cut)
 
 -- the byte v goes to the body
 abbrev pub storedOf : Scan → ℕ → Event → Step
@@ -78,12 +57,12 @@ storedOf s v e = record { scan = s; put = true; byte = v; event = e }
 abbrev pub grownOf : Scan → ℕ → ℕ → Step
 grownOf s l v =
     storedOf
-    (record { phase = Open; taken = behindOf (s .taken); start = s .start; have = inBody (s .have .0 + 1); length = l; sum = (s .sum + v) % 2 ^ 8 })
+    (record { phase = Open; taken = s .taken + 1; start = s .start; have = s .have + 1; length = l; sum = (s .sum + v) % 2 ^ 8 })
     v Quiet
 
 -- "After FRAME or a refused frame no frame is open": here with the body byte v
-abbrev pub endedOf : Scan → ℕ → Event → Step
-endedOf s v e = storedOf (closedOf (behindOf (s .taken))) v e
+abbrev pub endedOf : Scan → ℕ → Verdict → Step
+endedOf s v w = storedOf (closedOf (s .taken + 1)) v (Decided w)
 
 -- FRAME or SUM: the body is complete with v
 abbrev pub completedOf : Scan → ℕ → Step
@@ -97,30 +76,30 @@ measuredOf limit s l v = cond (ltb l 5) (endedOf s v Short) (cond (ltb limit l) 
 -- limit, the sum comes behind limit + 1 bytes; no state reached from a fresh one is there.
 abbrev pub bodyByteOf : ℕ → Scan → ℕ → Step
 bodyByteOf limit s v =
-    cond (eqb (s .have .0) 0) (grownOf s v v)
-    (cond (eqb (s .have .0) 1) (measuredOf limit s (s .length * 256 + v) v)
-    (cond (ltb (s .length) (s .have .0)) (completedOf s v)
-    (cond (ltb limit (s .have .0)) (completedOf s v) (grownOf s (s .length) v))))
+    cond (eqb (s .have) 0) (grownOf s v v)
+    (cond (eqb (s .have) 1) (measuredOf limit s (s .length * 256 + v) v)
+    (cond (ltb (s .length) (s .have)) (completedOf s v)
+    (cond (ltb limit (s .have)) (completedOf s v) (grownOf s (s .length) v))))
 
 -- "A raw FF directly behind a raw FF makes a header, always, in each phase". In an open frame, behind an FF that waits, that is CUT.
 abbrev pub onFFIn : Phase → Scan → Step
-onFFIn Idle s = silentOf (halfOf (behindOf (s .taken))) Quiet
-onFFIn Half s = silentOf (headerOf (s .taken) (behindOf (s .taken))) Quiet
-onFFIn Header s = silentOf (headerOf (s .taken) (behindOf (s .taken))) Quiet
-onFFIn Open s = silentOf (escapeOf s (behindOf (s .taken))) Quiet
-onFFIn Escape s = cutOf (s .taken) (behindOf (s .taken))
+onFFIn Idle s = silentOf (halfOf (s .taken + 1)) Quiet
+onFFIn Half s = silentOf (headerOf (s .taken) (s .taken + 1)) Quiet
+onFFIn Header s = silentOf (headerOf (s .taken) (s .taken + 1)) Quiet
+onFFIn Open s = silentOf (escapeOf s (s .taken + 1)) Quiet
+onFFIn Escape s = cutOf (s .taken) (s .taken + 1)
 
 -- a raw FF
 abbrev pub onFFOf : Scan → Step
 onFFOf s = onFFIn (s .phase) s
 
 -- a byte that is in no body, with no frame open behind it
-abbrev pub outsideOf : WirePlace → Event → Step
-outsideOf last e = silentOf (closedOf (behindOf last)) e
+abbrev pub outsideOf : ℕ → Event → Step
+outsideOf last e = silentOf (closedOf (last + 1)) e
 
 -- Behind an FF that waits, "55 gives one body byte FF", "another byte breaks the stuffing".
 abbrev pub onEscapedOf : ℕ → Scan → ℕ → Step
-onEscapedOf limit s x = cond (eqb x 85) (bodyByteOf limit s 255) (outsideOf (s .taken) Stuff)
+onEscapedOf limit s x = cond (eqb x 85) (bodyByteOf limit s 255) (outsideOf (s .taken) (Decided Stuff))
 
 -- a raw byte other than FF, by phase. "With no frame open, other bytes are passed over in silence."
 abbrev pub onOtherIn : Phase → ℕ → Scan → ℕ → Step
@@ -141,12 +120,7 @@ advanceOf limit s x = cond (eqb x 255) (onFFOf s) (onOtherOf limit s x)
 -- whether something is decided
 abbrev pub decidesOf : Event → Bool
 decidesOf Quiet = false
-decidesOf Frame = true
-decidesOf Short = true
-decidesOf Long = true
-decidesOf Stuff = true
-decidesOf Cut = true
-decidesOf Sum = true
+decidesOf (Decided v) = true
 
 -- "a body byte is stored at its place and nothing else there changes"
 abbrev pub putOf : Bool → List ℕ → ℕ → ℕ → List ℕ

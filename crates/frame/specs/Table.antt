@@ -1,10 +1,12 @@
 -- Paper 01's table: the number and the values of each answer.
 use Prim.Native.Nat.{ℕ}
 use mathlib.Core.List.{[], _∷_}
-use mathlib.Core.Bool.{cond, _||_}
 use lib.ListN.{getD}
-use lib.Dec.{eqb}
 use Rattle.base.specs.Rows.{Row, row}
+use Rattle.frame.specs.declared.scan.Verdict.{Verdict}
+use Rattle.frame.specs.declared.scan.Verdict.the-variants as verdict
+use Rattle.frame.specs.declared.scan.Event.{Event}
+use Rattle.frame.specs.declared.scan.Event.the-variants as event
 use Rattle.frame.specs.declared.reader.Answer.{Answer}
 use Rattle.frame.specs.declared.reader.Answer.the-variants as answer
 use Rattle.frame.specs.declared.reader.Ending.{Ending}
@@ -12,15 +14,28 @@ use Rattle.frame.specs.declared.reader.Ending.the-variants as ending
 use Rattle.frame.specs.declared.writer.Written.{Written}
 use Rattle.frame.specs.declared.writer.Written.the-variants as written
 
--- bytes given: MORE 0, FRAME 1, SHORT 11, LONG 12, STUFF 13, CUT 14, SUM 15, STATE 17, USED 18
+-- a verdict's number: FRAME 1, SHORT 11, LONG 12, STUFF 13, CUT 14, SUM 15
+abbrev pub codeOf : Verdict → ℕ
+codeOf verdict.Frame = 1
+codeOf verdict.Short = 11
+codeOf verdict.Long = 12
+codeOf verdict.Stuff = 13
+codeOf verdict.Cut = 14
+codeOf verdict.Sum = 15
+
+-- a decided frame: "Start is the place of the header's first byte; end is the place behind the deciding byte."
+abbrev pub decidedRow : Verdict → ℕ → ℕ → ℕ → Row
+decidedRow v count start end = row (codeOf v) (count ∷ start ∷ end ∷ [])
+
+-- what a byte decides, or MORE 0 where it decides nothing
+abbrev pub eventRow : Event → ℕ → ℕ → ℕ → Row
+eventRow event.Quiet count start end = row 0 (count ∷ [])
+eventRow (event.Decided v) count start end = decidedRow v count start end
+
+-- bytes given: MORE 0, a decided frame, STATE 17, USED 18
 abbrev pub rowOf : Answer → Row
 rowOf (answer.More count) = row 0 (count ∷ [])
-rowOf (answer.Frame count start end) = row 1 (count ∷ start .0 ∷ end .0 ∷ [])
-rowOf (answer.Short count start end) = row 11 (count ∷ start .0 ∷ end .0 ∷ [])
-rowOf (answer.Long count start end) = row 12 (count ∷ start .0 ∷ end .0 ∷ [])
-rowOf (answer.Stuff count start end) = row 13 (count ∷ start .0 ∷ end .0 ∷ [])
-rowOf (answer.Cut count start end) = row 14 (count ∷ start .0 ∷ end .0 ∷ [])
-rowOf (answer.Sum count start end) = row 15 (count ∷ start .0 ∷ end .0 ∷ [])
+rowOf (answer.Decided count start end v) = decidedRow v count (start .0) (end .0)
 rowOf answer.State = row 17 (0 ∷ [])
 rowOf answer.Used = row 18 (0 ∷ [])
 
@@ -36,6 +51,6 @@ writtenRowOf (written.Wrote count) = row 0 (count ∷ [])
 writtenRowOf written.Payload = row 21 (0 ∷ [])
 writtenRowOf written.Room = row 22 (0 ∷ [])
 
--- the bytes that an answer counts as taken: "USED and an end asked take none"
+-- the bytes that an answer to bytes given counts
 abbrev pub countOf : Row → ℕ
-countOf r = cond (eqb (r .number) 2 || eqb (r .number) 16) 0 (getD (r .values) 0 0)
+countOf r = getD (r .values) 0 0

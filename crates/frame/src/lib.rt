@@ -23,6 +23,7 @@ pub use reader::feed;
 pub use reader::finish;
 pub use scan::Phase;
 pub use scan::Scan;
+pub use scan::Verdict;
 pub use writer::Written;
 pub use writer::write;
 pub use writer::write_parts;

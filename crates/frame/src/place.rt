@@ -1,7 +1,6 @@
 // Places on the wire and places in the body, counted apart.
 ghost use mathlib.Core.Path.{_≡_};
-ghost use Prim.Native.Nat.{_<_, _^_};
-ghost use Rattle.frame.specs.Rules.{beforeOf, behindOf};
+ghost use Prim.Native.Nat.{_+_, _-_, _<_, _^_};
 
 // A place on the wire, which every raw byte advances, a stuffed 55 too.
 pub struct WirePlace(pub u64);
@@ -14,7 +13,7 @@ pub(crate) const MOST: u64 = 4611686018427387904;
 
 // The place before, or 0.
 pub(crate) fn before(p: WirePlace) -> WirePlace
-    ensures { λ r. ⌜ r ≡ beforeOf p ⌝ }
+    ensures { λ r. ⌜ r .0 ≡ p .0 - 1 ⌝ }
 {
     let n = p.0;
     if n == 0 {
@@ -26,7 +25,7 @@ pub(crate) fn before(p: WirePlace) -> WirePlace
 // The place behind.
 pub(crate) fn behind(p: WirePlace) -> WirePlace
     requires { ⌜ p .0 < 2 ^ 62 ⌝ }
-    ensures { λ r. ⌜ r ≡ behindOf p ⌝ }
+    ensures { λ r. ⌜ r .0 ≡ p .0 + 1 ⌝ }
 {
     WirePlace(p.0 + 1)
 }

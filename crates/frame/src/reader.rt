@@ -5,6 +5,7 @@ use super::place::WirePlace;
 use super::scan::Event;
 use super::scan::Phase;
 use super::scan::Scan;
+use super::scan::Verdict;
 use super::scan::advance;
 use super::scan::closed;
 use super::scan::decides;
@@ -12,9 +13,11 @@ use super::scan::in_range;
 ghost use mathlib.Core.Path.{_≡_};
 ghost use Prim.Native.Nat.{_<_};
 ghost use lib.ListN.{length};
+ghost use Rattle.frame.specs.Wire.{frameLimit};
+ghost use Rattle.frame.specs.State.{phaseOf, scanOf, stateOf};
 ghost use Rattle.frame.specs.Rules.{Ready, putOf};
-ghost use Rattle.frame.specs.Table.{rowOf, endRowOf, countOf};
-ghost use Rattle.frame.specs.Calls.{eventRow, endingRow, freshOf, runOf, feedOf, finishOf, replyOf, endingOf};
+ghost use Rattle.frame.specs.Table.{rowOf, endRowOf, countOf, eventRow};
+ghost use Rattle.frame.specs.Calls.{endingRow, freshOf, runOf, feedOf, finishOf, replyOf, endingOf};
 
 // A reader, and the body that it holds.
 pub struct Reader {
@@ -27,35 +30,11 @@ pub enum Answer {
     More {
         count: usize,
     },
-    Frame {
+    Decided {
         count: usize,
         start: WirePlace,
         end: WirePlace,
-    },
-    Short {
-        count: usize,
-        start: WirePlace,
-        end: WirePlace,
-    },
-    Long {
-        count: usize,
-        start: WirePlace,
-        end: WirePlace,
-    },
-    Stuff {
-        count: usize,
-        start: WirePlace,
-        end: WirePlace,
-    },
-    Cut {
-        count: usize,
-        start: WirePlace,
-        end: WirePlace,
-    },
-    Sum {
-        count: usize,
-        start: WirePlace,
-        end: WirePlace,
+        verdict: Verdict,
     },
     State,
     Used,
@@ -81,7 +60,7 @@ pub struct Finished {
 impl Reader {
     // A fresh reader.
     pub fn new() -> Self
-        ensures { λ r. ⌜ r ≡ freshOf 1024 ⌝ }
+        ensures { λ r. ⌜ stateOf r ≡ freshOf frameLimit ⌝ }
     {
         Reader {
             scan: closed(WirePlace(0)),
@@ -97,36 +76,7 @@ impl Answer {
     {
         match self {
             Answer::More { count } => count,
-            Answer::Frame {
-                count,
-                start: _,
-                end: _,
-            } => count,
-            Answer::Short {
-                count,
-                start: _,
-                end: _,
-            } => count,
-            Answer::Long {
-                count,
-                start: _,
-                end: _,
-            } => count,
-            Answer::Stuff {
-                count,
-                start: _,
-                end: _,
-            } => count,
-            Answer::Cut {
-                count,
-                start: _,
-                end: _,
-            } => count,
-            Answer::Sum {
-                count,
-                start: _,
-                end: _,
-            } => count,
+            Answer::Decided { count, .. } => count,
             Answer::State => 0,
             Answer::Used => 0,
         }
@@ -139,12 +89,12 @@ fn answered(event: Event, count: usize, start: WirePlace, end: WirePlace) -> Ans
 {
     match event {
         Event::Quiet => Answer::More { count },
-        Event::Frame => Answer::Frame { count, start, end },
-        Event::Short => Answer::Short { count, start, end },
-        Event::Long => Answer::Long { count, start, end },
-        Event::Stuff => Answer::Stuff { count, start, end },
-        Event::Cut => Answer::Cut { count, start, end },
-        Event::Sum => Answer::Sum { count, start, end },
+        Event::Decided { verdict } => Answer::Decided {
+            count,
+            start,
+            end,
+            verdict,
+        },
     }
 }
 
@@ -160,8 +110,8 @@ fn store(body: &mut [u8; 1026], put: bool, at: usize, byte: u8)
 
 // The byte loop.
 fn run(reader: Reader, bytes: &[u8]) -> Fed
-    requires { ⌜ Ready 1024 (reader .scan) (length (now bytes)) ⌝ }
-    ensures { λ r. ⌜ replyOf r ≡ runOf 1024 (now (bytes .entry)) 0 reader ⌝ }
+    requires { ⌜ Ready frameLimit (scanOf (reader .scan)) (length (now bytes)) ⌝ }
+    ensures { λ r. ⌜ replyOf r ≡ runOf frameLimit (now (bytes .entry)) 0 (stateOf reader) ⌝ }
 {
     let mut scan = reader.scan;
     let mut body = reader.body;
@@ -190,7 +140,7 @@ fn run(reader: Reader, bytes: &[u8]) -> Fed
 
 // Bytes given.
 pub fn feed(reader: Reader, bytes: &[u8]) -> Fed
-    ensures { λ r. ⌜ replyOf r ≡ feedOf 1024 reader (now (bytes .entry)) ⌝ }
+    ensures { λ r. ⌜ replyOf r ≡ feedOf frameLimit (stateOf reader) (now (bytes .entry)) ⌝ }
 {
     let scan = reader.scan;
     if !in_range(LIMIT, scan) {
@@ -210,7 +160,7 @@ pub fn feed(reader: Reader, bytes: &[u8]) -> Fed
 
 // What an end asked is answered in a state in range.
 fn ended_in(scan: Scan) -> Ending
-    ensures { λ r. ⌜ endRowOf r ≡ endingRow (scan .phase) scan ⌝ }
+    ensures { λ r. ⌜ endRowOf r ≡ endingRow (phaseOf (scan .phase)) (scanOf scan) ⌝ }
 {
     let phase = scan.phase;
     let taken = scan.taken;
@@ -226,7 +176,7 @@ fn ended_in(scan: Scan) -> Ending
 
 // End asked.
 pub fn finish(reader: Reader) -> Finished
-    ensures { λ r. ⌜ endingOf r ≡ finishOf 1024 reader ⌝ }
+    ensures { λ r. ⌜ endingOf r ≡ finishOf frameLimit (stateOf reader) ⌝ }
 {
     let scan = reader.scan;
     if !in_range(LIMIT, scan) {

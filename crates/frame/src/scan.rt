@@ -6,6 +6,7 @@ use super::place::before;
 use super::place::behind;
 ghost use mathlib.Core.Path.{_≡_};
 ghost use Prim.Native.Nat.{_<_, _≤_, _^_};
+ghost use Rattle.frame.specs.State.{scanOf, stepOf};
 ghost use Rattle.frame.specs.Rules.{closedOf, headerOf, halfOf, escapeOf, silentOf, cutOf, storedOf, grownOf, endedOf, completedOf, bodyByteOf, onFFOf, outsideOf, onEscapedOf, onOtherOf, advanceOf, inRangeOf, decidesOf, Ready};
 
 pub enum Phase {
@@ -31,15 +32,20 @@ pub struct Scan {
     pub sum: u8,
 }
 
-// What a raw byte decides.
-pub enum Event {
-    Quiet,
+// What a frame that was begun comes to: paper 01's FRAME and its refused frames.
+pub enum Verdict {
     Frame,
     Short,
     Long,
     Stuff,
     Cut,
     Sum,
+}
+
+// What a raw byte decides, if anything.
+pub enum Event {
+    Quiet,
+    Decided { verdict: Verdict },
 }
 
 // A raw byte's work: the next state, the body byte to store, if any, and what is decided.
@@ -52,7 +58,7 @@ pub struct Step {
 
 // No frame is open. None ends in a raw FF, so the last raw byte is no FF.
 pub(crate) fn closed(taken: WirePlace) -> Scan
-    ensures { λ r. ⌜ r ≡ closedOf taken ⌝ }
+    ensures { λ r. ⌜ scanOf r ≡ closedOf (taken .0) ⌝ }
 {
     Scan {
         phase: Phase::Idle,
@@ -66,7 +72,7 @@ pub(crate) fn closed(taken: WirePlace) -> Scan
 
 // No frame is open, and an FF was taken.
 fn half(taken: WirePlace) -> Scan
-    ensures { λ r. ⌜ r ≡ halfOf taken ⌝ }
+    ensures { λ r. ⌜ scanOf r ≡ halfOf (taken .0) ⌝ }
 {
     Scan {
         phase: Phase::Half,
@@ -80,7 +86,7 @@ fn half(taken: WirePlace) -> Scan
 
 // A header was made, and starts one place before its last byte.
 fn header(last: WirePlace, taken: WirePlace) -> Scan
-    ensures { λ r. ⌜ r ≡ headerOf last taken ⌝ }
+    ensures { λ r. ⌜ scanOf r ≡ headerOf (last .0) (taken .0) ⌝ }
 {
     Scan {
         phase: Phase::Header,
@@ -94,7 +100,7 @@ fn header(last: WirePlace, taken: WirePlace) -> Scan
 
 // An FF of the body waits.
 fn escape(scan: Scan, taken: WirePlace) -> Scan
-    ensures { λ r. ⌜ r ≡ escapeOf scan taken ⌝ }
+    ensures { λ r. ⌜ scanOf r ≡ escapeOf (scanOf scan) (taken .0) ⌝ }
 {
     let start = scan.start;
     let have = scan.have;
@@ -110,7 +116,7 @@ fn escape(scan: Scan, taken: WirePlace) -> Scan
 
 // No byte goes to the body.
 fn silent(scan: Scan, event: Event) -> Step
-    ensures { λ r. ⌜ r ≡ silentOf scan event ⌝ }
+    ensures { λ r. ⌜ stepOf r ≡ silentOf (scanOf scan) event ⌝ }
 {
     Step {
         scan,
@@ -122,14 +128,15 @@ fn silent(scan: Scan, event: Event) -> Step
 
 // A header in an open frame: that frame is refused, and the new one is open.
 fn cut(last: WirePlace, taken: WirePlace) -> Step
-    ensures { λ r. ⌜ r ≡ cutOf last taken ⌝ }
+    ensures { λ r. ⌜ stepOf r ≡ cutOf (last .0) (taken .0) ⌝ }
 {
-    silent(header(last, taken), Event::Cut)
+    let verdict = Verdict::Cut;
+    silent(header(last, taken), Event::Decided { verdict })
 }
 
 // The byte v goes to the body.
 fn stored(scan: Scan, v: u8, event: Event) -> Step
-    ensures { λ r. ⌜ r ≡ storedOf scan v event ⌝ }
+    ensures { λ r. ⌜ stepOf r ≡ storedOf (scanOf scan) v event ⌝ }
 {
     Step {
         scan,
@@ -143,7 +150,7 @@ fn stored(scan: Scan, v: u8, event: Event) -> Step
 fn grown(scan: Scan, length: u16, v: u8) -> Step
     requires { ⌜ scan .taken .0 < 2 ^ 62 ⌝ }
     requires { ⌜ scan .have .0 < 2 ^ 62 ⌝ }
-    ensures { λ r. ⌜ r ≡ grownOf scan length v ⌝ }
+    ensures { λ r. ⌜ stepOf r ≡ grownOf (scanOf scan) length v ⌝ }
 {
     let last = scan.taken;
     let start = scan.start;
@@ -159,29 +166,29 @@ fn grown(scan: Scan, length: u16, v: u8) -> Step
 }
 
 // The frame ends with the body byte v.
-fn ended(scan: Scan, v: u8, event: Event) -> Step
+fn ended(scan: Scan, v: u8, verdict: Verdict) -> Step
     requires { ⌜ scan .taken .0 < 2 ^ 62 ⌝ }
-    ensures { λ r. ⌜ r ≡ endedOf scan v event ⌝ }
+    ensures { λ r. ⌜ stepOf r ≡ endedOf (scanOf scan) v verdict ⌝ }
 {
     let last = scan.taken;
-    stored(closed(behind(last)), v, event)
+    stored(closed(behind(last)), v, Event::Decided { verdict })
 }
 
 // The body is complete with the byte v, its sum.
 fn completed(scan: Scan, v: u8) -> Step
     requires { ⌜ scan .taken .0 < 2 ^ 62 ⌝ }
-    ensures { λ r. ⌜ r ≡ completedOf scan v ⌝ }
+    ensures { λ r. ⌜ stepOf r ≡ completedOf (scanOf scan) v ⌝ }
 {
     if v == scan.sum {
-        return ended(scan, v, Event::Frame);
+        return ended(scan, v, Verdict::Frame);
     }
-    ended(scan, v, Event::Sum)
+    ended(scan, v, Verdict::Sum)
 }
 
 // A byte of the body, when the raw byte that gives it is taken.
 fn body_byte(limit: usize, scan: Scan, v: u8) -> Step
-    requires { ⌜ Ready limit scan 1 ⌝ }
-    ensures { λ r. ⌜ r ≡ bodyByteOf limit scan v ⌝ }
+    requires { ⌜ Ready limit (scanOf scan) 1 ⌝ }
+    ensures { λ r. ⌜ stepOf r ≡ bodyByteOf limit (scanOf scan) v ⌝ }
 {
     let have = scan.have.0;
     let length = scan.length;
@@ -191,10 +198,10 @@ fn body_byte(limit: usize, scan: Scan, v: u8) -> Step
     if have == 1 {
         let whole = (length as usize) * 256 + (v as usize);
         if whole < 5 {
-            return ended(scan, v, Event::Short);
+            return ended(scan, v, Verdict::Short);
         }
         if limit < whole {
-            return ended(scan, v, Event::Long);
+            return ended(scan, v, Verdict::Long);
         }
         return grown(scan, whole as u16, v);
     }
@@ -211,7 +218,7 @@ fn body_byte(limit: usize, scan: Scan, v: u8) -> Step
 // A raw FF: directly behind another it makes a header, in each phase.
 fn on_ff(scan: Scan) -> Step
     requires { ⌜ scan .taken .0 < 2 ^ 62 ⌝ }
-    ensures { λ r. ⌜ r ≡ onFFOf scan ⌝ }
+    ensures { λ r. ⌜ stepOf r ≡ onFFOf (scanOf scan) ⌝ }
 {
     let phase = scan.phase;
     let last = scan.taken;
@@ -228,27 +235,28 @@ fn on_ff(scan: Scan) -> Step
 // A byte that is in no body, with no frame open behind it.
 fn outside(last: WirePlace, event: Event) -> Step
     requires { ⌜ last .0 < 2 ^ 62 ⌝ }
-    ensures { λ r. ⌜ r ≡ outsideOf last event ⌝ }
+    ensures { λ r. ⌜ stepOf r ≡ outsideOf (last .0) event ⌝ }
 {
     silent(closed(behind(last)), event)
 }
 
 // Behind an FF of the body, 55 makes it a body byte; another byte breaks the stuffing.
 fn on_escaped(limit: usize, scan: Scan, byte: u8) -> Step
-    requires { ⌜ Ready limit scan 1 ⌝ }
-    ensures { λ r. ⌜ r ≡ onEscapedOf limit scan byte ⌝ }
+    requires { ⌜ Ready limit (scanOf scan) 1 ⌝ }
+    ensures { λ r. ⌜ stepOf r ≡ onEscapedOf limit (scanOf scan) byte ⌝ }
 {
     let last = scan.taken;
     if byte == 85 {
         return body_byte(limit, scan, 255);
     }
-    outside(last, Event::Stuff)
+    let verdict = Verdict::Stuff;
+    outside(last, Event::Decided { verdict })
 }
 
 // A raw byte other than FF.
 fn on_other(limit: usize, scan: Scan, byte: u8) -> Step
-    requires { ⌜ Ready limit scan 1 ⌝ }
-    ensures { λ r. ⌜ r ≡ onOtherOf limit scan byte ⌝ }
+    requires { ⌜ Ready limit (scanOf scan) 1 ⌝ }
+    ensures { λ r. ⌜ stepOf r ≡ onOtherOf limit (scanOf scan) byte ⌝ }
 {
     let phase = scan.phase;
     let last = scan.taken;
@@ -263,8 +271,8 @@ fn on_other(limit: usize, scan: Scan, byte: u8) -> Step
 
 // One raw byte.
 pub(crate) fn advance(limit: usize, scan: Scan, byte: u8) -> Step
-    requires { ⌜ Ready limit scan 1 ⌝ }
-    ensures { λ r. ⌜ r ≡ advanceOf limit scan byte ⌝ }
+    requires { ⌜ Ready limit (scanOf scan) 1 ⌝ }
+    ensures { λ r. ⌜ stepOf r ≡ advanceOf limit (scanOf scan) byte ⌝ }
 {
     if byte == 255 {
         return on_ff(scan);
@@ -278,19 +286,14 @@ pub(crate) fn decides(event: Event) -> bool
 {
     match event {
         Event::Quiet => false,
-        Event::Frame => true,
-        Event::Short => true,
-        Event::Long => true,
-        Event::Stuff => true,
-        Event::Cut => true,
-        Event::Sum => true,
+        Event::Decided { verdict: _ } => true,
     }
 }
 
 // Whether each field is in its range.
 pub(crate) fn in_range(limit: usize, scan: Scan) -> bool
     requires { ⌜ limit ≤ 65279 ⌝ }
-    ensures { λ r. ⌜ r ≡ inRangeOf limit scan ⌝ }
+    ensures { λ r. ⌜ r ≡ inRangeOf limit (scanOf scan) ⌝ }
 {
     if MOST < scan.taken.0 {
         return false;

@@ -5,7 +5,7 @@ ghost use mathlib.Core.List.{[], _∷_, _++_};
 ghost use Prim.Native.Nat.{_+_, _≤_, _<_, _/_, _%_, _^_};
 ghost use lib.ListN.{length};
 ghost use lib.Seq.{sets};
-ghost use Rattle.frame.specs.Wire.{stuff, wire};
+ghost use Rattle.frame.specs.Wire.{stuff, wire, frameLimit};
 ghost use Rattle.base.specs.Sums.{total};
 ghost use Rattle.base.specs.Numbers.{two};
 ghost use Rattle.frame.specs.Table.{writtenRowOf};
@@ -176,7 +176,7 @@ fn write_within(
 
 // A frame written at the front of the output, or refused with the output as it was.
 pub fn write(command: u8, number: u8, flags: u16, payload: &[u8], out: &mut [u8]) -> Written
-    ensures { λ r. ⌜ outcome (writtenRowOf r) (now (out .exit)) ≡ writeOf 1024 command number flags (now (payload .entry)) (now (out .entry)) ⌝ }
+    ensures { λ r. ⌜ outcome (writtenRowOf r) (now (out .exit)) ≡ writeOf frameLimit command number flags (now (payload .entry)) (now (out .entry)) ⌝ }
 {
     write_within(LIMIT, command, number, flags, payload, out)
 }
@@ -191,7 +191,7 @@ pub fn write_parts(
     third: &[u8],
     out: &mut [u8],
 ) -> Written
-    ensures { λ r. ⌜ outcome (writtenRowOf r) (now (out .exit)) ≡ writeOf 1024 command number flags (now (first .entry) ++ (now (second .entry) ++ now (third .entry))) (now (out .entry)) ⌝ }
+    ensures { λ r. ⌜ outcome (writtenRowOf r) (now (out .exit)) ≡ writeOf frameLimit command number flags (now (first .entry) ++ (now (second .entry) ++ now (third .entry))) (now (out .entry)) ⌝ }
 {
     parts_within(LIMIT, command, number, flags, first, second, third, out)
 }

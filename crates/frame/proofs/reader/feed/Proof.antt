@@ -6,7 +6,8 @@ use mathlib.Core.Bool.{true}
 use Prim.Native.Nat.{_+_, _-_, _^_, _<_}
 use native.Mathlib.Omega.{arith}
 use lib.ListN.{length}
-use Rattle.frame.specs.declared.scan.Scan.{Scan}
+use Rattle.frame.specs.Wire.{frameLimit}
+use Rattle.frame.specs.State.{Scan, scanOf}
 use Rattle.frame.specs.Rules.{inRangeOf, Ready}
 use Rattle.frame.proofs.Steps.{in-range}
 use Rattle.frame.proofs.reader.feed.Statement.{statement}
@@ -17,13 +18,13 @@ returns c = simp (sym (c .before .in-range .ensures) ∙ not-true _ (c .if1 .tak
 
 -- past the first test the state is in range
 abbrev scan : tie.Else1 → Scan
-scan c = c .before .before .before .before .args .reader .scan
+scan c = scanOf (c .before .before .before .before .args .reader .scan)
 
-ranged : (c : tie.Else1) → inRangeOf 1024 (scan c) ≡ true
+ranged : (c : tie.Else1) → inRangeOf frameLimit (scan c) ≡ true
 ranged c = sym (c .before .in-range .ensures) ∙ not-false _ (c .if1 .left)
 
-room : (c : tie.Else1) → Ready 1024 (scan c) (2 ^ 62 - scan c .taken .0)
-room c = in-range 1024 (scan c) (omega arith) (ranged c)
+room : (c : tie.Else1) → Ready frameLimit (scan c) (2 ^ 62 - scan c .taken)
+room c = in-range frameLimit (scan c) (omega arith) (ranged c)
 
 sub-if2 : tie.Need-sub-if2
 sub-if2 c = omega (arith, room (c .before))

@@ -3,13 +3,15 @@ use mathlib.Core.Path.{refl, sym, _∙_}
 use Prim.Native.Nat.{_-_}
 use native.Mathlib.Omega.{arith}
 use lib.ListN.{length}
+use Rattle.frame.specs.Wire.{frameLimit}
+use Rattle.frame.specs.State.{scanOf}
 use Rattle.frame.proofs.Steps.{At, run-end, run-on, run-stop}
 use Rattle.frame.proofs.reader.run.Statement.{statement}
 use Rattle.frame.proofs.reader.run.Tie as tie
 
 -- the bytes before the i-th decided nothing
 abbrev Inv-loop : tie.InvT-loop
-Inv-loop bytes scan₀ body₀ i₀ scan body i = At 1024 bytes (record { scan = scan₀; body = body₀ }) i (record { scan = scan; body = body })
+Inv-loop bytes scan₀ body₀ i₀ scan body i = At frameLimit bytes (record { scan = scanOf scan₀; body = body₀ }) i (record { scan = scanOf scan; body = body })
 
 abbrev μ-loop : tie.MeasureT-loop
 μ-loop bytes scan₀ body₀ i₀ scan body i = length bytes - i

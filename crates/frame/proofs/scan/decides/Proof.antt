@@ -7,6 +7,6 @@ pub decides-spec : {M : Type 1} → statement M
 decides-spec =
     tie.close
     (tie.spec
-    (search needs) (search needs) (search needs) (search needs) (search needs) (search needs) (search needs)
-    (λ c. search needs) (λ c. search needs) (λ c. search needs) (λ c. search needs) (λ c. search needs) (λ c. search needs)
+    (search needs) (search needs)
+    (λ c. search needs)
     λ c. search needs)

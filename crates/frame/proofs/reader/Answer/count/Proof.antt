@@ -7,13 +7,8 @@ pub count-spec : {M : Type 1} → statement M
 count-spec =
     tie.close
     (tie.spec
-    (search needs) (search needs) (search needs) (search needs) (search needs) (search needs) (search needs) (search needs) (search needs)
+    (search needs) (search needs) (search needs) (search needs)
     (λ c. simp (c .before .self .given .1))
     (λ c. simp (c .before .self2 .given .1))
-    (λ c. simp (c .before .self3 .given .1))
-    (λ c. simp (c .before .self4 .given .1))
-    (λ c. simp (c .before .self5 .given .1))
-    (λ c. simp (c .before .self6 .given .1))
-    (λ c. simp (c .before .self7 .given .1))
     (λ c. simp (c .enum-told .given .1))
     λ c. simp (c .enum-told2 .given .1))
