@@ -13,12 +13,9 @@ use Rattle.frame.specs.Frames.{frontBody}
 use Rattle.base.specs.Rows.{Row, row}
 use Rattle.frame.specs.Rules.{inRangeOf}
 use Rattle.frame.specs.Calls.{Reply, endingRow, freshOf, feedOf, finishOf}
-use Rattle.frame.specs.Logs.{Call, give, ask, Entry, logOf, decided}
+use Rattle.frame.specs.Logs.{Call, give, ask, Entry, entryOf, logOf, decided}
 use Rattle.frame.specs.Lines.{Line, Decides, is-frame, is-short, is-long, is-stuff, is-cut, is-sum, linesOf, heldUnder, lineOf as lineIn}
-use Rattle.frame.specs.declared.scan.Phase.{Phase}
-use Rattle.frame.specs.declared.scan.Phase.the-variants.{Idle, Half, Header, Open, Escape}
-use Rattle.frame.specs.declared.scan.Scan.{Scan}
-use Rattle.frame.specs.declared.reader.Reader.{Reader}
+use Rattle.frame.specs.State.{Phase, Idle, Half, Header, Open, Escape, Scan, State}
 use Rattle.base.proofs.Tests.{by-test}
 use Rattle.frame.proofs.Lines.{each-line}
 use Rattle.listing.specs.Lines.{partsOf, answerText}
@@ -62,7 +59,7 @@ ending-undecided Header s = refl
 ending-undecided Open s = refl
 ending-undecided Escape s = refl
 
-asked-undecided : (limit : ℕ) (r : Reader) → decided (finishOf limit r .row .number) ≡ false
+asked-undecided : (limit : ℕ) (r : State) → decided (finishOf limit r .row .number) ≡ false
 asked-undecided limit r =
     by-test (λ (y : Reply). decided (y .row .number) ≡ false) (inRangeOf limit (r .scan)) (λ e. ending-undecided (r .scan .phase) (r .scan)) (λ e. refl)
 
@@ -77,14 +74,14 @@ same-picked false x y z f = refl
 abbrev Long : Line → Type 0
 Long l = l .number ≡ 1 → 5 ≤ lengthOf (l .body)
 
-entry-text : (e : Entry) → Long (lineIn e) → answerText (e .row) (e .held) ≡ lineText (lineIn e)
+entry-text : (e : Entry) → Long (lineIn e) → answerText (e .row) (e .after .body) ≡ lineText (lineIn e)
 entry-text e h =
     same-picked (eqb (e .row .number) 1) _ _ _
     (λ t.
     let frame = eqb-true (e .row .number) 1 t in
-    let held : heldUnder (e .row .number) (e .held) ≡ frontBody (e .held) = ap (λ (n : ℕ). heldUnder n (e .held)) frame in
-    let long : 5 ≤ lengthOf (e .held) = rw (held, front-length (e .held)) at (h frame) in
-    rw (held, parts-front (e .held) long))
+    let held : heldUnder (e .row .number) (e .after .body) ≡ frontBody (e .after .body) = ap (λ (n : ℕ). heldUnder n (e .after .body)) frame in
+    let long : 5 ≤ lengthOf (e .after .body) = rw (held, front-length (e .after .body)) at (h frame) in
+    rw (held, parts-front (e .after .body) long))
 
 -- ---- over a list of calls
 
@@ -94,24 +91,26 @@ AllLong ls = (l : Line) → List·Memᴰ l ls → Long l
 -- a call's line before those of the others, or none
 one-more : (e : Entry) (ls : List Line) (text : List ℕ) → (AllLong ls → text ≡ linesText ls)
     → (t : Bool) → decided (e .row .number) ≡ t → AllLong (cond t (lineIn e ∷ ls) ls)
-    → answerText (e .row) (e .held) ++ text ≡ linesText (cond t (lineIn e ∷ ls) ls)
+    → answerText (e .row) (e .after .body) ++ text ≡ linesText (cond t (lineIn e ∷ ls) ls)
 unfolding linesText
 one-more e ls text f true d h = rw (entry-text e (h (lineIn e) (List·Memᴰ·head refl)), f (λ l m. h l (List·Memᴰ·tail m)))
-one-more e ls text f false d h = rw (no-line (e .row) (e .held) d) (f h)
+one-more e ls text f false d h = rw (no-line (e .row) (e .after .body) d) (f h)
 
 none-more : (l : Line) (ls : List Line) (text : List ℕ) → (AllLong ls → text ≡ linesText ls)
     → (t : Bool) → t ≡ false → AllLong (cond t (l ∷ ls) ls) → text ≡ linesText (cond t (l ∷ ls) ls)
 none-more l ls text f true d h = let z : _≡_ {A = ℕ} 0 1 = cc in absurd (omega arith)
 none-more l ls text f false d h = f h
 
-listed : (calls : List Call) (r : Reader) → AllLong (linesOf (logOf 1024 r calls)) → givenText (logOf 1024 r calls) ≡ linesText (linesOf (logOf 1024 r calls))
+listed : (limit : ℕ) (calls : List Call) (r : State) → AllLong (linesOf (logOf limit r calls))
+    → givenText (logOf limit r calls) ≡ linesText (linesOf (logOf limit r calls))
 unfolding logOf linesOf givenText linesText
-listed [] r h = refl
-listed (give bytes ∷ cs) r h =
-    one-more (record { call = give bytes; row = feedOf 1024 r bytes .row; held = feedOf 1024 r bytes .reader .body }) _ _
-    (λ a. listed cs (feedOf 1024 r bytes .reader) a) (decided (feedOf 1024 r bytes .row .number)) refl h
-listed (ask ∷ cs) r h =
-    none-more _ _ _ (λ a. listed cs (finishOf 1024 r .reader) a) (decided (finishOf 1024 r .row .number)) (asked-undecided 1024 r) h
+listed limit [] r h = refl
+listed limit (give bytes ∷ cs) r h =
+    let y : Reply = feedOf limit r bytes in
+    one-more (entryOf r (give bytes) y) _ _ (λ a. listed limit cs (y .state) a) (decided (y .row .number)) refl h
+listed limit (ask ∷ cs) r h =
+    let y : Reply = finishOf limit r in
+    none-more _ _ _ (λ a. listed limit cs (y .state) a) (decided (y .row .number)) (asked-undecided limit r) h
 
 -- a line of number 1 is a frame, and its length is at least 5
 frame-long : (limit : ℕ) (raw body : List ℕ) (n : ℕ) → Decides limit raw n body → n ≡ 1 → 5 ≤ lengthOf body
@@ -123,6 +122,6 @@ frame-long limit raw body n (is-cut b e f w g) one = absurd (omega arith)
 frame-long limit raw body n (is-sum b e f w g h i j) one = absurd (omega arith)
 
 pub each-listed : EachListed
-each-listed calls =
-    listed calls (freshOf 1024)
-    (λ l m. let line = each-line 1024 (omega arith) calls .sound l m in frame-long 1024 (line .raw) (l .body) (l .number) (line .decides))
+each-listed limit small calls =
+    listed limit calls (freshOf limit)
+    (λ l m. let line = each-line limit small calls .sound l m in frame-long limit (line .raw) (l .body) (l .number) (line .decides))

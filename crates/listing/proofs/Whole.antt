@@ -6,48 +6,49 @@ use mathlib.Core.List.{List, [], _∷_, _++_, append-nil, append-assoc, List-dis
 use native.Mathlib.Decide.{ℕ-discrete}
 use native.Mathlib.Omega.{arith}
 use lib.ListN.{length, drop}
+use Rattle.frame.specs.Wire.{widest}
 use Rattle.frame.specs.Table.{countOf}
 use Rattle.frame.specs.Calls.{Reply, freshOf, feedOf, finishOf}
-use Rattle.frame.specs.Logs.{Call, give, ask, logOf, readerAfter, stream, offer, send, joined}
+use Rattle.frame.specs.Logs.{Call, give, ask, logOf, stateAfter, stream, offer, send, joined}
 use Rattle.frame.specs.Lines.{Line, LinesFrom, Answers, linesOf, IsOpen}
-use Rattle.frame.specs.declared.reader.Reader.{Reader}
+use Rattle.frame.specs.State.{State}
 use Rattle.base.proofs.Rising.{RisingFrom, same-members}
 use Rattle.frame.proofs.Sender.{sent-whole}
 use Rattle.frame.proofs.Lines.{each-line, end-told}
 use Rattle.listing.specs.Lines.{headingText, answerText, lastOf}
-use Rattle.listing.specs.Claims.{textsOf, givenText, linesText, listingOf, OnlyGive, WholeListing, OneListing, AnyCut, SentListing}
+use Rattle.listing.specs.Claims.{textsOf, givenText, linesText, listingOf, OnlyGive, WholeListing, OneListing, AnyCuts, SentListing}
 use Rattle.listing.proofs.Listed.{each-listed}
 
 -- ---- the listing of calls that give bytes, and the end asked behind them
 
 -- the text of them all is that of the bytes given, and the last line
-texts : (calls : List Call) (r : Reader) → OnlyGive calls
-    → textsOf (logOf 1024 r (calls ++ ask ∷ [])) ≡ givenText (logOf 1024 r calls) ++ lastOf (finishOf 1024 (readerAfter 1024 r calls) .row)
-unfolding logOf readerAfter textsOf givenText
-texts [] r h = append-nil (lastOf (finishOf 1024 r .row))
-texts (give bytes ∷ cs) r h =
-    let y : Reply = feedOf 1024 r bytes in
-    ap (λ (l : List ℕ). answerText (y .row) (y .reader .body) ++ l) (texts cs (y .reader) h)
-    ∙ sym (append-assoc (answerText (y .row) (y .reader .body)) (givenText (logOf 1024 (y .reader) cs)) (lastOf (finishOf 1024 (readerAfter 1024 (y .reader) cs) .row)))
-texts (ask ∷ cs) r h = absurd h
+texts : (limit : ℕ) (calls : List Call) (r : State) → OnlyGive calls
+    → textsOf (logOf limit r (calls ++ ask ∷ [])) ≡ givenText (logOf limit r calls) ++ lastOf (finishOf limit (stateAfter limit r calls) .row)
+unfolding logOf stateAfter textsOf givenText
+texts limit [] r h = append-nil (lastOf (finishOf limit r .row))
+texts limit (give bytes ∷ cs) r h =
+    let y : Reply = feedOf limit r bytes in
+    ap (λ (l : List ℕ). answerText (y .row) (y .state .body) ++ l) (texts limit cs (y .state) h)
+    ∙ sym (append-assoc (answerText (y .row) (y .state .body)) (givenText (logOf limit (y .state) cs)) (lastOf (finishOf limit (stateAfter limit (y .state) cs) .row)))
+texts limit (ask ∷ cs) r h = absurd h
 
 -- the same with the heading, and with the lines over the stream
-listing-is : (calls : List Call) → OnlyGive calls → (y : Reply) → finishOf 1024 (readerAfter 1024 (freshOf 1024) calls) ≡ y
-    → listingOf (calls ++ ask ∷ []) ≡ headingText ++ (linesText (linesOf (logOf 1024 (freshOf 1024) calls)) ++ lastOf (y .row))
-listing-is calls h y e =
+listing-is : (limit : ℕ) → limit ≤ widest → (calls : List Call) → OnlyGive calls → (y : Reply) → finishOf limit (stateAfter limit (freshOf limit) calls) ≡ y
+    → listingOf limit (calls ++ ask ∷ []) ≡ headingText ++ (linesText (linesOf (logOf limit (freshOf limit) calls)) ++ lastOf (y .row))
+listing-is limit small calls h y e =
     ap (λ (l : List ℕ). headingText ++ l)
-    (texts calls (freshOf 1024) h
-    ∙ ap (λ (l : List ℕ). l ++ lastOf (finishOf 1024 (readerAfter 1024 (freshOf 1024) calls) .row)) (each-listed calls)
-    ∙ ap (λ (z : Reply). linesText (linesOf (logOf 1024 (freshOf 1024) calls)) ++ lastOf (z .row)) e)
+    (texts limit calls (freshOf limit) h
+    ∙ ap (λ (l : List ℕ). l ++ lastOf (finishOf limit (stateAfter limit (freshOf limit) calls) .row)) (each-listed limit small calls)
+    ∙ ap (λ (z : Reply). linesText (linesOf (logOf limit (freshOf limit) calls)) ++ lastOf (z .row)) e)
 
 pub whole-listing : WholeListing
-whole-listing calls h =
-    let end = end-told 1024 (omega arith) calls in
+whole-listing limit small calls h =
+    let end = end-told limit small calls in
     record {
-      lines = linesOf (logOf 1024 (freshOf 1024) calls);
-      answers = each-line 1024 (omega arith) calls;
-      left-open = λ start o. listing-is calls h _ (end .left-open start o);
-      left-clean = λ none. listing-is calls h _ (end .left-clean none);
+      lines = linesOf (logOf limit (freshOf limit) calls);
+      answers = each-line limit small calls;
+      left-open = λ start o. listing-is limit small calls h _ (end .left-open start o);
+      left-clean = λ none. listing-is limit small calls h _ (end .left-clean none);
     }
 
 -- ---- a stream has one list of lines
@@ -73,10 +74,10 @@ tested a b f = Dec·not-not (List-discrete ℕ-discrete a b) .0 f
 
 -- two that differ would differ with an open frame and without one
 pub one-listing : OneListing
-one-listing t a b p q =
-    let lines : p .lines ≡ q .lines = one-lines 1024 t (p .lines) (q .lines) (p .answers) (q .answers) in
+one-listing limit t a b p q =
+    let lines : p .lines ≡ q .lines = one-lines limit t (p .lines) (q .lines) (p .answers) (q .answers) in
     tested a b (λ differ.
-    let none : (start : ℕ) → IsOpen 1024 t start → ⊥ = λ start o. differ (p .left-open start o ∙ rw lines (sym (q .left-open start o))) in
+    let none : (start : ℕ) → IsOpen limit t start → ⊥ = λ start o. differ (p .left-open start o ∙ rw lines (sym (q .left-open start o))) in
     differ (p .left-clean none ∙ rw lines (sym (q .left-clean none))))
 
 -- ---- a sender only gives: calls behind others, bytes until they are taken, all pieces
@@ -86,29 +87,30 @@ only-joined [] b p q = q
 only-joined (give bytes ∷ a) b p q = only-joined a b p q
 only-joined (ask ∷ a) b p q = absurd p
 
-only-offered : (n : ℕ) (r : Reader) (bytes : List ℕ) → OnlyGive (offer 1024 n r bytes)
+only-offered : (limit n : ℕ) (r : State) (bytes : List ℕ) → OnlyGive (offer limit n r bytes)
 unfolding offer
-only-offered zero r bytes = tt
-only-offered (suc n) r bytes = only-offered n (feedOf 1024 r bytes .reader) (drop (countOf (feedOf 1024 r bytes .row)) bytes)
+only-offered limit zero r bytes = tt
+only-offered limit (suc n) r bytes = only-offered limit n (feedOf limit r bytes .state) (drop (countOf (feedOf limit r bytes .row)) bytes)
 
-only-sent : (pieces : List (List ℕ)) (r : Reader) → OnlyGive (send 1024 r pieces)
+only-sent : (limit : ℕ) (pieces : List (List ℕ)) (r : State) → OnlyGive (send limit r pieces)
 unfolding send
-only-sent [] r = tt
-only-sent (p ∷ ps) r =
-    let cs : List Call = offer 1024 (length p) r p in
-    only-joined cs (send 1024 (readerAfter 1024 r cs) ps) (only-offered (length p) r p) (only-sent ps (readerAfter 1024 r cs))
+only-sent limit [] r = tt
+only-sent limit (p ∷ ps) r =
+    let cs : List Call = offer limit (length p) r p in
+    only-joined cs (send limit (stateAfter limit r cs) ps) (only-offered limit (length p) r p) (only-sent limit ps (stateAfter limit r cs))
 
 -- all of its bytes are taken
-sent-stream : (pieces : List (List ℕ)) → length (joined pieces) ≤ 2 ^ 62 → stream (logOf 1024 (freshOf 1024) (send 1024 (freshOf 1024) pieces)) ≡ joined pieces
-unfolding logOf readerAfter stream
-sent-stream pieces room = sent-whole 1024 (omega arith) [] pieces (omega arith)
+sent-stream : (limit : ℕ) → limit ≤ widest → (pieces : List (List ℕ)) → length (joined pieces) ≤ 2 ^ 62 → stream (logOf limit (freshOf limit) (send limit (freshOf limit) pieces)) ≡ joined pieces
+unfolding logOf stateAfter stream
+sent-stream limit small pieces room = sent-whole limit small [] pieces (omega arith)
 
 pub sent-listing : SentListing
-sent-listing pieces room = rw (sent-stream pieces room) at (whole-listing (send 1024 (freshOf 1024) pieces) (only-sent pieces (freshOf 1024)))
+sent-listing limit small pieces room =
+    rw (sent-stream limit small pieces room) at (whole-listing limit small (send limit (freshOf limit) pieces) (only-sent limit pieces (freshOf limit)))
 
-pub any-cut : AnyCut
-any-cut =
+pub any-cut : AnyCuts
+any-cut limit small =
     record {
-      calls = λ ps qs p q e. one-listing _ _ _ (whole-listing ps p) (rw e (whole-listing qs q));
-      pieces = λ ps qs e room. one-listing _ _ _ (sent-listing ps room) (rw e (sent-listing qs (rw e at room)));
+      calls = λ ps qs p q e. one-listing limit _ _ _ (whole-listing limit small ps p) (rw e (whole-listing limit small qs q));
+      pieces = λ ps qs e room. one-listing limit _ _ _ (sent-listing limit small ps room) (rw e (sent-listing limit small qs (rw e at room)));
     }

@@ -4,6 +4,7 @@ use mathlib.Core.Path.{_≡_}
 use mathlib.Core.List.{List, [], _∷_, _++_, List·Memᴰ}
 use lib.ListN.{length, getD}
 use Rattle.base.specs.Rows.{Row, row}
+use Rattle.frame.specs.Wire.{widest, frameLimit}
 use Rattle.frame.specs.Calls.{freshOf}
 use Rattle.frame.specs.Logs.{Call, give, ask, Entry, logOf, stream, offer, send, joined}
 use Rattle.frame.specs.Lines.{Line, linesOf, Answers, IsOpen}
@@ -65,7 +66,7 @@ pub record Longest : Type 0 where
 
 -- the text of a call: the line of what it was answered, or the last line
 abbrev pub textIn : Call → Entry → List ℕ
-textIn (give bytes) e = answerText (e .row) (e .held)
+textIn (give bytes) e = answerText (e .row) (e .after .body)
 textIn ask e = lastOf (e .row)
 
 -- of a list of calls
@@ -74,8 +75,8 @@ textsOf [] = []
 textsOf (e ∷ es) = textIn (e .call) e ++ textsOf es
 
 -- the listing of calls of a fresh reader
-abbrev pub listingOf : List Call → List ℕ
-listingOf calls = headingText ++ textsOf (logOf 1024 (freshOf 1024) calls)
+abbrev pub listingOf : ℕ → List Call → List ℕ
+listingOf limit calls = headingText ++ textsOf (logOf limit (freshOf limit) calls)
 
 -- the stream of the example
 abbrev pub paperStream : List ℕ
@@ -88,23 +89,23 @@ paperStream =
 -- it is offered until it is taken, and then the end is asked
 abbrev pub PaperListing : Type 0
 PaperListing =
-    listingOf (offer 1024 3 (freshOf 1024) paperStream ++ ask ∷ [])
+    listingOf frameLimit (offer frameLimit 3 (freshOf frameLimit) paperStream ++ ask ∷ [])
     ≡ ascii "kind start end cmd sn flags payload\nframe 1 10 7 1 0 0\ncut 10 17 - - - -\nframe 15 25 7 243 0 0\nclean 25\n"
 
 -- ---- each-kind: a listing for each kind of line that the paper's example lacks
 pub record EachKind : Type 0 where
-  pub short : listingOf (give (0xFF ∷ 0xFF ∷ 0x00 ∷ 0x04 ∷ []) ∷ ask ∷ []) ≡ headingText ++ ascii "short 0 4 - - - -\nclean 4\n"
-  pub long : listingOf (give (0xFF ∷ 0xFF ∷ 0xFF ∷ 0x55 ∷ 0x00 ∷ []) ∷ ask ∷ []) ≡ headingText ++ ascii "long 1 5 - - - -\nclean 5\n"
-  pub stuff : listingOf (give (0xFF ∷ 0xFF ∷ 0x00 ∷ 0x05 ∷ 0x07 ∷ 0xFF ∷ 0x00 ∷ []) ∷ ask ∷ []) ≡ headingText ++ ascii "stuff 0 7 - - - -\nclean 7\n"
-  pub sum : listingOf (give (0xFF ∷ 0xFF ∷ 0x00 ∷ 0x05 ∷ 0x07 ∷ 0x01 ∷ 0x00 ∷ 0x00 ∷ 0x0E ∷ []) ∷ ask ∷ []) ≡ headingText ++ ascii "sum 0 9 - - - -\nclean 9\n"
-  pub left-open : listingOf (give (0xFF ∷ 0xFF ∷ 0xFF ∷ 0x00 ∷ 0x05 ∷ []) ∷ ask ∷ []) ≡ headingText ++ ascii "open 1\n"
+  pub short : listingOf frameLimit (give (0xFF ∷ 0xFF ∷ 0x00 ∷ 0x04 ∷ []) ∷ ask ∷ []) ≡ headingText ++ ascii "short 0 4 - - - -\nclean 4\n"
+  pub long : listingOf frameLimit (give (0xFF ∷ 0xFF ∷ 0xFF ∷ 0x55 ∷ 0x00 ∷ []) ∷ ask ∷ []) ≡ headingText ++ ascii "long 1 5 - - - -\nclean 5\n"
+  pub stuff : listingOf frameLimit (give (0xFF ∷ 0xFF ∷ 0x00 ∷ 0x05 ∷ 0x07 ∷ 0xFF ∷ 0x00 ∷ []) ∷ ask ∷ []) ≡ headingText ++ ascii "stuff 0 7 - - - -\nclean 7\n"
+  pub sum : listingOf frameLimit (give (0xFF ∷ 0xFF ∷ 0x00 ∷ 0x05 ∷ 0x07 ∷ 0x01 ∷ 0x00 ∷ 0x00 ∷ 0x0E ∷ []) ∷ ask ∷ []) ≡ headingText ++ ascii "sum 0 9 - - - -\nclean 9\n"
+  pub left-open : listingOf frameLimit (give (0xFF ∷ 0xFF ∷ 0xFF ∷ 0x00 ∷ 0x05 ∷ []) ∷ ask ∷ []) ≡ headingText ++ ascii "open 1\n"
 
 -- ---- each-listed: of every list of calls of a fresh reader, the lines' text is that of the table's lines over the bytes taken, in order: frame's claim
 -- `each-line` says that `linesOf` has them all, each once, nothing else
 
 -- the text of the answers to bytes given, which stands between the heading and the last line
 abbrev pub givenIn : Call → Entry → List ℕ
-givenIn (give bytes) e = answerText (e .row) (e .held)
+givenIn (give bytes) e = answerText (e .row) (e .after .body)
 givenIn ask e = []
 
 -- of a list of calls
@@ -123,16 +124,18 @@ linesText (l ∷ ls) = lineText l ++ linesText ls
 
 -- of every list of calls
 abbrev pub EachListed : Type 0
-EachListed = (calls : List Call) → givenText (logOf 1024 (freshOf 1024) calls) ≡ linesText (linesOf (logOf 1024 (freshOf 1024) calls))
+EachListed =
+    (limit : ℕ) → limit ≤ widest → (calls : List Call)
+    → givenText (logOf limit (freshOf limit) calls) ≡ linesText (linesOf (logOf limit (freshOf limit) calls))
 
 -- ---- whole-listing: the bytes taken alone decide the listing, in whatever pieces they were given
 
 -- the text is the listing of the stream t: heading, the table's lines over t, and the last line
-pub record IsListing (t text : List ℕ) : Type 0 where
+pub record IsListing (limit : ℕ) (t text : List ℕ) : Type 0 where
   pub lines : List Line
-  pub answers : Answers 1024 t lines
-  pub left-open : (start : ℕ) → IsOpen 1024 t start → text ≡ headingText ++ (linesText lines ++ lastOf (row 16 (length t ∷ start ∷ [])))
-  pub left-clean : ((start : ℕ) → IsOpen 1024 t start → ⊥) → text ≡ headingText ++ (linesText lines ++ lastOf (row 2 (length t ∷ [])))
+  pub answers : Answers limit t lines
+  pub left-open : (start : ℕ) → IsOpen limit t start → text ≡ headingText ++ (linesText lines ++ lastOf (row 16 (length t ∷ start ∷ [])))
+  pub left-clean : ((start : ℕ) → IsOpen limit t start → ⊥) → text ≡ headingText ++ (linesText lines ++ lastOf (row 2 (length t ∷ [])))
 
 -- the calls give bytes, and none asks the end
 abbrev pub OnlyGive : List Call → Type 0
@@ -142,20 +145,27 @@ OnlyGive (ask ∷ cs) = ⊥
 
 -- of all calls that give bytes, with the end asked behind them
 abbrev pub WholeListing : Type 0
-WholeListing = (calls : List Call) → OnlyGive calls → IsListing (stream (logOf 1024 (freshOf 1024) calls)) (listingOf (calls ++ ask ∷ []))
+WholeListing =
+    (limit : ℕ) → limit ≤ widest → (calls : List Call) → OnlyGive calls
+    → IsListing limit (stream (logOf limit (freshOf limit) calls)) (listingOf limit (calls ++ ask ∷ []))
 
 -- ---- one-listing: a stream has one listing
 abbrev pub OneListing : Type 0
-OneListing = (t a b : List ℕ) → IsListing t a → IsListing t b → a ≡ b
+OneListing = (limit : ℕ) (t a b : List ℕ) → IsListing limit t a → IsListing limit t b → a ≡ b
 
 -- ---- sent-listing: a sender that offers each piece until it is taken gets the listing of all its bytes, up to 2^62
 abbrev pub SentListing : Type 0
 SentListing =
-    (pieces : List (List ℕ)) → length (joined pieces) ≤ 2 ^ 62 → IsListing (joined pieces) (listingOf (send 1024 (freshOf 1024) pieces ++ ask ∷ []))
+    (limit : ℕ) → limit ≤ widest → (pieces : List (List ℕ)) → length (joined pieces) ≤ 2 ^ 62
+    → IsListing limit (joined pieces) (listingOf limit (send limit (freshOf limit) pieces ++ ask ∷ []))
 
 -- ---- any-cut: the same bytes have the same listing, however they are cut: into calls that took them, or into pieces that are sent
-pub record AnyCut : Type 0 where
-  pub calls : (ps qs : List Call) → OnlyGive ps → OnlyGive qs → stream (logOf 1024 (freshOf 1024) ps) ≡ stream (logOf 1024 (freshOf 1024) qs)
-      → listingOf (ps ++ ask ∷ []) ≡ listingOf (qs ++ ask ∷ [])
+pub record AnyCut (limit : ℕ) : Type 0 where
+  pub calls : (ps qs : List Call) → OnlyGive ps → OnlyGive qs → stream (logOf limit (freshOf limit) ps) ≡ stream (logOf limit (freshOf limit) qs)
+      → listingOf limit (ps ++ ask ∷ []) ≡ listingOf limit (qs ++ ask ∷ [])
   pub pieces : (ps qs : List (List ℕ)) → joined ps ≡ joined qs → length (joined ps) ≤ 2 ^ 62
-      → listingOf (send 1024 (freshOf 1024) ps ++ ask ∷ []) ≡ listingOf (send 1024 (freshOf 1024) qs ++ ask ∷ [])
+      → listingOf limit (send limit (freshOf limit) ps ++ ask ∷ []) ≡ listingOf limit (send limit (freshOf limit) qs ++ ask ∷ [])
+
+-- of every limit
+abbrev pub AnyCuts : Type 0
+AnyCuts = (limit : ℕ) → limit ≤ widest → AnyCut limit

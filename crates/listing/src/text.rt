@@ -5,10 +5,10 @@ ghost use mathlib.Core.Path.{_≡_};
 ghost use Prim.Native.Nat.{_+_, _*_, _≤_};
 ghost use lib.ListN.{length};
 ghost use lib.Seq.{sets};
-ghost use Rattle.base.specs.Outcomes.{outcome, writtenIn, placed};
+ghost use Rattle.base.specs.Outcomes.{writtenIn};
 ghost use Rattle.listing.specs.Decimal.{columnsOf};
 ghost use Rattle.listing.specs.Lines.{textOf};
-ghost use Rattle.listing.specs.Table.{linedRowOf};
+ghost use Rattle.listing.specs.Table.{linedRowOf, Puts};
 
 // What a text to be put at the front of an output is answered.
 pub enum Lined {
@@ -73,7 +73,7 @@ fn put_bytes(out: &mut [u8], at: usize, bytes: &[u8]) -> usize
 // A line at the front of the output, or refused with the output as it was.
 pub(crate) fn put_line(word: &[u8], numbers: &[u64], rest: &[u8], out: &mut [u8]) -> Lined
     requires { ⌜ (length (now word) ≤ 64) × (length (now numbers) ≤ 16) × (length (now rest) ≤ 64) ⌝ }
-    ensures { λ r. ⌜ outcome (linedRowOf r) (now (out .exit)) ≡ placed (textOf (now (word .entry)) (now (numbers .entry)) (now (rest .entry))) (now (out .entry)) ⌝ }
+    ensures { λ r. ⌜ Puts r (now (out .exit)) (textOf (now (word .entry)) (now (numbers .entry)) (now (rest .entry))) (now (out .entry)) ⌝ }
 {
     let size = word.len() + columns_width(numbers) + rest.len();
     if out.len() < size {
