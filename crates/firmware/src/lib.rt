@@ -1,6 +1,7 @@
 // The frame writer for the box's C firmware, under one exported name.
 use frame::Written;
 ghost use mathlib.Core.Path.{_≡_};
+ghost use Rattle.frame.specs.Wire.{frameLimit};
 ghost use Rattle.frame.specs.Calls.{writeOf};
 ghost use Rattle.firmware.specs.Code.{returned, returnedOf};
 
@@ -16,7 +17,7 @@ pub extern "C" fn trogonreed_write_frame(
     payload: &[u8],
     out: &mut [u8],
 ) -> u32
-    ensures { λ r. ⌜ returned r (now (out .exit)) ≡ returnedOf (writeOf 1024 command number flags (now (payload .entry)) (now (out .entry))) ⌝ }
+    ensures { λ r. ⌜ returned r (now (out .exit)) ≡ returnedOf (writeOf frameLimit command number flags (now (payload .entry)) (now (out .entry))) ⌝ }
 {
     let written = frame::write(command, number, flags, payload, out);
     match written {

@@ -3,6 +3,7 @@ use mathlib.Core.Path.{ap}
 use native.Mathlib.Omega.{arith}
 use borrow.Author.Needs.{needs}
 use Rattle.base.specs.Outcomes.{Write}
+use Rattle.frame.specs.Wire.{frameLimit}
 use Rattle.firmware.specs.Code.{countIn, returnedOf}
 use Rattle.firmware.specs.Claims.{Given, answered}
 use Rattle.firmware.proofs.Codes.{counts-below}
@@ -24,8 +25,8 @@ cast-result c =
     let w = c .before .before .before .before .before in
     let args = w .before .before .before .before .args in
     let given : Given = record { command = args .command; number = args .number; flags = args .flags; payload = args .payload .now; out = args .out .now } in
-    let count = ap (λ (a : Write). countIn (a .row)) {y = answered given} (rw (c .before .written .given .1) at (w .write .ensures)) in
-    record { fits = omega (arith, counts-below given, count) }
+    let count = ap (λ (a : Write). countIn (a .row)) {y = answered frameLimit given} (rw (c .before .written .given .1) at (w .write .ensures)) in
+    record { fits = omega (arith, counts-below .ours given, count) }
 
 pub trogonreed-write-frame-spec : {M : Type 1} → statement M
 trogonreed-write-frame-spec =

@@ -4,6 +4,8 @@ use mathlib.Core.Path.{_≡_, ap, _∙_}
 use mathlib.Core.List.{List}
 use native.Mathlib.Omega.{arith}
 use lib.ListN.{length, take, drop, length-take}
+use Rattle.frame.specs.Wire.{frameLimit}
+use Rattle.frame.specs.State.{stateOf}
 use Rattle.frame.specs.Table.{countOf}
 use Rattle.frame.specs.Calls.{Reply}
 use Rattle.frame.proofs.Counts.{within}
@@ -29,7 +31,7 @@ module _ (c : tie.After-count Inv-loop μ-loop) where
   taken =
       let left = take (length bytes - at) (drop at bytes) in
       let told = c .count .ensures ∙ ap (λ (y : Reply). countOf (y .row)) (c .before .before .feed .ensures) in
-      omega (arith, told, within 1024 (c .before .before .before .before .before .loop .next) left, length-take (length bytes - at) (drop at bytes))
+      omega (arith, told, within frameLimit (stateOf (c .before .before .before .before .before .loop .next)) left, length-take (length bytes - at) (drop at bytes))
 
 add-at : tie.Need-add-at Inv-loop μ-loop
 add-at c = omega (arith, taken (c .before))
