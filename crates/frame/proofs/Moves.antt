@@ -127,168 +127,174 @@ wire-none e = rw e refl
 
 -- ---- a body byte
 
-module _ (limit : ℕ) (f : Phase) (t st h l m : ℕ) (body : List ℕ) (room : length body ≡ limit + 2) (inside : h ≤ limit + 1)
-    (p : Partial limit h l m (take h body)) (v : ℕ) (first : getD (take h body ++ v ∷ []) 0 0 ≢ 255)
-    (place : suc t ≡ st + length (wire (take h body ++ v ∷ []))) where
-  abbrev from : State
-  from = record { scan = record { phase = f; taken = t; start = st; have = h; length = l; sum = m }; body = body }
+-- the next body byte v of the state r, whatever its phase, stands in the stream
+module _ (limit : ℕ) (r : State) (room : length (r .body) ≡ limit + 2) (inside : r .scan .have ≤ limit + 1)
+    (p : Partial limit (r .scan .have) (r .scan .length) (r .scan .sum) (held r)) (v : ℕ) (first : getD (held r ++ v ∷ []) 0 0 ≢ 255)
+    (place : suc (r .scan .taken) ≡ r .scan .start + length (wire (held r ++ v ∷ []))) where
+  abbrev h : ℕ
+  h = r .scan .have
 
-  abbrev grown-body : List ℕ
-  grown-body = take h body ++ v ∷ []
+  abbrev st : ℕ
+  st = r .scan .start
+
+  abbrev grown : List ℕ
+  grown = held r ++ v ∷ []
 
   abbrev Moves : Step → Type 0
-  Moves s = Moved limit st (λ t. wire grown-body ++ t) from s
+  Moves s = Moved limit st (λ t. wire grown ++ t) r s
 
-  in-place : take (h + 1) (set body h v) ≡ grown-body
-  in-place = stored body h v (omega arith)
+  some : 1 ≤ length grown
+  some = omega (arith, size p v)
 
-  goes-on : (k : ℕ) → h ≤ limit → Partial limit (h + 1) k ((m + v) % 2 ^ 8) grown-body → Moves (grownOf (from .scan) k v)
+  goes-on : (k : ℕ) → h ≤ limit → Partial limit (h + 1) k ((r .scan .sum + v) % 2 ^ 8) grown → Moves (grownOf (r .scan) k v)
   goes-on k low q =
+      let in-place : take (h + 1) (set (r .body) h v) ≡ grown = stored (r .body) h v (omega arith) in
       record {
-        one = add-one t;
+        one = add-one (r .scan .taken);
         holds = record {
-          phase = rw in-place (record { some-byte = omega (arith, size p v); place = omega arith; part = q });
-          room = length-set body h v ∙ room;
+          phase = rw in-place (record { some-byte = some; place = omega arith; part = q });
+          room = length-set (r .body) h v ∙ room;
           inside = omega arith;
         };
-        frames = λ r. rw in-place refl;
+        frames = λ t. rw in-place refl;
       }
+
+  -- the frame ends
+  ended : (e : Verdict) → ((t : List ℕ) → framesFrom limit st (wire grown ++ t) ≡ handedBy (Decided e) (foundBy r (endedOf (r .scan) v e)) (framesFrom limit (r .scan .taken + 1) t))
+      → Moves (endedOf (r .scan) v e)
+  ended e f =
+      record { one = add-one (r .scan .taken); holds = record { phase = tt; room = length-set (r .body) h v ∙ room; inside = omega arith }; frames = f }
 
   -- a refused frame is none
-  refused : (e : Verdict) → eqb (codeOf e) 1 ≡ false → ((r : List ℕ) → here limit (wire grown-body ++ r) ≡ none) → Moves (endedOf (from .scan) v e)
+  refused : (e : Verdict) → eqb (codeOf e) 1 ≡ false → ((t : List ℕ) → here limit (wire grown ++ t) ≡ none) → Moves (endedOf (r .scan) v e)
   refused e other none-here =
-      record {
-        one = add-one t;
-        holds = record { phase = tt; room = length-set body h v ∙ room; inside = omega arith };
-        frames = λ r.
-            pass-wire limit grown-body r st (omega (arith, size p v)) first (none-here r) ∙ at-place limit r {n = t + 1} (omega arith) ∙ rw other;
-      }
+      ended e (λ t. pass-wire limit grown t st some first (none-here t) ∙ at-place limit t {n = r .scan .taken + 1} (omega arith) ∙ rw other)
 
-  completes : Good limit grown-body → Moves (endedOf (from .scan) v Frame)
+  completes : Good limit grown → Moves (endedOf (r .scan) v Frame)
   completes g =
-      record {
-        one = add-one t;
-        holds = record { phase = tt; room = length-set body h v ∙ room; inside = omega arith };
-        frames = λ r.
-            take-wire limit grown-body r st (omega (arith, size p v)) first g
-            ∙ ap (λ (l : List Found). record { start = st; end = st + length (wire grown-body); body = grown-body } ∷ l) (at-place limit r (omega arith))
-            ∙ ap (λ (g : Found). g ∷ framesFrom limit (t + 1) r) (found-path refl (omega arith) (sym (whole-held body h v (omega arith) (g .true-length))));
-      }
+      ended Frame (λ t.
+      take-wire limit grown t st some first g
+      ∙ ap (λ (l : List Found). record { start = st; end = st + length (wire grown); body = grown } ∷ l) (at-place limit t (omega arith))
+      ∙ ap (λ (f : Found). f ∷ framesFrom limit (r .scan .taken + 1) t) (found-path refl (omega arith) (sym (whole-held (r .body) h v (omega arith) (g .true-length)))))
 
-  ended-moves : (e : Verdict) → Ends limit grown-body e → Moves (endedOf (from .scan) v e)
+  ended-moves : (e : Verdict) → Ends limit grown e → Moves (endedOf (r .scan) v e)
   unfolding isGood sumHolds
   ended-moves Frame q = completes q
-  ended-moves Short q = refused Short refl (λ r. none-short limit grown-body r (omega (arith, q .0)) (q .1))
-  ended-moves Long q = refused Long refl (λ r. none-long limit grown-body r (omega (arith, q .0)) (q .3))
+  ended-moves Short q = refused Short refl (λ t. none-short limit grown t (omega (arith, q .0)) (q .1))
+  ended-moves Long q = refused Long refl (λ t. none-long limit grown t (omega (arith, q .0)) (q .3))
   ended-moves Stuff q = absurd q
   ended-moves Cut q = absurd q
   ended-moves Sum q =
-      refused Sum refl (λ r. none-sum limit grown-body r (q .0)
-      (rw (eq-eqb (length grown-body) (lengthOf grown-body + 2) (q .0), le-leb 5 (lengthOf grown-body) (q .1), le-leb (lengthOf grown-body) limit (q .2))
-      (ne-eqb (sumIn grown-body) (sumDue grown-body) (q .3))))
+      refused Sum refl (λ t. none-sum limit grown t (q .0)
+      (rw (eq-eqb (length grown) (lengthOf grown + 2) (q .0), le-leb 5 (lengthOf grown) (q .1), le-leb (lengthOf grown) limit (q .2))
+      (ne-eqb (sumIn grown) (sumDue grown) (q .3))))
 
-  pub body-moves : Moves (bodyByteOf limit (from .scan) v)
-  body-moves = body-cases (from .scan) p v first Moves goes-on ended-moves
+  pub body-moves : Moves (bodyByteOf limit (r .scan) v)
+  body-moves = body-cases (r .scan) p v first Moves goes-on ended-moves
 
 -- ---- a raw byte, by phase
 
-module _ (limit : ℕ) (small : limit ≤ 65279) (t st h l m : ℕ) (body : List ℕ) (room : length body ≡ limit + 2) (inside : h ≤ limit + 1) where
-  abbrev scanIn : Phase → Scan
-  scanIn f = record { phase = f; taken = t; start = st; have = h; length = l; sum = m }
+module _ (limit : ℕ) (small : limit ≤ 65279) (r : State) (room : length (r .body) ≡ limit + 2) (inside : r .scan .have ≤ limit + 1) where
+  abbrev b : List ℕ
+  b = held r
 
-  abbrev readerIn : Phase → State
-  readerIn f = record { scan = scanIn f; body = body }
+  abbrev at : ℕ
+  at = r .scan .start
+
+  abbrev Start : Phase → Type 0
+  Start f = InvIn limit f (r .scan) b
 
   abbrev MovesFrom : Phase → ℕ → Step → Type 0
-  MovesFrom f x s = Moved limit (originIn f (scanIn f)) (λ r. pendingIn f (take h body) ++ x ∷ r) (readerIn f) s
+  MovesFrom f x s = Moved limit (originIn f (r .scan)) (λ t. pendingIn f b ++ x ∷ t) r s
 
-  -- a header is made
-  header-holds : {k : ℕ} → t ≡ suc k → InvIn limit Header (record { phase = Header; taken = (t + 1); start = (t - 1); have = 0; length = 0; sum = 0 }) []
-  header-holds e = (omega arith, refl, refl)
+  one : r .scan .taken + 1 ≡ suc (r .scan .taken)
+  one = add-one (r .scan .taken)
 
-  ff-moves : (f : Phase) → InvIn limit f (scanIn f) (take h body) → MovesFrom f 255 (onFFIn f (scanIn f))
-  ff-moves Idle i =
-      record {
-        one = add-one t;
-        holds = record { phase = omega arith; room = room; inside = omega arith };
-        frames = λ r. at-place limit (255 ∷ r) (omega arith);
-      }
-  ff-moves Half i =
-      record { one = add-one t; holds = record { phase = (omega arith, refl, refl); room = room; inside = omega arith }; frames = λ r. refl }
-  ff-moves Header i =
-      record {
-        one = add-one t;
-        holds = record { phase = (omega arith, refl, refl); room = room; inside = omega arith };
-        frames = λ r. pass-triple limit small st r ∙ at-place limit (255 ∷ 255 ∷ r) (omega (arith, i .0));
-      }
-  ff-moves Open i =
-      record {
-        one = add-one t;
-        holds = record { phase = record { some-byte = i .some-byte; place = omega (arith, i .place); part = i .part }; room = room; inside = inside };
-        frames = λ r. ap (λ (k : List ℕ). framesFrom limit st k) (sym (wire-wait (take h body) r));
-      }
-  ff-moves Escape i =
-      record {
-        one = add-one t;
-        holds = record { phase = (omega (arith, i .place), refl, refl); room = room; inside = omega arith };
-        frames = λ r.
-            ap (λ (k : List ℕ). framesFrom limit st k) (wire-wait (take h body) (255 ∷ r))
-            ∙ pass-wire limit (take h body) (255 ∷ 255 ∷ r) st (i .some-byte) (i .part .first) (none-broken limit (take h body) 255 r (rw (i .part .count) (i .part .under)) (omega arith))
-            ∙ at-place limit (255 ∷ 255 ∷ r) (omega (arith, i .place));
-      }
-
-  other-moves : (x : ℕ) → x ≢ 255 → (f : Phase) → InvIn limit f (scanIn f) (take h body) → MovesFrom f x (onOtherIn f limit (scanIn f) x)
-  other-moves x k Idle i =
-      record {
-        one = add-one t;
-        holds = record { phase = tt; room = room; inside = omega arith };
-        frames = λ r. pass-other limit t x r k ∙ at-place limit r (omega arith);
-      }
-  other-moves x k Half i =
-      record {
-        one = add-one t;
-        holds = record { phase = tt; room = room; inside = omega arith };
-        frames = λ r. pass-pair limit (t - 1) 255 x r k ∙ pass-other limit (suc (t - 1)) x r k ∙ at-place limit r (omega arith);
-      }
-  other-moves x k Header i =
-      let p : Partial limit h l m (take h body) = partial-none body (i .1) (i .2) in
-      let none-yet : take h body ≡ [] = ap (λ (j : ℕ). take j body) (i .1) in
-      let e : getD (take h body ++ x ∷ []) 0 0 ≡ x = getD-at (take h body) x [] 0 0 (p .count ∙ i .1) in
-      let n : length (wire (take h body)) ≡ 2 = ap length (wire-none none-yet) in
-      let m = body-moves limit Header t st h l m body room inside p x (λ q. k (sym e ∙ q)) (omega (arith, length-snoc (take h body) x k, i .0)) in
-      record { one = m .one; holds = m .holds; frames = λ r. ap (λ (j : List ℕ). framesFrom limit st j) (ap (λ (j : List ℕ). j ++ x ∷ r) (sym (wire-none none-yet)) ∙ sym (wire-snoc (take h body) x r k)) ∙ m .frames r }
-  other-moves x k Open i =
-      let m = body-moves limit Open t st h l m body room inside (i .part) x (first-on (i .part) x (i .some-byte)) (omega (arith, length-snoc (take h body) x k, i .place)) in
-      record { one = m .one; holds = m .holds; frames = λ r. ap (λ (j : List ℕ). framesFrom limit st j) (sym (wire-snoc (take h body) x r k)) ∙ m .frames r }
-  other-moves x k Escape i =
-      by-test (MovesFrom Escape x) (eqb x 85)
-      (λ q.
-      let m = body-moves limit Escape t st h l m body room inside (i .part) 255 (first-on (i .part) 255 (i .some-byte)) (omega (arith, length-ff (take h body), i .place)) in
+  -- raw bytes that are the wire form with one body byte more
+  on-body : (f : Phase) (x v : ℕ) → Partial limit (r .scan .have) (r .scan .length) (r .scan .sum) b → getD (b ++ v ∷ []) 0 0 ≢ 255
+      → suc (r .scan .taken) ≡ at + length (wire (b ++ v ∷ [])) → originIn f (r .scan) ≡ at
+      → ((t : List ℕ) → pendingIn f b ++ x ∷ t ≡ wire (b ++ v ∷ []) ++ t) → MovesFrom f x (bodyByteOf limit (r .scan) v)
+  on-body f x v p first place o same =
+      let m = body-moves limit r room inside p v first place in
       record {
         one = m .one;
         holds = m .holds;
-        frames = λ r. rw (eqb-true x 85 q) (ap (λ (j : List ℕ). framesFrom limit st j) (wire-wait (take h body) (85 ∷ r) ∙ sym (wire-ff (take h body) r)) ∙ m .frames r);
-      })
-      (λ q.
-      record {
-        one = add-one t;
-        holds = record { phase = tt; room = room; inside = omega arith };
-        frames = λ r.
-            ap (λ (j : List ℕ). framesFrom limit st j) (wire-wait (take h body) (x ∷ r))
-            ∙ pass-wire limit (take h body) (255 ∷ x ∷ r) st (i .some-byte) (i .part .first) (none-broken limit (take h body) x r (rw (i .part .count) (i .part .under)) (eqb-false x 85 q))
-            ∙ pass-pair limit (st + length (wire (take h body))) 255 x r k ∙ pass-other limit (suc (st + length (wire (take h body)))) x r k ∙ at-place limit r (omega (arith, i .place));
-      })
+        frames = λ t. at-place limit (pendingIn f b ++ x ∷ t) o ∙ ap (λ (j : List ℕ). framesFrom limit at j) (same t) ∙ m .frames t;
+      }
 
-  byte-moves : (x : ℕ) (f : Phase) → InvIn limit f (scanIn f) (take h body) → MovesFrom f x (advanceOf limit (scanIn f) x)
-  byte-moves x f i =
-      by-test (MovesFrom f x) (eqb x 255)
-      (λ q. rw (eqb-true x 255 q) (ff-moves f i))
-      (λ q. other-moves x (eqb-false x 255 q) f i)
+  -- a frame that is begun, before bytes that it cannot go on with, is none
+  broken : (x : ℕ) (t : List ℕ) {n : ℕ} → Begun limit (r .scan) b n → x ≢ 85 → framesFrom limit at (wire b ++ 255 ∷ x ∷ t) ≡ framesFrom limit (at + length (wire b)) (255 ∷ x ∷ t)
+  broken x t i k =
+      pass-wire limit b (255 ∷ x ∷ t) at (i .some-byte) (i .part .first) (none-broken limit b x t (rw (i .part .count) (i .part .under)) k)
+
+  ff-moves : (f : Phase) → Start f → MovesFrom f 255 (onFFIn f (r .scan))
+  ff-moves Idle i =
+      record { one = one; holds = record { phase = omega arith; room = room; inside = omega arith }; frames = λ t. at-place limit (255 ∷ t) (omega arith) }
+  ff-moves Half i = record { one = one; holds = record { phase = (omega arith, refl, refl); room = room; inside = omega arith }; frames = λ t. refl }
+  ff-moves Header i =
+      record {
+        one = one;
+        holds = record { phase = (omega arith, refl, refl); room = room; inside = omega arith };
+        frames = λ t. pass-triple limit small at t ∙ at-place limit (255 ∷ 255 ∷ t) (omega (arith, i .0));
+      }
+  ff-moves Open i =
+      record {
+        one = one;
+        holds = record { phase = record { some-byte = i .some-byte; place = omega (arith, i .place); part = i .part }; room = room; inside = inside };
+        frames = λ t. ap (λ (k : List ℕ). framesFrom limit at k) (sym (wire-wait b t));
+      }
+  ff-moves Escape i =
+      record {
+        one = one;
+        holds = record { phase = (omega (arith, i .place), refl, refl); room = room; inside = omega arith };
+        frames = λ t.
+            ap (λ (k : List ℕ). framesFrom limit at k) (wire-wait b (255 ∷ t)) ∙ broken 255 t i (omega arith)
+            ∙ at-place limit (255 ∷ 255 ∷ t) (omega (arith, i .place));
+      }
+
+  other-moves : (x : ℕ) → x ≢ 255 → (f : Phase) → Start f → MovesFrom f x (onOtherIn f limit (r .scan) x)
+  other-moves x k Idle i =
+      record {
+        one = one;
+        holds = record { phase = tt; room = room; inside = omega arith };
+        frames = λ t. pass-other limit (r .scan .taken) x t k ∙ at-place limit t (omega arith);
+      }
+  other-moves x k Half i =
+      let o : ℕ = r .scan .taken - 1 in
+      record {
+        one = one;
+        holds = record { phase = tt; room = room; inside = omega arith };
+        frames = λ t. pass-pair limit o 255 x t k ∙ pass-other limit (suc o) x t k ∙ at-place limit t (omega arith);
+      }
+  other-moves x k Header i =
+      let p = partial-none (r .body) (i .1) (i .2) in
+      let none-yet : b ≡ [] = ap (λ (j : ℕ). take j (r .body)) (i .1) in
+      let e : getD (b ++ x ∷ []) 0 0 ≡ x = getD-at b x [] 0 0 (p .count ∙ i .1) in
+      let n : length (wire b) ≡ 2 = ap length (wire-none none-yet) in
+      on-body Header x x p (λ q. k (sym e ∙ q)) (omega (arith, length-snoc b x k, i .0)) refl
+      (λ t. ap (λ (j : List ℕ). j ++ x ∷ t) (sym (wire-none none-yet)) ∙ sym (wire-snoc b x t k))
+  other-moves x k Open i =
+      on-body Open x x (i .part) (first-on (i .part) x (i .some-byte)) (omega (arith, length-snoc b x k, i .place)) refl (λ t. sym (wire-snoc b x t k))
+  other-moves x k Escape i =
+      by-test (MovesFrom Escape x) (eqb x 85)
+      (λ q. on-body Escape x 255 (i .part) (first-on (i .part) 255 (i .some-byte)) (omega (arith, length-ff b, i .place)) refl
+      (λ t. rw (eqb-true x 85 q) (wire-wait b (85 ∷ t) ∙ sym (wire-ff b t))))
+      (λ q.
+      let n : ℕ = at + length (wire b) in
+      record {
+        one = one;
+        holds = record { phase = tt; room = room; inside = omega arith };
+        frames = λ t.
+            ap (λ (j : List ℕ). framesFrom limit at j) (wire-wait b (x ∷ t)) ∙ broken x t i (eqb-false x 85 q)
+            ∙ pass-pair limit n 255 x t k ∙ pass-other limit (suc n) x t k ∙ at-place limit t (omega (arith, i .place));
+      })
 
 -- a raw byte, of any reader that the calls can reach
 pub moves : (limit : ℕ) → limit ≤ 65279 → (r : State) (x : ℕ) → Inv limit r → Moved limit (origin r) (λ t. pending r ++ x ∷ t) r (advanceOf limit (r .scan) x)
 moves limit small r x i =
-    byte-moves limit small (r .scan .taken) (r .scan .start) (r .scan .have) (r .scan .length) (r .scan .sum) (r .body) (i .room) (i .inside) x (r .scan .phase) (i .phase)
+    by-test (MovesFrom limit small r (i .room) (i .inside) (r .scan .phase) x) (eqb x 255)
+    (λ q. rw (eqb-true x 255 q) (ff-moves limit small r (i .room) (i .inside) (r .scan .phase) (i .phase)))
+    (λ q. other-moves limit small r (i .room) (i .inside) x (eqb-false x 255 q) (r .scan .phase) (i .phase))
 
 -- ---- where a frame begins or the bytes end
 
