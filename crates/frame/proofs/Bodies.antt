@@ -17,8 +17,7 @@ use Rattle.frame.specs.Lines.{Unfinished}
 use Rattle.frame.specs.Rules.{grownOf, endedOf, completedOf, bodyByteOf}
 use Rattle.frame.specs.declared.scan.Verdict.{Verdict}
 use Rattle.frame.specs.declared.scan.Verdict.the-variants.{Frame, Short, Long, Stuff, Cut, Sum}
-use Rattle.frame.specs.State.{Scan}
-use Rattle.frame.specs.State.{Step}
+use Rattle.frame.specs.State.{Scan, Step}
 use Rattle.base.proofs.Tests.{by-test}
 use Rattle.base.proofs.Sums.{checksum-snoc}
 use Rattle.frame.proofs.Here.{lengthOf-append}

@@ -12,12 +12,11 @@ use Rattle.frame.specs.Rules.{advanceOf, decidesOf, inRangeOf}
 use Rattle.frame.specs.Calls.{Reply, reply, nextOf, endingRow, runOf}
 use Rattle.frame.specs.Logs.{Call, give, ask, callOf, entryOf, logOf, stateAfter, offered, takenBy, stream, decided}
 use Rattle.frame.specs.Lines.{Line, lined, linesOf, heldUnder}
-use Rattle.frame.specs.State.{Phase, Idle, Half, Header, Open, Escape}
+use Rattle.frame.specs.State.{Phase, Idle, Half, Header, Open, Escape, State}
 use Rattle.frame.specs.declared.scan.Event.{Event}
 use Rattle.frame.specs.declared.scan.Event.the-variants.{Quiet, Decided}
 use Rattle.frame.specs.declared.scan.Verdict.{Verdict}
 use Rattle.frame.specs.declared.scan.Verdict.the-variants.{Frame, Short, Long, Stuff, Cut, Sum}
-use Rattle.frame.specs.State.{State}
 use Rattle.base.proofs.Tests.{by-test}
 use Rattle.frame.proofs.Counts.{count-event}
 use Rattle.frame.proofs.Moves.{Inv, moves}

@@ -2,22 +2,19 @@
 use Prim.Native.Nat.{ℕ, _+_, _≤_}
 use mathlib.Core.Path.{_≡_, refl, sym, ap, _∙_}
 use mathlib.Core.List.{List, [], _∷_, _++_, List·Memᴰ, List·Memᴰ·head, Memᴰ·append-right}
-use mathlib.Core.Bool.{Bool, true, false, true≢false}
+use mathlib.Core.Bool.{Bool, true, false, cond, true≢false}
 use mathlib.Core.Logic.{_≢_, _⊎_, inl, inr}
 use native.Mathlib.Omega.{arith}
-use lib.ListN.{length, getD, take}
+use lib.ListN.{length, getD}
 use lib.Seq.{getD-at}
 use lib.Dec.{eqb}
-use borrow.Author.Tests.{eqb-true}
-use Rattle.frame.specs.Rules.{bodyByteOf, advanceOf, decidesOf}
+use borrow.Author.Tests.{ne-eqb}
+use Rattle.frame.specs.Rules.{bodyByteOf, onFFIn, onOtherIn, advanceOf, decidesOf}
 use Rattle.frame.specs.Calls.{nextOf, freshOf}
 use Rattle.frame.specs.Logs.{logOf, stream}
 use Rattle.frame.specs.Lines.{Line, IsOpen}
 use Rattle.frame.specs.Claims.{NoHeaderLost}
-use Rattle.frame.specs.State.{Phase, Idle, Half, Header, Open, Escape}
-use Rattle.frame.specs.State.{Scan}
-use Rattle.frame.specs.State.{Step}
-use Rattle.frame.specs.State.{State}
+use Rattle.frame.specs.State.{Phase, Idle, Half, Header, Open, Escape, Scan, Step, State}
 use Rattle.base.proofs.Tests.{by-test}
 use Rattle.frame.proofs.Bodies.{Partial, partial-none, first-on, body-cases}
 use Rattle.frame.proofs.Moves.{held, pending, originIn, Inv, InvIn, moves}
@@ -39,31 +36,33 @@ Inside Escape = Unit {0}
 abbrev Follows : ℕ → Step → Type 0
 Follows st s = (decidesOf (s .event) ≡ true) ⊎ (Inside (s .scan .phase) × (s .scan .start ≡ st))
 
-module _ (limit t st h l m : ℕ) (body : List ℕ) where
-  abbrev scanIn : Phase → Scan
-  scanIn f = record { phase = f; taken = t; start = st; have = h; length = l; sum = m }
-
+-- a byte of the state r, by phase
+module _ (limit : ℕ) (r : State) where
   abbrev b : List ℕ
-  b = take h body
+  b = held r
 
-  body-follows : (f : Phase) (v : ℕ) → Partial limit h l m b → getD (b ++ v ∷ []) 0 0 ≢ 255 → Follows st (bodyByteOf limit (scanIn f) v)
-  body-follows f v p first = body-cases (scanIn f) p v first (Follows st) (λ k low q. inr (tt, refl)) (λ e q. inl refl)
+  abbrev On : Step → Type 0
+  On = Follows (r .scan .start)
 
-  header-follows : (x : ℕ) → x ≢ 255 → InvIn limit Header (scanIn Header) b → Follows st (advanceOf limit (scanIn Header) x)
+  body-follows : (v : ℕ) → Partial limit (r .scan .have) (r .scan .length) (r .scan .sum) b → getD (b ++ v ∷ []) 0 0 ≢ 255
+      → On (bodyByteOf limit (r .scan) v)
+  body-follows v p first = body-cases (r .scan) p v first On (λ k low q. inr (tt, refl)) (λ e q. inl refl)
+
+  header-follows : (x : ℕ) → x ≢ 255 → InvIn limit Header (r .scan) b → On (bodyByteOf limit (r .scan) x)
   header-follows x k i =
-      let p : Partial limit h l m b = partial-none body (i .1) (i .2) in
+      let p = partial-none (r .body) (i .1) (i .2) in
       let e : getD (b ++ x ∷ []) 0 0 ≡ x = getD-at b x [] 0 0 (p .count ∙ i .1) in
-      by-test (Follows st) (eqb x 255) (λ q. inr (absurd (k (eqb-true x 255 q)))) (λ q. body-follows Header x p (λ j. k (sym e ∙ j)))
+      body-follows x p (λ j. k (sym e ∙ j))
 
-  inside-follows : (x : ℕ) (f : Phase) → Inside f → InvIn limit f (scanIn f) b → Follows st (advanceOf limit (scanIn f) x)
+  inside-follows : (x : ℕ) (f : Phase) → Inside f → InvIn limit f (r .scan) b → On (cond (eqb x 255) (onFFIn f (r .scan)) (onOtherIn f limit (r .scan) x))
   inside-follows x Idle n i = absurd n
   inside-follows x Half n i = absurd n
   inside-follows x Header n i = absurd n
   inside-follows x Open n i =
-      by-test (Follows st) (eqb x 255) (λ q. inr (tt, refl)) (λ q. body-follows Open x (i .part) (first-on (i .part) x (i .some-byte)))
+      by-test On (eqb x 255) (λ q. inr (tt, refl)) (λ q. body-follows x (i .part) (first-on (i .part) x (i .some-byte)))
   inside-follows x Escape n i =
-      by-test (Follows st) (eqb x 255) (λ q. inl refl)
-      (λ q. by-test (Follows st) (eqb x 85) (λ w. body-follows Escape 255 (i .part) (first-on (i .part) 255 (i .some-byte))) (λ w. inl refl))
+      by-test On (eqb x 255) (λ q. inl refl)
+      (λ q. by-test On (eqb x 85) (λ w. body-follows 255 (i .part) (first-on (i .part) 255 (i .some-byte))) (λ w. inl refl))
 
 -- a line that starts at st is said, or the frame is open still
 abbrev Kept : ℕ → ℕ → State → List ℕ → Type 0
@@ -93,7 +92,7 @@ module _ (limit : ℕ) where
     follows [] r i n = inr (n, refl)
     follows (x ∷ xs) r i n =
         step-on x xs r (λ k. follows xs (nextOf limit r x) (moves limit small r x i .holds) k)
-        (inside-follows limit (r .scan .taken) (r .scan .start) (r .scan .have) (r .scan .length) (r .scan .sum) (r .body) x (r .scan .phase) n (i .phase))
+        (inside-follows limit r x (r .scan .phase) n (i .phase))
 
     -- a header that no FF follows
     header-kept : {st : ℕ} (x : ℕ) (xs : List ℕ) (r : State) → At limit st [] r → x ≢ 255 → Kept limit (r .scan .start) r (x ∷ xs)
@@ -102,10 +101,10 @@ module _ (limit : ℕ) where
         (go (r .scan .phase) (a .between) (a .holds .phase))
       where
         go : (f : Phase) → Between f → InvIn limit f (r .scan) (held r)
-            → Follows (r .scan .start) (advanceOf limit (record { phase = f; taken = r .scan .taken; start = r .scan .start; have = r .scan .have; length = r .scan .length; sum = r .scan .sum }) x)
+            → Follows (r .scan .start) (cond (eqb x 255) (onFFIn f (r .scan)) (onOtherIn f limit (r .scan) x))
         go Idle n i = absurd n
         go Half n i = absurd n
-        go Header n i = header-follows limit (r .scan .taken) (r .scan .start) (r .scan .have) (r .scan .length) (r .scan .sum) (r .body) x k i
+        go Header n i = rw (ne-eqb x 255 k) (header-follows limit r x k i)
         go Open n i = let none : length (held r) ≡ 0 = ap length (a .held-is) in absurd (omega (arith, i .some-byte))
         go Escape n i = absurd n
 

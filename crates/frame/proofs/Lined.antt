@@ -15,14 +15,11 @@ use Rattle.frame.specs.Lines.{Decides, is-frame, is-short, is-long, is-s
 use Rattle.frame.specs.Table.{codeOf}
 use Rattle.frame.specs.Rules.{bodyByteOf, onFFIn, onOtherIn, advanceOf, decidesOf}
 use Rattle.frame.specs.Calls.{nextOf}
-use Rattle.frame.specs.State.{Phase, Idle, Half, Header, Open, Escape}
+use Rattle.frame.specs.State.{Phase, Idle, Half, Header, Open, Escape, Scan, Step, State}
 use Rattle.frame.specs.declared.scan.Event.{Event}
 use Rattle.frame.specs.declared.scan.Event.the-variants.{Quiet}
 use Rattle.frame.specs.declared.scan.Verdict.{Verdict}
 use Rattle.frame.specs.declared.scan.Verdict.the-variants.{Frame, Short, Long, Stuff, Cut, Sum}
-use Rattle.frame.specs.State.{Scan}
-use Rattle.frame.specs.State.{Step}
-use Rattle.frame.specs.State.{State}
 use Rattle.base.proofs.Tests.{by-test}
 use Rattle.frame.proofs.Moves.{held, pending, pendingIn, origin, originIn, Inv, InvIn, after, moves, wire-snoc, wire-ff, wire-none, wire-wait}
 use Rattle.frame.proofs.Bodies.{Partial, partial-none, first-on, Ends, unfinished-of, stored, whole-held, body-cases}
@@ -53,31 +50,31 @@ body-decides limit b held Stuff p q w = absurd p
 body-decides limit b held Cut p q w = absurd p
 body-decides limit b held Sum p q w = is-sum b refl (w (p .0)) q (p .0) (p .1) (p .2) (p .3)
 
-module _ (limit t st h l m : ℕ) (body : List ℕ) (room : length body ≡ limit + 2) (inside : h ≤ limit + 1) where
-  abbrev scanIn : Phase → Scan
-  scanIn f = record { phase = f; taken = t; start = st; have = h; length = l; sum = m }
-
-  abbrev readerIn : Phase → State
-  readerIn f = record { scan = scanIn f; body = body }
-
+-- a raw byte of the state r, by phase
+module _ (limit : ℕ) (r : State) (room : length (r .body) ≡ limit + 2) (inside : r .scan .have ≤ limit + 1) where
   abbrev b : List ℕ
-  b = take h body
+  b = held r
 
   abbrev TellsFrom : Phase → ℕ → Step → Type 0
-  TellsFrom f x s = Tells limit (originIn f (scanIn f)) (pendingIn f b ++ x ∷ []) (readerIn f) s
+  TellsFrom f x s = Tells limit (originIn f (r .scan)) (pendingIn f b ++ x ∷ []) r s
 
-  body-tells : (f : Phase) (raw : List ℕ) (v : ℕ) → Partial limit h l m b → getD (b ++ v ∷ []) 0 0 ≢ 255 → raw ≡ wire (b ++ v ∷ [])
-      → Tells limit st raw (readerIn f) (bodyByteOf limit (scanIn f) v)
-  body-tells f raw v p first e =
-      body-cases (scanIn f) p v first (Tells limit st raw (readerIn f))
-      (λ k low q. quiet refl [] (rw (stored body h v (omega arith)) e))
+  body-tells : (raw : List ℕ) (v : ℕ) → Partial limit (r .scan .have) (r .scan .length) (r .scan .sum) b → getD (b ++ v ∷ []) 0 0 ≢ 255
+      → raw ≡ wire (b ++ v ∷ []) → Tells limit (r .scan .start) raw r (bodyByteOf limit (r .scan) v)
+  body-tells raw v p first e =
+      let h : ℕ = r .scan .have in
+      body-cases (r .scan) p v first (Tells limit (r .scan .start) raw r)
+      (λ k low q. quiet refl [] (rw (stored (r .body) h v (omega arith)) e))
       (λ e′ q. record {
         gone = raw;
         bytes = sym (append-nil raw);
-        line = λ d. record { decides = body-decides limit (b ++ v ∷ []) (set body h v) e′ q e (whole-held body h v (omega arith)); starts = refl; rises = omega (arith, ap length e) };
+        line = λ d. record {
+          decides = body-decides limit (b ++ v ∷ []) (set (r .body) h v) e′ q e (whole-held (r .body) h v (omega arith));
+          starts = refl;
+          rises = omega (arith, ap length e);
+        };
       })
 
-  ff-tells : (f : Phase) → InvIn limit f (scanIn f) b → TellsFrom f 255 (onFFIn f (scanIn f))
+  ff-tells : (f : Phase) → InvIn limit f (r .scan) b → TellsFrom f 255 (onFFIn f (r .scan))
   ff-tells Idle i = quiet refl [] refl
   ff-tells Half i = quiet refl [] refl
   ff-tells Header i = quiet refl (255 ∷ []) refl
@@ -89,20 +86,21 @@ module _ (limit t st h l m : ℕ) (body : List ℕ) (room : length body ≡ limi
         line = λ d. record { decides = is-cut b refl refl (wire-wait b (255 ∷ [])) (unfinished-of (i .part) (i .some-byte)); starts = refl; rises = omega arith };
       }
 
-  other-tells : (x : ℕ) → x ≢ 255 → (f : Phase) → InvIn limit f (scanIn f) b → TellsFrom f x (onOtherIn f limit (scanIn f) x)
+  other-tells : (x : ℕ) → x ≢ 255 → (f : Phase) → InvIn limit f (r .scan) b → TellsFrom f x (onOtherIn f limit (r .scan) x)
   other-tells x k Idle i = quiet refl (x ∷ []) refl
   other-tells x k Half i = quiet refl (255 ∷ x ∷ []) refl
   other-tells x k Header i =
-      let p : Partial limit h l m b = partial-none body (i .1) (i .2) in
-      let none-yet : b ≡ [] = ap (λ (j : ℕ). take j body) (i .1) in
+      let p = partial-none (r .body) (i .1) (i .2) in
+      let none-yet : b ≡ [] = ap (λ (j : ℕ). take j (r .body)) (i .1) in
       let e : getD (b ++ x ∷ []) 0 0 ≡ x = getD-at b x [] 0 0 (p .count ∙ i .1) in
-      body-tells Header (255 ∷ 255 ∷ x ∷ []) x p (λ q. k (sym e ∙ q)) (ap (λ (j : List ℕ). j ++ x ∷ []) (sym (wire-none none-yet)) ∙ sym (wire-snoc b x [] k) ∙ append-nil (wire (b ++ x ∷ [])))
+      body-tells (255 ∷ 255 ∷ x ∷ []) x p (λ q. k (sym e ∙ q))
+      (ap (λ (j : List ℕ). j ++ x ∷ []) (sym (wire-none none-yet)) ∙ sym (wire-snoc b x [] k) ∙ append-nil (wire (b ++ x ∷ [])))
   other-tells x k Open i =
-      body-tells Open (wire b ++ x ∷ []) x (i .part) (first-on (i .part) x (i .some-byte)) (sym (wire-snoc b x [] k) ∙ append-nil (wire (b ++ x ∷ [])))
+      body-tells (wire b ++ x ∷ []) x (i .part) (first-on (i .part) x (i .some-byte)) (sym (wire-snoc b x [] k) ∙ append-nil (wire (b ++ x ∷ [])))
   other-tells x k Escape i =
       by-test (TellsFrom Escape x) (eqb x 85)
       (λ q.
-      body-tells Escape ((wire b ++ 255 ∷ []) ++ x ∷ []) 255 (i .part) (first-on (i .part) 255 (i .some-byte))
+      body-tells ((wire b ++ 255 ∷ []) ++ x ∷ []) 255 (i .part) (first-on (i .part) 255 (i .some-byte))
       (rw (eqb-true x 85 q) (wire-wait b (85 ∷ []) ∙ sym (wire-ff b []) ∙ append-nil (wire (b ++ 255 ∷ [])))))
       (λ q.
       record {
@@ -114,12 +112,6 @@ module _ (limit t st h l m : ℕ) (body : List ℕ) (room : length body ≡ limi
           rises = omega arith;
         };
       })
-
-  byte-tells : (x : ℕ) (f : Phase) → InvIn limit f (scanIn f) b → TellsFrom f x (advanceOf limit (scanIn f) x)
-  byte-tells x f i =
-      by-test (TellsFrom f x) (eqb x 255)
-      (λ q. rw (eqb-true x 255 q) (ff-tells f i))
-      (λ q. other-tells x (eqb-false x 255 q) f i)
 
 -- ---- all bytes of a reader that the calls can reach
 
@@ -161,7 +153,9 @@ pub record Lined (limit : ℕ) (r : State) (before xs : List ℕ) : Type 0 where
 module _ (limit : ℕ) (small : limit ≤ 65279) where
   tells : (r : State) (x : ℕ) → Inv limit r → Tells limit (origin r) (pending r ++ x ∷ []) r (advanceOf limit (r .scan) x)
   tells r x i =
-      byte-tells limit (r .scan .taken) (r .scan .start) (r .scan .have) (r .scan .length) (r .scan .sum) (r .body) (i .room) (i .inside) x (r .scan .phase) (i .phase)
+      by-test (TellsFrom limit r (i .room) (i .inside) (r .scan .phase) x) (eqb x 255)
+      (λ q. rw (eqb-true x 255 q) (ff-tells limit r (i .room) (i .inside) (r .scan .phase) (i .phase)))
+      (λ q. other-tells limit r (i .room) (i .inside) x (eqb-false x 255 q) (r .scan .phase) (i .phase))
 
   place-of : (r : State) → Inv limit r → r .scan .taken ≡ origin r + length (pending r)
   place-of r i = place-in limit (r .scan .phase) (r .scan) (held r) (i .phase)

@@ -13,9 +13,7 @@ use Rattle.frame.specs.Calls.{reply, endingRow, freshOf}
 use Rattle.frame.specs.Logs.{logOf, stateAfter, stream}
 use Rattle.frame.specs.Lines.{Decides, is-frame, is-short, is-long, is-stuff, is-cut, is-sum, Line, IsLine, Opens, at-header, in-body, at-ff, IsOpen}
 use Rattle.frame.specs.Claims.{EachLine, EndTold, EndsTold}
-use Rattle.frame.specs.State.{Phase, Idle, Half, Header, Open, Escape}
-use Rattle.frame.specs.State.{Scan}
-use Rattle.frame.specs.State.{State}
+use Rattle.frame.specs.State.{Phase, Idle, Half, Header, Open, Escape, Scan, State}
 use Rattle.frame.proofs.Stuffing.{stuffed-form}
 use Rattle.frame.proofs.Moves.{held, pending, pendingIn, origin, Inv, InvIn}
 use Rattle.frame.proofs.Logged.{in-range, reached}

@@ -16,14 +16,11 @@ use Rattle.frame.specs.Wire.{stuff, wire, lengthOf, Good}
 use Rattle.frame.specs.Frames.{Found, frontBody, isGood, sumHolds, framesFrom, here}
 use Rattle.frame.specs.Table.{codeOf}
 use Rattle.frame.specs.Rules.{putOf, grownOf, endedOf, bodyByteOf, onFFIn, onOtherIn, advanceOf}
-use Rattle.frame.specs.State.{Phase, Idle, Half, Header, Open, Escape}
+use Rattle.frame.specs.State.{Phase, Idle, Half, Header, Open, Escape, Scan, Step, State}
 use Rattle.frame.specs.declared.scan.Event.{Event}
 use Rattle.frame.specs.declared.scan.Event.the-variants.{Quiet, Decided}
 use Rattle.frame.specs.declared.scan.Verdict.{Verdict}
 use Rattle.frame.specs.declared.scan.Verdict.the-variants.{Frame, Short, Long, Stuff, Cut, Sum}
-use Rattle.frame.specs.State.{Scan}
-use Rattle.frame.specs.State.{Step}
-use Rattle.frame.specs.State.{State}
 use Rattle.base.proofs.Tests.{by-test}
 use Rattle.frame.proofs.Stuffing.{stuff-append}
 use Rattle.frame.proofs.Bodies.{Partial, partial-none, first-on, sumIn, sumDue, Ends, size, stored, body-cases, whole-held}

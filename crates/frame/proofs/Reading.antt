@@ -13,13 +13,10 @@ use Rattle.frame.specs.Wire.{stuff, wire, lengthOf}
 use Rattle.frame.specs.Lines.{Unfinished, Decides, is-frame, is-short, is-long, is-stuff, is-cut, is-sum, Line}
 use Rattle.frame.specs.Rules.{escapeOf, bodyByteOf, advanceOf, decidesOf}
 use Rattle.frame.specs.Calls.{nextOf}
-use Rattle.frame.specs.State.{Phase, Idle, Half, Header, Open, Escape}
+use Rattle.frame.specs.State.{Phase, Idle, Half, Header, Open, Escape, Scan, Step, State}
 use Rattle.frame.specs.declared.scan.Event.the-variants.{Decided}
 use Rattle.frame.specs.declared.scan.Verdict.{Verdict}
 use Rattle.frame.specs.declared.scan.Verdict.the-variants.{Frame, Short, Long, Stuff, Cut, Sum}
-use Rattle.frame.specs.State.{Scan}
-use Rattle.frame.specs.State.{Step}
-use Rattle.frame.specs.State.{State}
 use Rattle.frame.proofs.Stuffing.{stuff-append}
 use Rattle.frame.proofs.Here.{lengthOf-append}
 use Rattle.frame.proofs.Skip.{good-first}
@@ -109,61 +106,67 @@ record Due (limit : ℕ) (r : State) (v : ℕ) : Type 0 where
   starts : q .scan .start ≡ r .scan .start
   step : advanceOf limit (q .scan) last ≡ bodyByteOf limit (q .scan) v
 
-module _ (limit t st h l m : ℕ) (body : List ℕ) (room : length body ≡ limit + 2) where
-  abbrev scanIn : Phase → Scan
-  scanIn f = record { phase = f; taken = t; start = st; have = h; length = l; sum = m }
-
-  abbrev readerIn : Phase → State
-  readerIn f = record { scan = scanIn f; body = body }
-
+-- a state, by its phase
+module _ (limit : ℕ) (r : State) (room : length (r .body) ≡ limit + 2) where
   abbrev b : List ℕ
-  b = take h body
+  b = held r
 
-  due-in : (f : Phase) → Between f → InvIn limit f (scanIn f) b → (v : ℕ) → getD (b ++ v ∷ []) 0 0 ≢ 255 → Due limit (readerIn f) v
+  -- before a body byte of one raw byte
+  due-alone : (v : ℕ) → eqb v 255 ≡ false → Partial limit (r .scan .have) (r .scan .length) (r .scan .sum) b
+      → advanceOf limit (r .scan) v ≡ bodyByteOf limit (r .scan) v → Due limit r v
   unfolding afterAll stuff
-  due-in Idle n i v first = absurd n
-  due-in Half n i v first = absurd n
-  due-in Header n i v first =
-      let p : Partial limit h l m b = partial-none body (i .1) (i .2) in
+  due-alone v other p e =
+      record { pre = []; last = v; split = rw other; q = r; runs = refl; room = room; part = p; same = refl; starts = refl; step = e }
+
+  due-in : (f : Phase) → r .scan .phase ≡ f → Between f → InvIn limit f (r .scan) b → (v : ℕ) → getD (b ++ v ∷ []) 0 0 ≢ 255 → Due limit r v
+  unfolding afterAll stuff
+  due-in Idle is n i v first = absurd n
+  due-in Half is n i v first = absurd n
+  due-in Header is n i v first =
+      let p = partial-none (r .body) (i .1) (i .2) in
       let e : getD (b ++ v ∷ []) 0 0 ≡ v = getD-at b v [] 0 0 (p .count ∙ i .1) in
       let no : eqb v 255 ≡ false = ne-eqb v 255 (λ q. first (e ∙ q)) in
-      record { pre = []; last = v; split = rw no; q = readerIn Header; runs = refl; room = room; part = p; same = refl; starts = refl; step = rw no }
-  due-in Open n i v first = go (eqb v 255) refl
+      due-alone v no p (rw (no, is))
+  due-in Open is n i v first = go (eqb v 255) refl
     where
-      go : (u : Bool) → eqb v 255 ≡ u → Due limit (readerIn Open) v
+      go : (u : Bool) → eqb v 255 ≡ u → Due limit r v
       go true e =
           let ff : v ≡ 255 = eqb-true v 255 e in
           record {
             pre = 255 ∷ [];
             last = 85;
             split = rw ff;
-            q = record { scan = escapeOf (scanIn Open) (t + 1); body = body };
-            runs = refl;
+            q = record { scan = escapeOf (r .scan) (r .scan .taken + 1); body = r .body };
+            runs = rw is;
             room = room;
             part = i .part;
             same = refl;
             starts = refl;
             step = rw ff;
           }
-      go false e = record { pre = []; last = v; split = rw e; q = readerIn Open; runs = refl; room = room; part = i .part; same = refl; starts = refl; step = rw e }
-  due-in Escape n i v first = absurd n
+      go false e = due-alone v e (i .part) (rw (e, is))
+  due-in Escape is n i v first = absurd n
 
   -- two FF make a header
-  header-in : (f : Phase) → (Between (afterAll limit (readerIn f) (255 ∷ 255 ∷ []) .scan .phase)) × (held (afterAll limit (readerIn f) (255 ∷ 255 ∷ [])) ≡ []) × (afterAll limit (readerIn f) (255 ∷ 255 ∷ []) .scan .start ≡ t)
+  abbrev HeaderMade : State → Type 0
+  HeaderMade q = (Between (q .scan .phase)) × (held q ≡ []) × (q .scan .start ≡ r .scan .taken)
+
+  header-in : (f : Phase) → r .scan .phase ≡ f → HeaderMade (afterAll limit r (255 ∷ 255 ∷ []))
   unfolding afterAll
-  header-in Idle = (tt, refl, omega arith)
-  header-in Half = (tt, refl, omega arith)
-  header-in Header = (tt, refl, omega arith)
-  header-in Open = (tt, refl, omega arith)
-  header-in Escape = (tt, refl, omega arith)
+  header-in Idle is = rw is (tt, refl, omega arith)
+  header-in Half is = rw is (tt, refl, omega arith)
+  header-in Header is = rw is (tt, refl, omega arith)
+  header-in Open is = rw is (tt, refl, omega arith)
+  header-in Escape is = rw is (tt, refl, omega arith)
 
   -- an FF of the body waits
-  wait-in : (f : Phase) → Between f → InvIn limit f (scanIn f) b → 1 ≤ length b → (nextOf limit (readerIn f) 255 .scan .phase ≡ Escape) × (nextOf limit (readerIn f) 255 .scan .start ≡ st)
-  wait-in Idle n i some = absurd n
-  wait-in Half n i some = absurd n
-  wait-in Header n i some = let none-yet : length b ≡ 0 = ap (λ (j : ℕ). length (take j body)) (i .1) in absurd (omega arith)
-  wait-in Open n i some = (refl, refl)
-  wait-in Escape n i some = absurd n
+  wait-in : (f : Phase) → r .scan .phase ≡ f → Between f → InvIn limit f (r .scan) b → 1 ≤ length b
+      → (nextOf limit r 255 .scan .phase ≡ Escape) × (nextOf limit r 255 .scan .start ≡ r .scan .start)
+  wait-in Idle is n i some = absurd n
+  wait-in Half is n i some = absurd n
+  wait-in Header is n i some = let none-yet : length b ≡ 0 = ap (λ (j : ℕ). length (take j (r .body))) (i .1) in absurd (omega arith)
+  wait-in Open is n i some = rw is (refl, refl)
+  wait-in Escape is n i some = absurd n
 
 -- ---- to the deciding byte
 
@@ -192,9 +195,7 @@ ready-behind {limit} {r} c w =
 
 module _ (limit : ℕ) (small : limit ≤ 65279) where
   due : {st : ℕ} {b : List ℕ} {r : State} → At limit st b r → (v : ℕ) → getD (b ++ v ∷ []) 0 0 ≢ 255 → Due limit r v
-  due {st} {b} {r} a v first =
-      due-in limit (r .scan .taken) (r .scan .start) (r .scan .have) (r .scan .length) (r .scan .sum) (r .body) (a .holds .room) (r .scan .phase)
-      (a .between) (a .holds .phase) v (rw (a .held-is) first)
+  due {st} {b} {r} a v first = due-in limit r (a .holds .room) (r .scan .phase) refl (a .between) (a .holds .phase) v (rw (a .held-is) first)
 
   step-on : {st : ℕ} {b : List ℕ} {r : State} → At limit st b r → (v : ℕ) → Unfinished limit (b ++ v ∷ []) → At limit st (b ++ v ∷ []) (afterAll limit r (stuff (v ∷ [])))
   unfolding afterAll
@@ -241,7 +242,7 @@ module _ (limit : ℕ) (small : limit ≤ 65279) where
 
     pub read-header : At limit st [] (afterAll limit r (255 ∷ 255 ∷ []))
     read-header =
-        let g = header-in limit (r .scan .taken) (r .scan .start) (r .scan .have) (r .scan .length) (r .scan .sum) (r .body) (i .room) (r .scan .phase) in
+        let g = header-in limit r (i .room) (r .scan .phase) refl in
         record { holds = kept limit small (255 ∷ 255 ∷ []) r i .holds; between = g .0; held-is = g .1; starts = g .2 }
 
     pub read-body : (b : List ℕ) → Unfinished limit b → At limit st b (afterAll limit r (wire b))
@@ -252,8 +253,7 @@ module _ (limit : ℕ) (small : limit ≤ 65279) where
     read-ff b u =
         let q : State = afterAll limit r (wire b) in
         let a : At limit st b q = read-body b u in
-        let w = wait-in limit (q .scan .taken) (q .scan .start) (q .scan .have) (q .scan .length) (q .scan .sum) (q .body) (a .holds .room) (q .scan .phase)
-        (a .between) (a .holds .phase) (rw (a .held-is) (u .some-byte)) in
+        let w = wait-in limit q (a .holds .room) (q .scan .phase) refl (a .between) (a .holds .phase) (rw (a .held-is) (u .some-byte)) in
         rw (after-append limit (wire b) (255 ∷ []) r) (w .0, w .1 ∙ a .starts)
 
     -- SHORT, LONG, FRAME and SUM

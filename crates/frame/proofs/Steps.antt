@@ -13,10 +13,7 @@ use Rattle.base.specs.Rows.{row}
 use Rattle.frame.specs.Rules.{Ready, inRangeOf, completedOf, bodyByteOf, onFFIn, onOtherIn, advanceOf, decidesOf, putOf}
 use Rattle.frame.specs.Table.{eventRow}
 use Rattle.frame.specs.Calls.{reply, runOf}
-use Rattle.frame.specs.State.{Phase, Idle, Half, Header, Open, Escape}
-use Rattle.frame.specs.State.{Scan}
-use Rattle.frame.specs.State.{Step}
-use Rattle.frame.specs.State.{State}
+use Rattle.frame.specs.State.{Phase, Idle, Half, Header, Open, Escape, Scan, Step, State}
 use Rattle.base.proofs.Tests.{by-test, both}
 
 -- ---- one byte
