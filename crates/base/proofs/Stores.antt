@@ -6,6 +6,7 @@ use native.Mathlib.Nat.{zero-add, add-zero}
 use native.Mathlib.Omega.{arith}
 use lib.ListN.{length, drop, set, length-append}
 use lib.Seq.{sets, sets-eq}
+use Rattle.base.specs.Stores.{PutAt}
 
 pub sets-append : (vs ws l : List ℕ) (i : ℕ) → sets l i (vs ++ ws) ≡ sets (sets l i vs) (i + length vs) ws
 sets-append [] ws l i = rw add-zero
@@ -17,8 +18,5 @@ pub sets-front : (vs l : List ℕ) → length vs ≤ length l → sets l 0 vs �
 sets-front vs l h = rw zero-add at (sets-eq vs l 0 (rw zero-add h))
 
 -- what is put, and more behind it, is their join put
-pub put-join : (out xs ys : List ℕ) (at : ℕ) {a b : List ℕ} {p q : ℕ}
-    → (p ≡ at + length xs) × (a ≡ sets out at xs)
-    → (q ≡ p + length ys) × (b ≡ sets a p ys)
-    → (q ≡ at + length (xs ++ ys)) × (b ≡ sets out at (xs ++ ys))
+pub put-join : (out xs ys : List ℕ) (at : ℕ) {a b : List ℕ} {p q : ℕ} → PutAt out at xs p a → PutAt a p ys q b → PutAt out at (xs ++ ys) q b
 put-join out xs ys at e f = (rw length-append (omega arith), rw sets-append (cc))

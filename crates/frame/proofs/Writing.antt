@@ -7,7 +7,8 @@ use native.Mathlib.Omega.{arith}
 use borrow.Author.Tests.{eq-eqb, ne-eqb}
 use lib.ListN.{length, getD, drop, set, length-append, drop-of-length-le}
 use lib.Seq.{drop-cons, sets}
-use Rattle.frame.specs.Wire.{stuff, wire}
+use Rattle.frame.specs.Wire.{stuff, wire, joinedParts, framed}
+use Rattle.base.specs.Stores.{PutAt}
 use Rattle.base.proofs.Stores.{put-join}
 use Rattle.frame.proofs.Stuffing.{stuff-append}
 
@@ -35,39 +36,26 @@ module _ (b : List ℕ) (i : ℕ) (h : length b ≤ i) where
   unfolding stuff
   stuff-none = rw (drop-of-length-le b h)
 
--- ---- stores
+-- ---- bytes put, stuffed
 
--- the same of stuffed bytes
-put-append : (out xs ys : List ℕ) (at : ℕ) {a b : List ℕ} {p q : ℕ}
-    → (p ≡ at + length (stuff xs)) × (a ≡ sets out at (stuff xs))
-    → (q ≡ p + length (stuff ys)) × (b ≡ sets a p (stuff ys))
-    → (q ≡ at + length (stuff (xs ++ ys))) × (b ≡ sets out at (stuff (xs ++ ys)))
+-- what is put, and more behind it, is their join put
+pub put-append : (out xs ys : List ℕ) (at : ℕ) {a b : List ℕ} {p q : ℕ} → PutAt out at (stuff xs) p a → PutAt a p (stuff ys) q b
+    → PutAt out at (stuff (xs ++ ys)) q b
 put-append out xs ys at e f = rw stuff-append (put-join out (stuff xs) (stuff ys) at e f)
 
--- ---- three parts, one behind the other
+-- a header is put by two stores, and a body behind it
+pub put-framed : (out body : List ℕ) {b : List ℕ} {q : ℕ} → PutAt (set (set out 0 255) 1 255) 2 (stuff body) q b → PutAt out 0 (wire body) q b
+put-framed out body e = (omega arith, e .1)
 
-pub parts-length : (first second third : List ℕ) → length (first ++ (second ++ third)) ≡ length first + (length second + length third)
+-- ---- lengths: of a payload's three parts, and of a frame from its parts
+
+pub parts-length : (first second third : List ℕ) → length (joinedParts first second third) ≡ length first + (length second + length third)
 parts-length first second third = simp length-append
 
--- ---- a frame is its header and the stuffed forms of its parts: the head, the payload's three, and the sum
+pub stuffed-length : (first second third : List ℕ)
+    → length (stuff (joinedParts first second third)) ≡ length (stuff first) + (length (stuff second) + length (stuff third))
+stuffed-length first second third = simp (stuff-append, length-append)
 
-module _ (head first second third : List ℕ) (sum : ℕ) where
-  abbrev partsOf : List ℕ
-  partsOf = head ++ ((first ++ (second ++ third)) ++ sum ∷ [])
-
-  pub wire-length : length (wire partsOf)
-      ≡ 2 + length (stuff head) + length (stuff first) + length (stuff second) + length (stuff third) + length (stuff (sum ∷ []))
-  wire-length = simp (stuff-append, length-append) (omega arith)
-
-  -- it is written where the header and the parts are, one behind the other
-  pub parts-written : (out : List ℕ) {a b c d e : List ℕ} {p q r s t : ℕ}
-      → (p ≡ 2 + length (stuff head)) × (a ≡ sets (set (set out 0 255) 1 255) 2 (stuff head))
-      → (q ≡ p + length (stuff first)) × (b ≡ sets a p (stuff first))
-      → (r ≡ q + length (stuff second)) × (c ≡ sets b q (stuff second))
-      → (s ≡ r + length (stuff third)) × (d ≡ sets c r (stuff third))
-      → (t ≡ s + length (stuff (sum ∷ []))) × (e ≡ sets d s (stuff (sum ∷ [])))
-      → (t ≡ length (wire partsOf)) × (e ≡ sets out 0 (wire partsOf))
-  parts-written out f g h i j =
-      let payload = put-append _ first _ _ g (put-append _ second third _ h i) in
-      let whole = put-append _ head _ 2 f (put-append _ _ (sum ∷ []) _ payload j) in
-      (omega arith, whole .1)
+pub framed-length : (head payload : List ℕ) (sum : ℕ)
+    → length (framed head payload sum) ≡ 2 + length (stuff head) + length (stuff payload) + length (stuff (sum ∷ []))
+framed-length head payload sum = simp (stuff-append, length-append) (omega arith)

@@ -1,14 +1,17 @@
 -- What each call answers and leaves: bytes given, end asked, a frame written.
-use Prim.Native.Nat.{ℕ, _+_, _^_}
+use Prim.Native.Nat.{ℕ, _+_, _%_, _^_}
+use mathlib.Core.Path.{_≡_}
 use mathlib.Core.Bool.{cond}
 use mathlib.Core.List.{List, [], _∷_}
 use lib.ListN.{length, replicate}
 use lib.Dec.{ltb, leb}
-use Rattle.frame.specs.Wire.{wire, bodyOf}
+use Rattle.frame.specs.Wire.{wire, bodyOf, framed}
 use Rattle.base.specs.Rows.{Row, row}
 use Rattle.base.specs.Outcomes.{Write, outcome, placed}
+use Rattle.base.specs.Sums.{total}
+use Rattle.frame.specs.declared.writer.Written.{Written}
 use Rattle.frame.specs.State.{Phase, Idle, Half, Header, Open, Escape, Scan, State, stateOf}
-use Rattle.frame.specs.Table.{rowOf, endRowOf, eventRow}
+use Rattle.frame.specs.Table.{rowOf, endRowOf, eventRow, writtenRowOf}
 use Rattle.frame.specs.Rules.{inRangeOf, closedOf, advanceOf, decidesOf, putOf}
 use Rattle.frame.specs.declared.reader.Fed.{Fed}
 use Rattle.frame.specs.declared.reader.Finished.{Finished}
@@ -77,3 +80,12 @@ finishOf limit r = cond (inRangeOf limit (r .scan)) (reply (endingRow (r .scan .
 abbrev pub writeOf : ℕ → ℕ → ℕ → ℕ → List ℕ → List ℕ → Write
 writeOf limit command number flags payload out =
     cond (ltb limit (length payload + 5)) (outcome (row 21 (0 ∷ [])) out) (placed (wire (bodyOf command number flags payload)) out)
+
+-- the same of what the code returns, and of the output that it leaves
+abbrev pub Writes : Written → List ℕ → Write → Type 0
+Writes r after w = outcome (writtenRowOf r) after ≡ w
+
+-- what is measured before the first byte is written: the length of a frame on the wire, and its sum
+pub record Measured (head payload : List ℕ) (count sum : ℕ) : Type 0 where
+  pub sum-is : sum ≡ (total head + total payload) % 2 ^ 8
+  pub count-is : count ≡ length (framed head payload sum)

@@ -56,6 +56,14 @@ unsummed command number flags payload = two (length payload + 5) (command ∷ nu
 unfoldable pub bodyOf : ℕ → ℕ → ℕ → List ℕ → List ℕ
 bodyOf command number flags payload = unsummed command number flags payload ++ checksum (unsummed command number flags payload) ∷ []
 
+-- a payload in three parts, one behind the other
+abbrev pub joinedParts : List ℕ → List ℕ → List ℕ → List ℕ
+joinedParts first second third = first ++ (second ++ third)
+
+-- the wire form of a body that is given by its first six bytes, its payload and its sum
+abbrev pub framed : List ℕ → List ℕ → ℕ → List ℕ
+framed head payload sum = wire (head ++ (payload ++ sum ∷ []))
+
 -- "Here 5 ≤ L ≤ 1,024 .. Body bytes: L + 2." "A body's length is true if its first two bytes give L and it has L + 2 bytes; its sum holds if its
 -- last byte is the sum."
 pub record Good (limit : ℕ) (b : List ℕ) : Type 0 where

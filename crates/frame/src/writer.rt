@@ -1,16 +1,14 @@
 // The writer: a frame straight from its parts, with no copy of its body.
 use super::LIMIT;
 ghost use mathlib.Core.Path.{_≡_};
-ghost use mathlib.Core.List.{[], _∷_, _++_};
+ghost use mathlib.Core.List.{[], _∷_};
 ghost use Prim.Native.Nat.{_+_, _≤_, _<_, _/_, _%_, _^_};
 ghost use lib.ListN.{length};
-ghost use lib.Seq.{sets};
-ghost use Rattle.frame.specs.Wire.{stuff, wire, frameLimit};
+ghost use Rattle.base.specs.Stores.{PutAt};
+ghost use Rattle.frame.specs.Wire.{stuff, joinedParts, framed, frameLimit};
 ghost use Rattle.base.specs.Sums.{total};
 ghost use Rattle.base.specs.Numbers.{two};
-ghost use Rattle.frame.specs.Table.{writtenRowOf};
-ghost use Rattle.base.specs.Outcomes.{outcome};
-ghost use Rattle.frame.specs.Calls.{writeOf};
+ghost use Rattle.frame.specs.Calls.{writeOf, Writes, Measured};
 
 // What a frame to be written is answered.
 pub enum Written {
@@ -69,8 +67,8 @@ fn measured(from: Measure, bytes: &[u8]) -> Measure
 
 // The length of a frame on the wire, and its sum.
 fn sized(head: [u8; 6], first: &[u8], second: &[u8], third: &[u8]) -> Measure
-    requires { ⌜ length (now first ++ (now second ++ now third)) ≤ 2 ^ 17 ⌝ }
-    ensures { λ r. ⌜ (r .sum ≡ (total head + total (now (first .entry) ++ (now (second .entry) ++ now (third .entry)))) % 2 ^ 8) × (r .count ≡ length (wire (head ++ ((now (first .entry) ++ (now (second .entry) ++ now (third .entry))) ++ r .sum ∷ [])))) ⌝ }
+    requires { ⌜ length (joinedParts (now first) (now second) (now third)) ≤ 2 ^ 17 ⌝ }
+    ensures { λ r. ⌜ Measured head (joinedParts (now (first .entry)) (now (second .entry)) (now (third .entry))) (r .count) (r .sum) ⌝ }
 {
     let begun = measured(Measure { count: 2, sum: 0 }, &head);
     let unsummed = measured(measured(measured(begun, first), second), third);
@@ -84,7 +82,7 @@ fn sized(head: [u8; 6], first: &[u8], second: &[u8], third: &[u8]) -> Measure
 // A body byte, stuffed, at a place of the output; the place behind it.
 fn put_byte(out: &mut [u8], at: usize, v: u8) -> usize
     requires { ⌜ at + length (stuff (v ∷ [])) ≤ length (now out) ⌝ }
-    ensures { λ r. ⌜ (r ≡ at + length (stuff (v ∷ []))) × (now (out .exit) ≡ sets (now (out .entry)) at (stuff (v ∷ []))) ⌝ }
+    ensures { λ r. ⌜ PutAt (now (out .entry)) at (stuff (v ∷ [])) r (now (out .exit)) ⌝ }
 {
     out[at] = v;
     if v == 255 {
@@ -97,7 +95,7 @@ fn put_byte(out: &mut [u8], at: usize, v: u8) -> usize
 // Body bytes, stuffed, at a place of the output; the place behind them.
 fn put_bytes(out: &mut [u8], at: usize, bytes: &[u8]) -> usize
     requires { ⌜ at + length (stuff (now bytes)) ≤ length (now out) ⌝ }
-    ensures { λ r. ⌜ (r ≡ at + length (stuff (now (bytes .entry)))) × (now (out .exit) ≡ sets (now (out .entry)) at (stuff (now (bytes .entry)))) ⌝ }
+    ensures { λ r. ⌜ PutAt (now (out .entry)) at (stuff (now (bytes .entry))) r (now (out .exit)) ⌝ }
 {
     let mut next = at;
     let mut i = 0;
@@ -106,6 +104,16 @@ fn put_bytes(out: &mut [u8], at: usize, bytes: &[u8]) -> usize
         i += 1;
     }
     next
+}
+
+// A payload's three parts, stuffed, at a place of the output; the place behind them.
+fn put_parts(out: &mut [u8], at: usize, first: &[u8], second: &[u8], third: &[u8]) -> usize
+    requires { ⌜ at + length (stuff (joinedParts (now first) (now second) (now third))) ≤ length (now out) ⌝ }
+    ensures { λ r. ⌜ PutAt (now (out .entry)) at (stuff (joinedParts (now (first .entry)) (now (second .entry)) (now (third .entry)))) r (now (out .exit)) ⌝ }
+{
+    let behind_first = put_bytes(out, at, first);
+    let behind_second = put_bytes(out, behind_first, second);
+    put_bytes(out, behind_second, third)
 }
 
 // A whole frame at the front of an output that has room for it; its length.
@@ -117,16 +125,14 @@ fn put_frame(
     third: &[u8],
     sum: u8,
 ) -> usize
-    requires { ⌜ length (wire (head ++ ((now first ++ (now second ++ now third)) ++ sum ∷ []))) ≤ length (now out) ⌝ }
-    ensures { λ r. ⌜ (r ≡ length (wire (head ++ ((now (first .entry) ++ (now (second .entry) ++ now (third .entry))) ++ sum ∷ [])))) × (now (out .exit) ≡ sets (now (out .entry)) 0 (wire (head ++ ((now (first .entry) ++ (now (second .entry) ++ now (third .entry))) ++ sum ∷ [])))) ⌝ }
+    requires { ⌜ length (framed head (joinedParts (now first) (now second) (now third)) sum) ≤ length (now out) ⌝ }
+    ensures { λ r. ⌜ PutAt (now (out .entry)) 0 (framed head (joinedParts (now (first .entry)) (now (second .entry)) (now (third .entry))) sum) r (now (out .exit)) ⌝ }
 {
     out[0] = 255;
     out[1] = 255;
     let behind_head = put_bytes(out, 2, &head);
-    let behind_first = put_bytes(out, behind_head, first);
-    let behind_second = put_bytes(out, behind_first, second);
-    let behind_third = put_bytes(out, behind_second, third);
-    put_byte(out, behind_third, sum)
+    let behind_payload = put_parts(out, behind_head, first, second, third);
+    put_byte(out, behind_payload, sum)
 }
 
 // A frame whose length is at most a limit, and whose payload is three parts, one behind the other.
@@ -141,7 +147,7 @@ fn parts_within(
     out: &mut [u8],
 ) -> Written
     requires { ⌜ limit ≤ 65279 ⌝ }
-    ensures { λ r. ⌜ outcome (writtenRowOf r) (now (out .exit)) ≡ writeOf limit command number flags (now (first .entry) ++ (now (second .entry) ++ now (third .entry))) (now (out .entry)) ⌝ }
+    ensures { λ r. ⌜ Writes r (now (out .exit)) (writeOf limit command number flags (joinedParts (now (first .entry)) (now (second .entry)) (now (third .entry))) (now (out .entry))) ⌝ }
 {
     // Two lengths add up to a usize, three need not; what is past the limit is refused, however long it is.
     let size = base::least(first.len() + second.len(), limit) + third.len();
@@ -168,7 +174,7 @@ fn write_within(
     out: &mut [u8],
 ) -> Written
     requires { ⌜ limit ≤ 65279 ⌝ }
-    ensures { λ r. ⌜ outcome (writtenRowOf r) (now (out .exit)) ≡ writeOf limit command number flags (now (payload .entry)) (now (out .entry)) ⌝ }
+    ensures { λ r. ⌜ Writes r (now (out .exit)) (writeOf limit command number flags (now (payload .entry)) (now (out .entry))) ⌝ }
 {
     let none = &payload[..0];
     parts_within(limit, command, number, flags, payload, none, none, out)
@@ -176,7 +182,7 @@ fn write_within(
 
 // A frame written at the front of the output, or refused with the output as it was.
 pub fn write(command: u8, number: u8, flags: u16, payload: &[u8], out: &mut [u8]) -> Written
-    ensures { λ r. ⌜ outcome (writtenRowOf r) (now (out .exit)) ≡ writeOf frameLimit command number flags (now (payload .entry)) (now (out .entry)) ⌝ }
+    ensures { λ r. ⌜ Writes r (now (out .exit)) (writeOf frameLimit command number flags (now (payload .entry)) (now (out .entry))) ⌝ }
 {
     write_within(LIMIT, command, number, flags, payload, out)
 }
@@ -191,7 +197,7 @@ pub fn write_parts(
     third: &[u8],
     out: &mut [u8],
 ) -> Written
-    ensures { λ r. ⌜ outcome (writtenRowOf r) (now (out .exit)) ≡ writeOf frameLimit command number flags (now (first .entry) ++ (now (second .entry) ++ now (third .entry))) (now (out .entry)) ⌝ }
+    ensures { λ r. ⌜ Writes r (now (out .exit)) (writeOf frameLimit command number flags (joinedParts (now (first .entry)) (now (second .entry)) (now (third .entry))) (now (out .entry))) ⌝ }
 {
     parts_within(LIMIT, command, number, flags, first, second, third, out)
 }

@@ -2,7 +2,7 @@
 ghost use mathlib.Core.Path.{_≡_};
 ghost use Prim.Native.Nat.{_+_, _≤_};
 ghost use lib.ListN.{length};
-ghost use lib.Seq.{sets};
+ghost use Rattle.base.specs.Stores.{PutAt};
 ghost use Rattle.listing.specs.Decimal.{decimalOf};
 
 // How many digits a number has.
@@ -21,7 +21,7 @@ pub(crate) fn width(n: u64) -> usize
 // A number's digits at a place of the output, from the last to the first; the place behind them.
 pub(crate) fn put_decimal(out: &mut [u8], at: usize, n: u64) -> usize
     requires { ⌜ at + length (decimalOf n) ≤ length (now out) ⌝ }
-    ensures { λ r. ⌜ (r ≡ at + length (decimalOf n)) × (now (out .exit) ≡ sets (now (out .entry)) at (decimalOf n)) ⌝ }
+    ensures { λ r. ⌜ PutAt (now (out .entry)) at (decimalOf n) r (now (out .exit)) ⌝ }
 {
     let end = at + width(n);
     let mut rest = n;

@@ -4,7 +4,7 @@ use super::decimal::width;
 ghost use mathlib.Core.Path.{_≡_};
 ghost use Prim.Native.Nat.{_+_, _*_, _≤_};
 ghost use lib.ListN.{length};
-ghost use lib.Seq.{sets};
+ghost use Rattle.base.specs.Stores.{PutAt};
 ghost use Rattle.base.specs.Outcomes.{writtenIn};
 ghost use Rattle.listing.specs.Decimal.{columnsOf};
 ghost use Rattle.listing.specs.Lines.{textOf};
@@ -45,7 +45,7 @@ fn columns_width(numbers: &[u64]) -> usize
 // Numbers as columns at a place of the output; the place behind them.
 fn put_columns(out: &mut [u8], at: usize, numbers: &[u64]) -> usize
     requires { ⌜ at + length (columnsOf (now numbers)) ≤ length (now out) ⌝ }
-    ensures { λ r. ⌜ (r ≡ at + length (columnsOf (now (numbers .entry)))) × (now (out .exit) ≡ sets (now (out .entry)) at (columnsOf (now (numbers .entry)))) ⌝ }
+    ensures { λ r. ⌜ PutAt (now (out .entry)) at (columnsOf (now (numbers .entry))) r (now (out .exit)) ⌝ }
 {
     let mut next = at;
     let mut i = 0;
@@ -60,7 +60,7 @@ fn put_columns(out: &mut [u8], at: usize, numbers: &[u64]) -> usize
 // Bytes at a place of the output; the place behind them.
 fn put_bytes(out: &mut [u8], at: usize, bytes: &[u8]) -> usize
     requires { ⌜ at + length (now bytes) ≤ length (now out) ⌝ }
-    ensures { λ r. ⌜ (r ≡ at + length (now (bytes .entry))) × (now (out .exit) ≡ sets (now (out .entry)) at (now (bytes .entry))) ⌝ }
+    ensures { λ r. ⌜ PutAt (now (out .entry)) at (now (bytes .entry)) r (now (out .exit)) ⌝ }
 {
     let mut i = 0;
     while i < bytes.len() {

@@ -2,11 +2,12 @@
 use Prim.Native.Nat.{ℕ, _+_, _%_, _≤_, _<_}
 use mathlib.Core.Path.{_≡_, ap, _∙_}
 use mathlib.Core.List.{List, [], _∷_, _++_}
+use native.Mathlib.Nat.{zero-add}
 use native.Mathlib.Omega.{arith}
 use borrow.Author.Tests.{lt-ltb, le-ltb}
 use lib.ListN.{length}
 use lib.Seq.{sets}
-use Rattle.frame.specs.Wire.{wire, bodyOf}
+use Rattle.frame.specs.Wire.{wire, bodyOf, joinedParts}
 use Rattle.base.specs.Sums.{total}
 use Rattle.base.specs.Numbers.{two}
 use Rattle.base.specs.Rows.{row}
@@ -23,7 +24,7 @@ use Rattle.frame.proofs.writer.parts_within.Tie as tie
 
 module _ (c : tie.Start) where
   abbrev payload : List ℕ
-  payload = c .args .first .now ++ (c .args .second .now ++ c .args .third .now)
+  payload = joinedParts (c .args .first .now) (c .args .second .now) (c .args .third .now)
 
   payload-length : length payload ≡ length (c .args .first .now) + (length (c .args .second .now) + length (c .args .third .now))
   payload-length = parts-length (c .args .first .now) (c .args .second .now) (c .args .third .now)
@@ -46,8 +47,8 @@ module _ (c : tie.Start) where
   no-room : length payload + 5 ≤ limit → length out < length (wire body) → outcome (row 22 (0 ∷ [])) out ≡ asked
   no-room h g = rw (le-ltb limit (length payload + 5) h, lt-ltb (length out) (length (wire body)) g)
 
-  done : length payload + 5 ≤ limit → length (wire body) ≤ length out → outcome (row 0 (length (wire body) ∷ [])) (sets out 0 (wire body)) ≡ asked
-  done h g = rw (le-ltb limit (length payload + 5) h, le-ltb (length out) (length (wire body)) g, sets-front (wire body) out g)
+  done : length payload + 5 ≤ limit → length (wire body) ≤ length out → outcome (row 0 ((0 + length (wire body)) ∷ [])) (sets out 0 (wire body)) ≡ asked
+  done h g = rw (le-ltb limit (length payload + 5) h, le-ltb (length out) (length (wire body)) g, sets-front (wire body) out g, zero-add)
 
 -- ---- what is sized: the head, the payload and their sum are the frame's body, and the count is that of its wire form
 
@@ -75,10 +76,10 @@ module _ (c : tie.After-sized) where
   head = c .before .head-of .result
 
   whole : head ++ (payload (start within) ++ c .sized .result .sum ∷ []) ≡ body (start within)
-  whole = body-parts _ _ _ _ (payload (start within)) head (c .sized .result .sum) (size within) (c .before .head-of .ensures) (c .sized .ensures .0)
+  whole = body-parts _ _ _ _ (payload (start within)) head (c .sized .result .sum) (size within) (c .before .head-of .ensures) (c .sized .ensures .sum-is)
 
   count : c .sized .result .count ≡ length (wire (body (start within)))
-  count = c .sized .ensures .1 ∙ ap (λ (b : List ℕ). length (wire b)) whole
+  count = c .sized .ensures .count-is ∙ ap (λ (b : List ℕ). length (wire b)) whole
 
 returns : tie.Need-returns
 returns c =

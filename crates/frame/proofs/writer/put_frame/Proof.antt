@@ -1,23 +1,32 @@
--- `put_frame` meets its contract: the header, and the parts one behind the other.
-use Prim.Native.Nat.{_+_, _≤_}
+-- `writer::put_frame` meets its contract: the header, and the parts one behind the other.
+use Prim.Native.Nat.{ℕ, _+_, _≤_}
 use mathlib.Core.Path.{_≡_}
-use mathlib.Core.List.{[], _∷_}
+use mathlib.Core.List.{List, [], _∷_}
 use native.Mathlib.Omega.{arith}
 use borrow.Author.Needs.{needs}
 use lib.ListN.{length, length-set}
-use Rattle.frame.specs.Wire.{stuff}
-use Rattle.frame.proofs.Writing.{wire-length, parts-written}
+use Rattle.frame.specs.Wire.{stuff, joinedParts}
+use Rattle.frame.proofs.Writing.{put-append, put-framed, framed-length}
 use Rattle.frame.proofs.writer.put_frame.Statement.{statement}
 use Rattle.frame.proofs.writer.put_frame.Tie as tie
 
--- the room that the parts need
-room : (c : tie.Start)
-    → 2 + length (stuff (c .args .t2)) + length (stuff (c .args .first .now)) + length (stuff (c .args .second .now)) + length (stuff (c .args .third .now)) + length (stuff (c .args .sum ∷ []))
-    ≤ length (c .args .out .now)
-room c = omega (arith, wire-length (c .args .t2) (c .args .first .now) (c .args .second .now) (c .args .third .now) (c .args .sum))
+module _ (s : tie.Start) where
+  abbrev payload : List ℕ
+  payload = joinedParts (s .args .first .now) (s .args .second .now) (s .args .third .now)
 
+  -- the room that the parts need
+  room : 2 + length (stuff (s .args .t2)) + length (stuff payload) + length (stuff (s .args .sum ∷ [])) ≤ length (s .args .out .now)
+  room = omega (arith, framed-length (s .args .t2) payload (s .args .sum))
+
+-- each call, and the function's start, as seen from the one behind it
 abbrev start : tie.After-put-bytes → tie.Start
 start c = c .before .before .before .before .before .before .before
+
+abbrev head : tie.After-put-parts → tie.After-put-bytes
+head c = c .before .before .before .before
+
+abbrev parts : tie.After-put-byte → tie.After-put-parts
+parts c = c .before .before .before .before
 
 -- the first call leaves the output as long as it came
 kept : (c : tie.After-put-bytes) → length (c .put-bytes .last .0) ≡ length (start c .args .out .now)
@@ -29,39 +38,23 @@ slice-write-out-2 c = simp length-set (omega arith)
 put-bytes-requires : tie.Need-put-bytes-requires
 put-bytes-requires c κs = simp length-set (omega (arith, room (c .before .before .before .before .before .before)))
 
-put-bytes-requires-2 : tie.Need-put-bytes-requires-2
-put-bytes-requires-2 c κs =
-    let head = c .before .before .before in
-    omega (arith, room (start head), kept head)
-
-put-bytes-requires-3 : tie.Need-put-bytes-requires-3
-put-bytes-requires-3 c κs =
-    let head = c .before .before .before .before .before .before .before in
-    omega (arith, room (start head), kept head)
-
-put-bytes-requires-4 : tie.Need-put-bytes-requires-4
-put-bytes-requires-4 c κs =
-    let head = c .before .before .before .before .before .before .before .before .before .before .before in
-    omega (arith, room (start head), kept head)
+put-parts-requires : tie.Need-put-parts-requires
+put-parts-requires c κs =
+    let h = c .before .before .before in
+    omega (arith, room (start h), kept h)
 
 put-byte-requires : tie.Need-put-byte-requires
 put-byte-requires c κs =
-    let head = c .before .before .before .before .before .before .before .before .before .before .before .before .before .before .before in
-    omega (arith, room (start head), kept head)
-
-same-length : tie.Need-same-length
-same-length c = omega (arith, kept (c .before .before .before .before .before .before .before .before .before .before .before .before .before .before .before .before .before .before))
+    let h = head (c .before .before .before) in
+    omega (arith, room (start h), kept h)
 
 returns : tie.Need-returns
 returns c =
     let sum = c .before .before in
-    let third = sum .before .before .before .before in
-    let second = third .before .before .before .before in
-    let first = second .before .before .before .before in
-    let head = first .before .before .before .before in
-    let args = start head .args in
-    parts-written (args .t2) (args .first .now) (args .second .now) (args .third .now) (args .sum) (args .out .now)
-    (head .put-bytes .ensures) (first .put-bytes2 .ensures) (second .put-bytes3 .ensures) (third .put-bytes4 .ensures) (sum .put-byte .ensures)
+    let h = head (parts sum) in
+    let s = start h in
+    let behind = put-append _ (payload s) (s .args .sum ∷ []) _ (parts sum .put-parts .ensures) (sum .put-byte .ensures) in
+    put-framed (s .args .out .now) _ (put-append _ (s .args .t2) _ 2 (h .put-bytes .ensures) behind)
 
 pub put-frame-spec : {M : Type 1} → statement M
 put-frame-spec =
@@ -71,9 +64,7 @@ put-frame-spec =
     slice-write-out-2
     (λ c. search needs)
     put-bytes-requires
-    put-bytes-requires-2
-    put-bytes-requires-3
-    put-bytes-requires-4
+    put-parts-requires
     put-byte-requires
-    same-length
+    (λ c. omega (arith, kept (head (parts (c .before .before)))))
     returns)

@@ -4,10 +4,10 @@ use mathlib.Core.List.{List, [], _∷_}
 use native.Mathlib.Omega.{arith}
 use borrow.Author.Needs.{needs}
 use lib.ListN.{length}
-use Rattle.frame.specs.Wire.{stuff}
+use Rattle.frame.specs.Wire.{stuff, joinedParts}
 use Rattle.frame.proofs.Stuffing.{stuff-bound}
 use Rattle.base.proofs.Sums.{sum-append}
-use Rattle.frame.proofs.Writing.{parts-length, wire-length}
+use Rattle.frame.proofs.Writing.{parts-length, stuffed-length, framed-length}
 use Rattle.frame.proofs.writer.sized.Statement.{statement}
 use Rattle.frame.proofs.writer.sized.Tie as tie
 
@@ -46,7 +46,8 @@ returns c =
     let m = c .before .before in
     let s = m .before .before .before .before .before .before .before .before in
     let payload = sum-append (first s) _ _ (m .before .before .measured2 .ensures .1) (sum-append (second s) (third s) _ (m .before .measured3 .ensures .1) (m .measured4 .ensures .1)) in
-    omega (arith, wire-length (head s) (first s) (second s) (third s) (m .measured4 .result .sum))
+    let sum = m .measured4 .result .sum in
+    omega (arith, framed-length (head s) (joinedParts (first s) (second s) (third s)) sum, stuffed-length (first s) (second s) (third s))
 
 pub sized-spec : {M : Type 1} → statement M
 sized-spec =
