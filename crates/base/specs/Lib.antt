@@ -6,3 +6,4 @@ pub mod Parts
 pub mod Numbers
 pub mod Sums
 pub mod Keys
+pub mod Claims
