@@ -7,7 +7,7 @@ use mathlib.Core.Bool.{Bool, true, false, cond, _||_}
 use mathlib.Core.List.{List, [], _∷_, _++_, map, List·Memᴰ}
 use lib.ListN.{replicate}
 use lib.Dec.{eqb}
-use Rattle.frame.specs.Wire.{commandOf, numberOf, flagsOf, payloadOf}
+use Rattle.frame.specs.Wire.{frameLimit, commandOf, numberOf, flagsOf, payloadOf}
 use Rattle.frame.specs.Frames.{frontBody}
 use Rattle.base.specs.Rows.{Row, row}
 use Rattle.frame.specs.Calls.{Reply, zeros, freshOf, feedOf, writeOf}
@@ -63,7 +63,7 @@ writerAnswer w = output (w .row) (w .out)
 abbrev pub answerTo : Question → Answer
 answerTo (bytesGiven bytes) = readerAnswer (feedOf 1024 (freshOf 1024) bytes)
 answerTo (frameWritten command number flags payload out) = writerAnswer (writeOf 1024 command number flags payload out)
-answerTo (messageWritten m number flags lent out) = writerAnswer (sendOf m number flags lent out)
+answerTo (messageWritten m number flags lent out) = writerAnswer (sendOf frameLimit m number flags lent out)
 answerTo (messageRead command payload) = said (readOf command payload)
 answerTo (timeElapsed clock since) = milliseconds (elapsedOf clock since)
 answerTo (tickDue clock sent) = due (isDue clock sent)

@@ -22,22 +22,23 @@ use Rattle.message.specs.declared.values.Message.the-variants as message
 use Rattle.base.proofs.Keys.{among-holds}
 
 -- so short a payload is not too long
-pub short-enough : (command number : ℕ) (payload out after : List ℕ) → length payload ≤ 1 → outcome (row 21 (0 ∷ [])) after ≡ writeOf 1024 command number 0 payload out → ⊥
-short-enough command number payload out after h e =
-    let l : length payload + 5 ≤ 1024 = omega arith in
+pub short-enough :
+    (limit command number : ℕ) (payload out after : List ℕ) → length payload + 5 ≤ limit
+    → outcome (row 21 (0 ∷ [])) after ≡ writeOf limit command number 0 payload out → ⊥
+short-enough limit command number payload out after h e =
     by-test (λ (w : Write). w .row .number ≡ 21 → ⊥) (ltb (length out) (length (wire (bodyOf command number 0 payload))))
     (λ _. eqb-false 22 21 refl) (λ _. eqb-false 0 21 refl)
-    (rw (le-ltb 1024 (length payload + 5) l) at (ap (λ (w : Write). w .row .number) (sym e)))
+    (rw (le-ltb limit (length payload + 5) h) at (ap (λ (w : Write). w .row .number) (sym e)))
 
 -- ---- a frame's answer goes by its body
 
-module _ (body out : List ℕ) {w : Write} where
+module _ (limit : ℕ) (body out : List ℕ) {w : Write} where
   pub by-body : (command number : ℕ) (payload : List ℕ) → command ≡ commandOf body → number ≡ numberOf body → payload ≡ payloadOf body
-      → w ≡ answerFrameOf command number payload out → w ≡ answerFrameOf (commandOf body) (numberOf body) (payloadOf body) out
+      → w ≡ answerFrameOf limit command number payload out → w ≡ answerFrameOf limit (commandOf body) (numberOf body) (payloadOf body) out
   by-body command number payload p q r e = rw (← p, ← q, ← r) e
 
-  pub by-sum : (number : ℕ) → number ≡ numberOf body → w ≡ rejectOf 1 number out → w ≡ rejectOf 1 (numberOf body) out
-  by-sum number q e = e ∙ ap (λ (n : ℕ). rejectOf 1 n out) q
+  pub by-sum : (number : ℕ) → number ≡ numberOf body → w ≡ rejectOf limit 1 number out → w ≡ rejectOf limit 1 (numberOf body) out
+  by-sum number q e = e ∙ ap (λ (n : ℕ). rejectOf limit 1 n out) q
 
 -- ---- what is due is read
 

@@ -9,4 +9,4 @@ use Rattle.message.specs.Claims.{Example4}
 
 pub example-4 : Example4
 unfolding stuff total bodyOf among kindIn
-example-4 out h = rw (le-ltb (length out) 19 h)
+example-4 limit l out h = rw (le-ltb limit 14 l, le-ltb (length out) 19 h)

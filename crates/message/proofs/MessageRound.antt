@@ -22,14 +22,14 @@ use Rattle.message.proofs.Tests.{passed}
 use Rattle.message.proofs.Written.{written-read}
 
 -- a call that wrote so many bytes of a frame
-record Wrote (payload w : List ℕ) (count : ℕ) (o : Write) : Type 0 where
-  fits : length payload + 5 ≤ 1024
+record Wrote (limit : ℕ) (payload w : List ℕ) (count : ℕ) (o : Write) : Type 0 where
+  fits : length payload + 5 ≤ limit
   front : take count (o .out) ≡ w
 
 wrote :
-    (command number flags : ℕ) (payload out : List ℕ) (count : ℕ) → writeOf 1024 command number flags payload out .row ≡ row 0 (count ∷ [])
-    → Wrote payload (wire (bodyOf command number flags payload)) count (writeOf 1024 command number flags payload out)
-wrote command number flags payload out count e = go (ltb 1024 (length payload + 5)) (ltb (length out) (length w)) refl e
+    (limit command number flags : ℕ) (payload out : List ℕ) (count : ℕ) → writeOf limit command number flags payload out .row ≡ row 0 (count ∷ [])
+    → Wrote limit payload (wire (bodyOf command number flags payload)) count (writeOf limit command number flags payload out)
+wrote limit command number flags payload out count e = go (ltb limit (length payload + 5)) (ltb (length out) (length w)) refl e
   where
     w : List ℕ
     w = wire (bodyOf command number flags payload)
@@ -37,28 +37,28 @@ wrote command number flags payload out count e = go (ltb 1024 (length payload + 
     written : Bool → Bool → Write
     written large narrow = cond large (outcome (row 21 (0 ∷ [])) out) (cond narrow (outcome (row 22 (0 ∷ [])) out) (outcome (row 0 (length w ∷ [])) (onto w out)))
 
-    go : (large narrow : Bool) → ltb 1024 (length payload + 5) ≡ large → written large narrow .row ≡ row 0 (count ∷ []) → Wrote payload w count (written large narrow)
+    go : (large narrow : Bool) → ltb limit (length payload + 5) ≡ large → written large narrow .row ≡ row 0 (count ∷ []) → Wrote limit payload w count (written large narrow)
     go true narrow q e = refused e
     go false true q e = refused e
     go false false q e = record { fits = ltb-false _ _ q; front = take-at w (drop (length w) out) count (ap (λ (r : Row). getD (r .values) 0 0) e) }
 
-module _ (m : Message) (number flags count : ℕ) (lent out : List ℕ) where
+module _ (limit : ℕ) (m : Message) (number flags count : ℕ) (lent out : List ℕ) where
   record Sent (o : Write) : Type 0 where
     writable : Writable m lent
-    frame : Wrote (payloadIn m lent) (wire (bodyOf (commandIn m) number flags (payloadIn m lent))) count o
+    frame : Wrote limit (payloadIn m lent) (wire (bodyOf (commandIn m) number flags (payloadIn m lent))) count o
 
-  sent : sendOf m number flags lent out .row ≡ row 0 (count ∷ []) → Sent (sendOf m number flags lent out)
+  sent : sendOf limit m number flags lent out .row ≡ row 0 (count ∷ []) → Sent (sendOf limit m number flags lent out)
   sent e =
-      let o : Write = writeOf 1024 (commandIn m) number flags (payloadIn m lent) out in
+      let o : Write = writeOf limit (commandIn m) number flags (payloadIn m lent) out in
       let t = passed (λ (w : Write). w .row) (λ n. outcome (row n []) out) (λ n. refl) (isListed (kindOf (commandIn m))) (lentFits m (length lent)) (allowedIn m) o e in
       let written : o .row ≡ row 0 (count ∷ []) = ap (λ (w : Write). w .row) (sym (t .3)) ∙ e in
       record {
         writable = record { listed = t .0; sized = t .1; allows = t .2 };
-        frame = rw (t .3) (wrote (commandIn m) number flags (payloadIn m lent) out count written);
+        frame = rw (t .3) (wrote limit (commandIn m) number flags (payloadIn m lent) out count written);
       }
 
 pub message-round-trip : MessageRoundTrip
-message-round-trip m number flags count lent out e earlier later all =
-    let s = sent m number flags count lent out e in
-    let back = round-trip 1024 (omega arith) (commandIn m) number flags (payloadIn m lent) (s .frame .fits) earlier later (all ∙ s .frame .front) in
+message-round-trip limit h m number flags count lent out e earlier later all =
+    let s = sent limit m number flags count lent out e in
+    let back = round-trip limit h (commandIn m) number flags (payloadIn m lent) (s .frame .fits) earlier later (all ∙ s .frame .front) in
     record { frame = back; message = rw (back .command-is, back .payload-is) (written-read m lent (s .writable)) }

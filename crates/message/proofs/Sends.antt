@@ -24,10 +24,10 @@ pub onward : {a b : Row} {left : List ℕ} {w : Write} → a ≡ b → outcome b
 onward p e = rw p e
 
 -- what is refused neither as a command nor for its size nor for a field is a frame with the payload, whose row is passed on
-pub sent : {listed sized allows : Bool} (command number flags : ℕ) {bytes payload : List ℕ} (out : List ℕ) {a b : Row} {left : List ℕ}
+pub sent : {listed sized allows : Bool} (limit command number flags : ℕ) {bytes payload : List ℕ} (out : List ℕ) {a b : Row} {left : List ℕ}
     → listed ≡ true → sized ≡ true → allows ≡ true → bytes ≡ payload → a ≡ b
-    → outcome b left ≡ writeOf 1024 command number flags bytes out → outcome a left ≡ sendAs listed sized allows command number flags payload out
-sent command number flags out l s a p q e = onward q e ∙ ap (λ (b : List ℕ). writeOf 1024 command number flags b out) p ∙ passed _ _ _ _ l s a
+    → outcome b left ≡ writeOf limit command number flags bytes out → outcome a left ≡ sendAs limit listed sized allows command number flags payload out
+sent limit command number flags out l s a p q e = onward q e ∙ ap (λ (b : List ℕ). writeOf limit command number flags b out) p ∙ passed _ _ _ _ l s a
 
 -- ---- payloads
 

@@ -42,23 +42,23 @@ abbrev pub withCode : ℕ → Write → Write
 withCode code w = cond (eqb (w .row .number) 0) (outcome (row 0 (getD (w .row .values) 0 0 ∷ 0x12 ∷ code ∷ [])) (w .out)) w
 
 -- "12 with code ..", "with the number received"
-abbrev pub rejectOf : ℕ → ℕ → List ℕ → Write
-rejectOf code number out = withCode code (writeOf 1024 0x12 number 0 (code ∷ []) out)
+abbrev pub rejectOf : ℕ → ℕ → ℕ → List ℕ → Write
+rejectOf limit code number out = withCode code (writeOf limit 0x12 number 0 (code ∷ []) out)
 
 -- what is due, done
-abbrev pub answeredOf : Due → ℕ → List ℕ → Write
-answeredOf Nothing number out = outcome (row 0 []) out
-answeredOf AskInformation number out = outcome (row 0 (0 ∷ 0x02 ∷ number ∷ [])) out
-answeredOf AskStatus number out = outcome (row 0 (0 ∷ 0x04 ∷ number ∷ [])) out
-answeredOf (Acknowledge command) number out = writeOf 1024 command number 0 [] out
-answeredOf (Reject code) number out = rejectOf code number out
+abbrev pub answeredOf : ℕ → Due → ℕ → List ℕ → Write
+answeredOf limit Nothing number out = outcome (row 0 []) out
+answeredOf limit AskInformation number out = outcome (row 0 (0 ∷ 0x02 ∷ number ∷ [])) out
+answeredOf limit AskStatus number out = outcome (row 0 (0 ∷ 0x04 ∷ number ∷ [])) out
+answeredOf limit (Acknowledge command) number out = writeOf limit command number 0 [] out
+answeredOf limit (Reject code) number out = rejectOf limit code number out
 
 -- to a frame received
-abbrev pub answerFrameOf : ℕ → ℕ → List ℕ → List ℕ → Write
-answerFrameOf command number p out = answeredOf (dueOf command p) number out
+abbrev pub answerFrameOf : ℕ → ℕ → ℕ → List ℕ → List ℕ → Write
+answerFrameOf limit command number p out = answeredOf limit (dueOf command p) number out
 
 -- to an answer of the reader, with the body that it holds then: a FRAME as above; "SUM gets 12 with code 1"; "All else gets no answer"
-abbrev pub answerOf : Row → List ℕ → List ℕ → Write
-answerOf said body out =
-    cond (eqb (said .number) 1) (answerFrameOf (commandOf body) (numberOf body) (payloadOf body) out)
-    (cond (eqb (said .number) 15) (rejectOf 1 (numberOf body) out) (outcome (row 0 []) out))
+abbrev pub answerOf : ℕ → Row → List ℕ → List ℕ → Write
+answerOf limit said body out =
+    cond (eqb (said .number) 1) (answerFrameOf limit (commandOf body) (numberOf body) (payloadOf body) out)
+    (cond (eqb (said .number) 15) (rejectOf limit 1 (numberOf body) out) (outcome (row 0 []) out))

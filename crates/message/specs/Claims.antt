@@ -5,7 +5,7 @@ use mathlib.Core.Bool.{true, false, cond, _&&_, _||_}
 use mathlib.Core.List.{List, [], _∷_, _++_}
 use lib.ListN.{length, getD, take, drop}
 use lib.Dec.{eqb}
-use Rattle.frame.specs.Wire.{commandOf, payloadOf}
+use Rattle.frame.specs.Wire.{widest, commandOf, payloadOf}
 use Rattle.base.specs.Rows.{row}
 use Rattle.base.specs.Outcomes.{outcome}
 use Rattle.frame.specs.Calls.{freshOf}
@@ -130,10 +130,12 @@ pub record MessageBack (start : ℕ) (m : Message) (number flags : ℕ) (lent : 
 -- of every message that was written
 abbrev pub MessageRoundTrip : Type 0
 MessageRoundTrip =
-    (m : Message) (number flags count : ℕ) (lent out : List ℕ) → sendOf m number flags lent out .row ≡ row 0 (count ∷ [])
+    (limit : ℕ) → limit ≤ widest → (m : Message) (number flags count : ℕ) (lent out : List ℕ)
+    → sendOf limit m number flags lent out .row ≡ row 0 (count ∷ [])
     → (earlier later : List Call)
-    → stream (logOf 1024 (readerAfter 1024 (freshOf 1024) earlier) later) ≡ take count (sendOf m number flags lent out .out)
-    → MessageBack (length (stream (logOf 1024 (freshOf 1024) earlier))) m number flags lent (logOf 1024 (readerAfter 1024 (freshOf 1024) earlier) later)
+    → stream (logOf limit (readerAfter limit (freshOf limit) earlier) later) ≡ take count (sendOf limit m number flags lent out .out)
+    → MessageBack (length (stream (logOf limit (freshOf limit) earlier))) m number flags lent
+    (logOf limit (readerAfter limit (freshOf limit) earlier) later)
 
 -- ---- answers-are-read: what the box writes as an answer is a message that only the box sends, and that reading accepts
 
@@ -161,6 +163,8 @@ abbrev pub example4Bytes : List ℕ
 example4Bytes =
     0xFF ∷ 0xFF ∷ 0x00 ∷ 0x0E ∷ 0x05 ∷ 0x02 ∷ 0x00 ∷ 0x00 ∷ 0x04 ∷ 0x05 ∷ 0x00 ∷ 0x03 ∷ 0x00 ∷ 0x00 ∷ 0x00 ∷ 0xFF ∷ 0x55 ∷ 0x00 ∷ 0x20 ∷ []
 
--- written into any output that has room for them
+-- written into any output that has room for them, under any limit that lets its 9 bytes of payload pass
 abbrev pub Example4 : Type 0
-Example4 = (out : List ℕ) → 19 ≤ length out → sendOf example4 2 0 [] out ≡ outcome (row 0 (19 ∷ [])) (example4Bytes ++ drop 19 out)
+Example4 =
+    (limit : ℕ) → 14 ≤ limit → (out : List ℕ) → 19 ≤ length out
+    → sendOf limit example4 2 0 [] out ≡ outcome (row 0 (19 ∷ [])) (example4Bytes ++ drop 19 out)

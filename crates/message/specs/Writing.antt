@@ -128,13 +128,13 @@ allowedIn (message.Piece index total) = true
 -- ---- a message written
 
 -- "31, 32, 33", then the frame writer's "21, 22"; a refusal leaves the output
-abbrev pub sendAs : Bool → Bool → Bool → ℕ → ℕ → ℕ → List ℕ → List ℕ → Write
-sendAs listed sized allows command number flags payload out =
+abbrev pub sendAs : ℕ → Bool → Bool → Bool → ℕ → ℕ → ℕ → List ℕ → List ℕ → Write
+sendAs limit listed sized allows command number flags payload out =
     cond listed
-    (cond sized (cond allows (writeOf 1024 command number flags payload out) (outcome (row 33 []) out)) (outcome (row 32 []) out))
+    (cond sized (cond allows (writeOf limit command number flags payload out) (outcome (row 33 []) out)) (outcome (row 32 []) out))
     (outcome (row 31 []) out)
 
 -- a message, under a number and flags
-abbrev pub sendOf : Message → ℕ → ℕ → List ℕ → List ℕ → Write
-sendOf m number flags lent out =
-    sendAs (isListed (kindOf (commandIn m))) (lentFits m (length lent)) (allowedIn m) (commandIn m) number flags (payloadIn m lent) out
+abbrev pub sendOf : ℕ → Message → ℕ → ℕ → List ℕ → List ℕ → Write
+sendOf limit m number flags lent out =
+    sendAs limit (isListed (kindOf (commandIn m))) (lentFits m (length lent)) (allowedIn m) (commandIn m) number flags (payloadIn m lent) out

@@ -10,6 +10,7 @@ use frame::Written;
 ghost use mathlib.Core.Path.{_≡_};
 ghost use mathlib.Core.List.{[]};
 ghost use Rattle.frame.specs.Table.{rowOf};
+ghost use Rattle.frame.specs.Wire.{frameLimit};
 ghost use Rattle.base.specs.Outcomes.{outcome};
 ghost use Rattle.frame.specs.Calls.{writeOf};
 ghost use Rattle.message.specs.Table.{replyRowOf};
@@ -77,7 +78,8 @@ fn due_of(command: u8, payload: &[u8]) -> Due
 // A command of no bytes, under the number received; the frame writer's ROOM is passed on.
 fn acknowledge(command: u8, none: &[u8], number: u8, out: &mut [u8]) -> Reply
     requires { ⌜ now none ≡ [] ⌝ }
-    ensures { λ r. ⌜ outcome (replyRowOf r) (now (out .exit)) ≡ writeOf 1024 command number 0 [] (now (out .entry)) ⌝ }
+    ensures { λ r. ⌜ outcome (replyRowOf r) (now (out .exit))
+        ≡ writeOf frameLimit command number 0 [] (now (out .entry)) ⌝ }
 {
     let written = frame::write(command, number, 0, none, out);
     match written {
@@ -90,7 +92,8 @@ fn acknowledge(command: u8, none: &[u8], number: u8, out: &mut [u8]) -> Reply
 
 // Word to the module that a frame was invalid, under the number received.
 fn reject(code: u8, number: u8, out: &mut [u8]) -> Reply
-    ensures { λ r. ⌜ outcome (replyRowOf r) (now (out .exit)) ≡ rejectOf code number (now (out .entry)) ⌝ }
+    ensures { λ r. ⌜ outcome (replyRowOf r) (now (out .exit))
+        ≡ rejectOf frameLimit code number (now (out .entry)) ⌝ }
 {
     let bytes = [code];
     let written = frame::write(0x12, number, 0, &bytes, out);
@@ -104,7 +107,8 @@ fn reject(code: u8, number: u8, out: &mut [u8]) -> Reply
 
 // What the box answers to a frame: written at the front of the output under the number received, or asked of the caller, or nothing.
 pub fn answer_frame(command: u8, number: u8, payload: &[u8], out: &mut [u8]) -> Reply
-    ensures { λ r. ⌜ outcome (replyRowOf r) (now (out .exit)) ≡ answerFrameOf command number (now (payload .entry)) (now (out .entry)) ⌝ }
+    ensures { λ r. ⌜ outcome (replyRowOf r) (now (out .exit))
+        ≡ answerFrameOf frameLimit command number (now (payload .entry)) (now (out .entry)) ⌝ }
 {
     let due = due_of(command, payload);
     match due {
@@ -118,7 +122,8 @@ pub fn answer_frame(command: u8, number: u8, payload: &[u8], out: &mut [u8]) -> 
 
 // What the box answers when its reader has said something, by the body that the reader then holds.
 pub fn answer(said: Answer, body: &[u8], out: &mut [u8]) -> Reply
-    ensures { λ r. ⌜ outcome (replyRowOf r) (now (out .exit)) ≡ answerOf (rowOf said) (now (body .entry)) (now (out .entry)) ⌝ }
+    ensures { λ r. ⌜ outcome (replyRowOf r) (now (out .exit))
+        ≡ answerOf frameLimit (rowOf said) (now (body .entry)) (now (out .entry)) ⌝ }
 {
     match said {
         Answer::Frame { .. } => answer_frame(

@@ -26,6 +26,7 @@ ghost use Rattle.base.specs.Numbers.{two};
 ghost use Rattle.base.specs.Outcomes.{outcome};
 ghost use Rattle.frame.specs.Calls.{writeOf};
 ghost use Rattle.frame.specs.Table.{writtenRowOf};
+ghost use Rattle.frame.specs.Wire.{frameLimit};
 ghost use Rattle.message.specs.Numbers.{eight};
 ghost use Rattle.message.specs.Table.{sentRowOf};
 ghost use Rattle.message.specs.Counter.{statusBytes};
@@ -57,14 +58,16 @@ fn passed_on(written: Written) -> Sent
 
 // A frame with a payload in one piece.
 fn write_frame(command: u8, payload: &[u8], number: u8, flags: u16, out: &mut [u8]) -> Sent
-    ensures { λ r. ⌜ outcome (sentRowOf r) (now (out .exit)) ≡ writeOf 1024 command number flags (now (payload .entry)) (now (out .entry)) ⌝ }
+    ensures { λ r. ⌜ outcome (sentRowOf r) (now (out .exit))
+        ≡ writeOf frameLimit command number flags (now (payload .entry)) (now (out .entry)) ⌝ }
 {
     passed_on(frame::write(command, number, flags, payload, out))
 }
 
 // A command without payload.
 fn write_empty(command: u8, lent: &[u8], number: u8, flags: u16, out: &mut [u8]) -> Sent
-    ensures { λ r. ⌜ outcome (sentRowOf r) (now (out .exit)) ≡ sendOf (message.Empty command) number flags (now (lent .entry)) (now (out .entry)) ⌝ }
+    ensures { λ r. ⌜ outcome (sentRowOf r) (now (out .exit))
+        ≡ sendOf frameLimit (message.Empty command) number flags (now (lent .entry)) (now (out .entry)) ⌝ }
 {
     let kind = kind_of(command);
     if !is_listed(kind) {
@@ -81,7 +84,8 @@ fn write_empty(command: u8, lent: &[u8], number: u8, flags: u16, out: &mut [u8])
 
 // Information without attributes, between the lent texts and key.
 fn write_short(timeout: u16, lent: &[u8], number: u8, flags: u16, out: &mut [u8]) -> Sent
-    ensures { λ r. ⌜ outcome (sentRowOf r) (now (out .exit)) ≡ sendOf (message.Information timeout extra.Absent) number flags (now (lent .entry)) (now (out .entry)) ⌝ }
+    ensures { λ r. ⌜ outcome (sentRowOf r) (now (out .exit))
+        ≡ sendOf frameLimit (message.Information timeout extra.Absent) number flags (now (lent .entry)) (now (out .entry)) ⌝ }
 {
     if lent.len() != 64 {
         return Sent::Size;
@@ -121,7 +125,8 @@ fn write_long(
     out: &mut [u8],
 ) -> Sent
     requires { ⌜ 64 ≤ size ⌝ }
-    ensures { λ r. ⌜ outcome (sentRowOf r) (now (out .exit)) ≡ sendAs true (eqb (length (now (lent .entry))) size) true 2 number flags (informationBytes (two timeout (eight attributes [])) (now (lent .entry))) (now (out .entry)) ⌝ }
+    ensures { λ r. ⌜ outcome (sentRowOf r) (now (out .exit))
+        ≡ sendAs frameLimit true (eqb (length (now (lent .entry))) size) true 2 number flags (informationBytes (two timeout (eight attributes [])) (now (lent .entry))) (now (out .entry)) ⌝ }
 {
     if lent.len() != size {
         return Sent::Size;
@@ -139,7 +144,8 @@ fn write_information(
     flags: u16,
     out: &mut [u8],
 ) -> Sent
-    ensures { λ r. ⌜ outcome (sentRowOf r) (now (out .exit)) ≡ sendOf (message.Information timeout extra) number flags (now (lent .entry)) (now (out .entry)) ⌝ }
+    ensures { λ r. ⌜ outcome (sentRowOf r) (now (out .exit))
+        ≡ sendOf frameLimit (message.Information timeout extra) number flags (now (lent .entry)) (now (out .entry)) ⌝ }
 {
     match extra {
         Extra::Absent => write_short(timeout, lent, number, flags, out),
@@ -154,7 +160,8 @@ fn write_information(
 
 // What the counter is told to do.
 fn write_control(control: Control, lent: &[u8], number: u8, flags: u16, out: &mut [u8]) -> Sent
-    ensures { λ r. ⌜ outcome (sentRowOf r) (now (out .exit)) ≡ sendOf (message.Control control) number flags (now (lent .entry)) (now (out .entry)) ⌝ }
+    ensures { λ r. ⌜ outcome (sentRowOf r) (now (out .exit))
+        ≡ sendOf frameLimit (message.Control control) number flags (now (lent .entry)) (now (out .entry)) ⌝ }
 {
     if lent.len() != 0 {
         return Sent::Size;
@@ -176,7 +183,8 @@ fn write_byte(
     flags: u16,
     out: &mut [u8],
 ) -> Sent
-    ensures { λ r. ⌜ outcome (sentRowOf r) (now (out .exit)) ≡ sendAs true (eqb (length (now (lent .entry))) 0) allowed command number flags (byte ∷ []) (now (out .entry)) ⌝ }
+    ensures { λ r. ⌜ outcome (sentRowOf r) (now (out .exit))
+        ≡ sendAs frameLimit true (eqb (length (now (lent .entry))) 0) allowed command number flags (byte ∷ []) (now (out .entry)) ⌝ }
 {
     if lent.len() != 0 {
         return Sent::Size;
@@ -190,7 +198,8 @@ fn write_byte(
 
 // The counter asked for its status.
 fn write_query(lent: &[u8], number: u8, flags: u16, out: &mut [u8]) -> Sent
-    ensures { λ r. ⌜ outcome (sentRowOf r) (now (out .exit)) ≡ sendOf message.Query number flags (now (lent .entry)) (now (out .entry)) ⌝ }
+    ensures { λ r. ⌜ outcome (sentRowOf r) (now (out .exit))
+        ≡ sendOf frameLimit message.Query number flags (now (lent .entry)) (now (out .entry)) ⌝ }
 {
     write_byte(0x03, 2, true, lent, number, flags, out)
 }
@@ -205,7 +214,8 @@ fn write_status(
     flags: u16,
     out: &mut [u8],
 ) -> Sent
-    ensures { λ r. ⌜ outcome (sentRowOf r) (now (out .exit)) ≡ sendAs true (eqb (length (now (lent .entry))) 0) (ltb (status .mode) 3) command number flags (action ∷ statusBytes status) (now (out .entry)) ⌝ }
+    ensures { λ r. ⌜ outcome (sentRowOf r) (now (out .exit))
+        ≡ sendAs frameLimit true (eqb (length (now (lent .entry))) 0) (ltb (status .mode) 3) command number flags (action ∷ statusBytes status) (now (out .entry)) ⌝ }
 {
     if lent.len() != 0 {
         return Sent::Size;
@@ -219,7 +229,8 @@ fn write_status(
 
 // How the module is to be set up.
 fn write_onboarding(way: u8, lent: &[u8], number: u8, flags: u16, out: &mut [u8]) -> Sent
-    ensures { λ r. ⌜ outcome (sentRowOf r) (now (out .exit)) ≡ sendOf (message.Onboarding way) number flags (now (lent .entry)) (now (out .entry)) ⌝ }
+    ensures { λ r. ⌜ outcome (sentRowOf r) (now (out .exit))
+        ≡ sendOf frameLimit (message.Onboarding way) number flags (now (lent .entry)) (now (out .entry)) ⌝ }
 {
     write_byte(0x09, way, way_allowed(way), lent, number, flags, out)
 }
@@ -241,7 +252,8 @@ fn network_bytes(network: Network) -> [u8; 2]
 
 // The state of the module's networks.
 fn write_network(network: Network, lent: &[u8], number: u8, flags: u16, out: &mut [u8]) -> Sent
-    ensures { λ r. ⌜ outcome (sentRowOf r) (now (out .exit)) ≡ sendOf (message.Network network) number flags (now (lent .entry)) (now (out .entry)) ⌝ }
+    ensures { λ r. ⌜ outcome (sentRowOf r) (now (out .exit))
+        ≡ sendOf frameLimit (message.Network network) number flags (now (lent .entry)) (now (out .entry)) ⌝ }
 {
     if lent.len() != 0 {
         return Sent::Size;
@@ -255,7 +267,8 @@ fn write_network(network: Network, lent: &[u8], number: u8, flags: u16, out: &mu
 
 // Word that a frame was invalid, from the module or from the box.
 fn write_reject(command: u8, code: u8, lent: &[u8], number: u8, flags: u16, out: &mut [u8]) -> Sent
-    ensures { λ r. ⌜ outcome (sentRowOf r) (now (out .exit)) ≡ sendAs true (eqb (length (now (lent .entry))) 0) (codeAllowed code) command number flags (code ∷ []) (now (out .entry)) ⌝ }
+    ensures { λ r. ⌜ outcome (sentRowOf r) (now (out .exit))
+        ≡ sendAs frameLimit true (eqb (length (now (lent .entry))) 0) (codeAllowed code) command number flags (code ∷ []) (now (out .entry)) ⌝ }
 {
     write_byte(command, code, code_allowed(code), lent, number, flags, out)
 }
@@ -277,7 +290,8 @@ fn time_bytes(time: Time) -> [u8; 7]
 
 // The network's time.
 fn write_time(time: Time, lent: &[u8], number: u8, flags: u16, out: &mut [u8]) -> Sent
-    ensures { λ r. ⌜ outcome (sentRowOf r) (now (out .exit)) ≡ sendOf (message.Time time) number flags (now (lent .entry)) (now (out .entry)) ⌝ }
+    ensures { λ r. ⌜ outcome (sentRowOf r) (now (out .exit))
+        ≡ sendOf frameLimit (message.Time time) number flags (now (lent .entry)) (now (out .entry)) ⌝ }
 {
     if lent.len() != 0 {
         return Sent::Size;
@@ -295,7 +309,8 @@ fn write_time(time: Time, lent: &[u8], number: u8, flags: u16, out: &mut [u8]) -
 
 // Data announced, with its check code.
 fn write_announcement(size: u32, code: &[u8], number: u8, flags: u16, out: &mut [u8]) -> Sent
-    ensures { λ r. ⌜ outcome (sentRowOf r) (now (out .exit)) ≡ sendOf (message.Announcement size) number flags (now (code .entry)) (now (out .entry)) ⌝ }
+    ensures { λ r. ⌜ outcome (sentRowOf r) (now (out .exit))
+        ≡ sendOf frameLimit (message.Announcement size) number flags (now (code .entry)) (now (out .entry)) ⌝ }
 {
     let count = code.len();
     if 65535 < count {
@@ -308,7 +323,8 @@ fn write_announcement(size: u32, code: &[u8], number: u8, flags: u16, out: &mut 
 
 // The box is ready for data, with its check code and the size of a piece.
 fn write_ready(piece: u16, code: &[u8], number: u8, flags: u16, out: &mut [u8]) -> Sent
-    ensures { λ r. ⌜ outcome (sentRowOf r) (now (out .exit)) ≡ sendOf (message.Ready piece) number flags (now (code .entry)) (now (out .entry)) ⌝ }
+    ensures { λ r. ⌜ outcome (sentRowOf r) (now (out .exit))
+        ≡ sendOf frameLimit (message.Ready piece) number flags (now (code .entry)) (now (out .entry)) ⌝ }
 {
     let count = code.len();
     if 65535 < count {
@@ -321,7 +337,8 @@ fn write_ready(piece: u16, code: &[u8], number: u8, flags: u16, out: &mut [u8]) 
 
 // A piece of data.
 fn write_piece(index: u16, total: u16, bytes: &[u8], number: u8, flags: u16, out: &mut [u8]) -> Sent
-    ensures { λ r. ⌜ outcome (sentRowOf r) (now (out .exit)) ≡ sendOf (message.Piece index total) number flags (now (bytes .entry)) (now (out .entry)) ⌝ }
+    ensures { λ r. ⌜ outcome (sentRowOf r) (now (out .exit))
+        ≡ sendOf frameLimit (message.Piece index total) number flags (now (bytes .entry)) (now (out .entry)) ⌝ }
 {
     let index_bytes = [(index / 256) as u8, (index % 256) as u8];
     let total_bytes = [(total / 256) as u8, (total % 256) as u8];
@@ -330,7 +347,8 @@ fn write_piece(index: u16, total: u16, bytes: &[u8], number: u8, flags: u16, out
 
 // A message as a frame at the front of the output, or refused with the output as it was.
 pub fn write(message: Message, lent: &[u8], number: u8, flags: u16, out: &mut [u8]) -> Sent
-    ensures { λ r. ⌜ outcome (sentRowOf r) (now (out .exit)) ≡ sendOf message number flags (now (lent .entry)) (now (out .entry)) ⌝ }
+    ensures { λ r. ⌜ outcome (sentRowOf r) (now (out .exit))
+        ≡ sendOf frameLimit message number flags (now (lent .entry)) (now (out .entry)) ⌝ }
 {
     match message {
         Message::Empty { command } => write_empty(command, lent, number, flags, out),

@@ -1,5 +1,6 @@
 -- `replies::answer` goes by what the reader said: a frame and a wrong sum are answered, nothing else is.
 use borrow.Author.Needs.{needs}
+use Rattle.frame.specs.Wire.{frameLimit}
 use Rattle.message.proofs.Answers.{by-body, by-sum}
 use Rattle.message.proofs.replies.answer.Statement.{statement}
 use Rattle.message.proofs.replies.answer.Tie as tie
@@ -12,14 +13,14 @@ frame c =
     let command = a .before .before .before .before .command in
     let args = a .before .before .before .before .before .before .before .before .before .args in
     simp (a .before .before .before .before .before .enum-told .given .1)
-    (by-body (args .body .now) (args .out .now) (command .result) (number .result) (payload .result .now) (command .ensures) (number .ensures) (payload .ensures .0) (a .answer-frame .ensures))
+    (by-body frameLimit (args .body .now) (args .out .now) (command .result) (number .result) (payload .result .now) (command .ensures) (number .ensures) (payload .ensures .0) (a .answer-frame .ensures))
 
 sum : tie.Need-returns-2
 sum c =
     let a = c .before .before in
     let number = a .before .before .number2 in
     let args = a .before .before .before .before .before .before .before .args in
-    simp (a .before .before .before .enum-told2 .given .1) (by-sum (args .body .now) (args .out .now) (number .result) (number .ensures) (a .reject .ensures))
+    simp (a .before .before .before .enum-told2 .given .1) (by-sum frameLimit (args .body .now) (args .out .now) (number .result) (number .ensures) (a .reject .ensures))
 
 pub answer-spec : {M : Type 1} → statement M
 answer-spec =

@@ -4,6 +4,7 @@ use native.Mathlib.Omega.{arith}
 use borrow.Author.Needs.{needs}
 use mathlib.Core.List.{[], _∷_}
 use Rattle.message.specs.Answers.{withCode}
+use Rattle.frame.specs.Wire.{frameLimit}
 use Rattle.message.proofs.Answers.{short-enough}
 use Rattle.message.proofs.replies.reject.Statement.{statement}
 use Rattle.message.proofs.replies.reject.Tie as tie
@@ -12,7 +13,7 @@ returns-2 : tie.Need-returns-2
 returns-2 c =
     let w = c .before .before .before .before in
     let args = w .before .before .before .before .args in
-    absurd (short-enough 0x12 (args .number) (args .code ∷ []) (args .out .now) _ (omega arith) (simp (c .enum-told .given .1) at (w .write .ensures)))
+    absurd (short-enough frameLimit 0x12 (args .number) (args .code ∷ []) (args .out .now) _ (omega arith) (simp (c .enum-told .given .1) at (w .write .ensures)))
 
 pub reject-spec : {M : Type 1} → statement M
 reject-spec =

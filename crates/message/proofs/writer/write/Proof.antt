@@ -3,6 +3,7 @@ use mathlib.Core.Path.{_≡_, sym, ap, _∙_}
 use borrow.Author.Needs.{needs}
 use Rattle.base.specs.Outcomes.{Write}
 use Rattle.message.specs.Commands.{kindIn}
+use Rattle.frame.specs.Wire.{frameLimit}
 use Rattle.base.specs.Keys.{among}
 use Rattle.message.specs.Writing.{sendOf}
 use Rattle.message.specs.declared.values.Message.{Message}
@@ -12,7 +13,7 @@ use Rattle.message.proofs.writer.write.Tie as tie
 module _ (s : tie.Start) where
   -- a message under the number and flags that came
   abbrev sends : Message → Write
-  sends m = sendOf m (s .args .number) (s .args .flags) (s .args .lent .now) (s .args .out .now)
+  sends m = sendOf frameLimit m (s .args .number) (s .args .flags) (s .args .lent .now) (s .args .out .now)
 
   arm : {m : Message} {w : Write} → s .args .message ≡ m → w ≡ sends m → w ≡ sends (s .args .message)
   arm told e = e ∙ ap sends (sym told)

@@ -18,4 +18,4 @@ write-announcement-spec =
     (λ c κs. search needs) (λ c. search needs) (λ c. search needs) (λ c. search needs) (λ c. search needs) (λ c κs. search needs) (λ c κs. search needs) (λ c. search needs)
     λ c.
     let b = c .before .before .before .before .before .before .before in
-    sent _ _ _ _ refl (le-leb _ _ (b .before .if1 .left)) refl (joined (b .four-bytes .ensures) refl) (c .passed-on .ensures) (c .before .before .before .write-parts .ensures))
+    sent _ _ _ _ _ refl (le-leb _ _ (b .before .if1 .left)) refl (joined (b .four-bytes .ensures) refl) (c .passed-on .ensures) (c .before .before .before .write-parts .ensures))

@@ -21,5 +21,5 @@ write-control-spec =
     (λ c.
     let b = c .before .before .before .before .before in
     let allowed = sym (b .before .before .mode-allowed .ensures) ∙ b .before .if2 .taken in
-    sent _ _ _ _ refl (eq-eqb _ _ (b .before .before .before .if1 .left)) allowed (b .control-bytes .ensures) refl (c .before .before .write-frame .ensures))
+    sent _ _ _ _ _ refl (eq-eqb _ _ (b .before .before .before .if1 .left)) allowed (b .control-bytes .ensures) refl (c .before .before .write-frame .ensures))
     λ c. simp (eq-eqb _ _ (c .before .before .if1 .left), sym (c .before .mode-allowed .ensures) ∙ c .if2 .left))

@@ -34,5 +34,5 @@ write-empty-spec =
     (λ c.
     let e = c .before .before .before .before .before in
     let none = no-bytes (start e .args .lent .now) (e .before .if2 .left) in
-    sent _ _ _ _ (listed (e .before .before)) (fits e (c .before .before .before .before .if3 .taken)) refl none refl (c .before .before .write-frame .ensures))
+    sent _ _ _ _ _ (listed (e .before .before)) (fits e (c .before .before .before .before .if3 .taken)) refl none refl (c .before .before .write-frame .ensures))
     λ c. simp (listed (c .before .before .before), fits (c .before) (c .if3 .left)))

@@ -3,6 +3,7 @@ use mathlib.Core.Path.{_≡_, sym, ap, _∙_}
 use borrow.Author.Needs.{needs}
 use Rattle.base.specs.Outcomes.{Write}
 use Rattle.message.specs.Commands.{kindIn}
+use Rattle.frame.specs.Wire.{frameLimit}
 use Rattle.base.specs.Keys.{among}
 use Rattle.message.specs.Writing.{sendOf}
 use Rattle.message.specs.declared.values.Extra.{Extra}
@@ -13,7 +14,7 @@ use Rattle.message.proofs.writer.write_information.Tie as tie
 module _ (s : tie.Start) where
   -- information with this beside timeout, texts and key
   abbrev sends : Extra → Write
-  sends e = sendOf (message.Information (s .args .timeout) e) (s .args .number) (s .args .flags) (s .args .lent .now) (s .args .out .now)
+  sends e = sendOf frameLimit (message.Information (s .args .timeout) e) (s .args .number) (s .args .flags) (s .args .lent .now) (s .args .out .now)
 
   arm : {e : Extra} {w : Write} → s .args .extra ≡ e → w ≡ sends e → w ≡ sends (s .args .extra)
   arm told e = e ∙ ap sends (sym told)

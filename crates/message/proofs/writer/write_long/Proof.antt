@@ -20,4 +20,4 @@ write-long-spec =
     λ c.
     let b = c .before .before .before .before .before .before .before .before in
     let s = c .before .before .before .before .before .before .before .before .before .before .before .before .args in
-    sent _ _ _ _ refl (eq-eqb _ _ (b .before .if1 .left)) refl (between _ (s .lent .now) (b .attribute-bytes .ensures)) (c .passed-on .ensures) (c .before .before .before .write-parts .ensures))
+    sent _ _ _ _ _ refl (eq-eqb _ _ (b .before .if1 .left)) refl (between _ (s .lent .now) (b .attribute-bytes .ensures)) (c .passed-on .ensures) (c .before .before .before .write-parts .ensures))

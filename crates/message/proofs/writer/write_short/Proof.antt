@@ -24,4 +24,4 @@ write-short-spec =
     (λ c. search needs) (λ c. search needs) (λ c. search needs) (λ c. search needs) (λ c κs. search needs) (λ c κs. search needs) (λ c. search needs)
     λ c.
     let s = c .before .before .before .before .before .before .before .before .before .before .before .args in
-    sent _ _ _ _ refl (eq-eqb _ _ (c .before .before .before .before .before .before .before .before .if1 .left)) refl (between (two (s .timeout) []) (s .lent .now) refl) (c .passed-on .ensures) (c .before .before .before .write-parts .ensures))
+    sent _ _ _ _ _ refl (eq-eqb _ _ (c .before .before .before .before .before .before .before .before .if1 .left)) refl (between (two (s .timeout) []) (s .lent .now) refl) (c .passed-on .ensures) (c .before .before .before .write-parts .ensures))

@@ -16,4 +16,4 @@ write-status-spec =
     (λ c κs. search needs) (λ c. search needs) (λ c κs. search needs) (λ c. search needs)
     λ c.
     let b = c .before .before .before .before .before in
-    sent _ _ _ _ refl (eq-eqb _ _ (b .before .before .before .if1 .left)) (lt-ltb _ _ (b .before .if2 .left)) (b .status-bytes .ensures) refl (c .before .before .write-frame .ensures))
+    sent _ _ _ _ _ refl (eq-eqb _ _ (b .before .before .before .if1 .left)) (lt-ltb _ _ (b .before .if2 .left)) (b .status-bytes .ensures) refl (c .before .before .write-frame .ensures))

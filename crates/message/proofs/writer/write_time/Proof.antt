@@ -23,7 +23,7 @@ write-time-spec =
     let b = c .before .before .before .before .before .before .before in
     let s = c .before .before .before .before .before .before .before .before .before .before .before .args in
     let bytes = b .time-bytes .ensures ∙ dated (s .time) (c .before .before .before .before .before .enum-told .given .1) in
-    sent _ _ _ _ refl (eq-eqb _ _ (b .before .if1 .left)) refl bytes refl (c .before .before .write-frame .ensures))
+    sent _ _ _ _ _ refl (eq-eqb _ _ (b .before .if1 .left)) refl bytes refl (c .before .before .write-frame .ensures))
     (λ c. search needs)
     λ c.
     let b = c .before .before .before .before .before .before .before .before .before .before .before in
@@ -31,4 +31,4 @@ write-time-spec =
     let none = no-bytes (s .lent .now) (b .before .if1 .left) in
     let parts = joined (b .time-bytes .ensures) (joined none (c .before .before .before .before .before .before .before .four-bytes .ensures)) in
     let bytes = parts ∙ dated (s .time) (c .before .before .before .before .before .before .before .before .before .unix .given .1) in
-    sent _ _ _ _ refl (eq-eqb _ _ (b .before .if1 .left)) refl bytes (c .passed-on .ensures) (c .before .before .before .write-parts .ensures))
+    sent _ _ _ _ _ refl (eq-eqb _ _ (b .before .if1 .left)) refl bytes (c .passed-on .ensures) (c .before .before .before .write-parts .ensures))
