@@ -9,7 +9,7 @@ use Rattle.frame.specs.Wire.{widest, commandOf, payloadOf}
 use Rattle.base.specs.Rows.{row}
 use Rattle.base.specs.Outcomes.{outcome}
 use Rattle.frame.specs.Calls.{freshOf}
-use Rattle.frame.specs.Logs.{Call, Entry, logOf, readerAfter, stream}
+use Rattle.frame.specs.Logs.{Call, Entry, logOf, stateAfter, stream}
 use Rattle.frame.specs.Claims.{ReadBack}
 use Rattle.message.specs.Numbers.{num}
 use Rattle.message.specs.Commands.{kindOf, isListed, fromBox}
@@ -125,7 +125,7 @@ ReadsWritten =
 -- ---- body that the reader holds is read as the same message
 pub record MessageBack (start : ℕ) (m : Message) (number flags : ℕ) (lent : List ℕ) (log : List Entry) : Type 0 where
   pub frame : ReadBack start (commandIn m) number flags (payloadIn m lent) log
-  pub message : Decodes m lent (commandOf (frame .last .held)) (payloadOf (frame .last .held))
+  pub message : Decodes m lent (commandOf (frame .last .after .body)) (payloadOf (frame .last .after .body))
 
 -- of every message that was written
 abbrev pub MessageRoundTrip : Type 0
@@ -133,9 +133,9 @@ MessageRoundTrip =
     (limit : ℕ) → limit ≤ widest → (m : Message) (number flags count : ℕ) (lent out : List ℕ)
     → sendOf limit m number flags lent out .row ≡ row 0 (count ∷ [])
     → (earlier later : List Call)
-    → stream (logOf limit (readerAfter limit (freshOf limit) earlier) later) ≡ take count (sendOf limit m number flags lent out .out)
+    → stream (logOf limit (stateAfter limit (freshOf limit) earlier) later) ≡ take count (sendOf limit m number flags lent out .out)
     → MessageBack (length (stream (logOf limit (freshOf limit) earlier))) m number flags lent
-    (logOf limit (readerAfter limit (freshOf limit) earlier) later)
+    (logOf limit (stateAfter limit (freshOf limit) earlier) later)
 
 -- ---- answers-are-read: what the box writes as an answer is a message that only the box sends, and that reading accepts
 

@@ -6,10 +6,11 @@ use super::kind::from_box;
 use super::reader::Reading;
 use super::reader::read;
 use frame::Answer;
+use frame::Verdict;
 use frame::Written;
 ghost use mathlib.Core.Path.{_≡_};
 ghost use mathlib.Core.List.{[]};
-ghost use Rattle.frame.specs.Table.{rowOf};
+ghost use Rattle.frame.specs.Table.{rowOf, decidedRow};
 ghost use Rattle.frame.specs.Wire.{frameLimit};
 ghost use Rattle.base.specs.Outcomes.{outcome};
 ghost use Rattle.frame.specs.Calls.{writeOf};
@@ -120,24 +121,32 @@ pub fn answer_frame(command: u8, number: u8, payload: &[u8], out: &mut [u8]) -> 
     }
 }
 
-// What the box answers when its reader has said something, by the body that the reader then holds.
-pub fn answer(said: Answer, body: &[u8], out: &mut [u8]) -> Reply
-    ensures { λ r. ⌜ outcome (replyRowOf r) (now (out .exit))
-        ≡ answerOf frameLimit (rowOf said) (now (body .entry)) (now (out .entry)) ⌝ }
+// What the box answers to a decided frame, by the body that the reader then holds.
+fn answer_decided(verdict: Verdict, body: &[u8], out: &mut [u8]) -> Reply
+    ensures { λ r. ⌜ outcome (replyRowOf r) (now (out .exit)) ≡ answerOf frameLimit (decidedRow verdict 0 0 0) (now (body .entry)) (now (out .entry)) ⌝ }
 {
-    match said {
-        Answer::Frame { .. } => answer_frame(
+    match verdict {
+        Verdict::Frame => answer_frame(
             frame::command(body),
             frame::number(body),
             frame::payload(body),
             out,
         ),
-        Answer::Sum { .. } => reject(BAD_SUM, frame::number(body), out),
+        Verdict::Sum => reject(BAD_SUM, frame::number(body), out),
+        Verdict::Short => Reply::Nothing,
+        Verdict::Long => Reply::Nothing,
+        Verdict::Stuff => Reply::Nothing,
+        Verdict::Cut => Reply::Nothing,
+    }
+}
+
+// What the box answers when its reader has said something, by the body that the reader then holds.
+pub fn answer(said: Answer, body: &[u8], out: &mut [u8]) -> Reply
+    ensures { λ r. ⌜ outcome (replyRowOf r) (now (out .exit)) ≡ answerOf frameLimit (rowOf said) (now (body .entry)) (now (out .entry)) ⌝ }
+{
+    match said {
+        Answer::Decided { verdict, .. } => answer_decided(verdict, body, out),
         Answer::More { .. } => Reply::Nothing,
-        Answer::Short { .. } => Reply::Nothing,
-        Answer::Long { .. } => Reply::Nothing,
-        Answer::Stuff { .. } => Reply::Nothing,
-        Answer::Cut { .. } => Reply::Nothing,
         Answer::State => Reply::Nothing,
         Answer::Used => Reply::Nothing,
     }

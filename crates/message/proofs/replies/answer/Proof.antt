@@ -1,41 +1,14 @@
--- `replies::answer` goes by what the reader said: a frame and a wrong sum are answered, nothing else is.
+-- `replies::answer` answers a decided frame, and nothing else that the reader says.
 use borrow.Author.Needs.{needs}
-use Rattle.frame.specs.Wire.{frameLimit}
-use Rattle.message.proofs.Answers.{by-body, by-sum}
 use Rattle.message.proofs.replies.answer.Statement.{statement}
 use Rattle.message.proofs.replies.answer.Tie as tie
-
-frame : tie.Need-returns
-frame c =
-    let a = c .before .before in
-    let payload = a .before .before .payload in
-    let number = a .before .before .before .number in
-    let command = a .before .before .before .before .command in
-    let args = a .before .before .before .before .before .before .before .before .before .args in
-    simp (a .before .before .before .before .before .enum-told .given .1)
-    (by-body frameLimit (args .body .now) (args .out .now) (command .result) (number .result) (payload .result .now) (command .ensures) (number .ensures) (payload .ensures .0) (a .answer-frame .ensures))
-
-sum : tie.Need-returns-2
-sum c =
-    let a = c .before .before in
-    let number = a .before .before .number2 in
-    let args = a .before .before .before .before .before .before .before .args in
-    simp (a .before .before .before .enum-told2 .given .1) (by-sum frameLimit (args .body .now) (args .out .now) (number .result) (number .ensures) (a .reject .ensures))
 
 pub answer-spec : {M : Type 1} → statement M
 answer-spec =
     tie.close
     (tie.spec
-    (search needs) (search needs) (search needs) (search needs) (search needs) (search needs) (search needs) (search needs)
-    (search needs) (search needs) (search needs) (search needs) (search needs) (search needs) (search needs)
-    (search needs)
-    frame
-    (search needs)
-    sum
-    (λ c. simp (c .enum-told3 .given .1))
-    (λ c. simp (c .enum-told4 .given .1))
-    (λ c. simp (c .enum-told5 .given .1))
-    (λ c. simp (c .enum-told6 .given .1))
-    (λ c. simp (c .enum-told7 .given .1))
-    (λ c. simp (c .enum-told8 .given .1))
-    λ c. simp (c .enum-told9 .given .1))
+    (search needs) (search needs) (search needs) (search needs) (search needs) (search needs)
+    (λ c. let call = c .before .before in rw (call .before .before .before .said .given .1) (call .answer-decided .ensures))
+    (λ c. simp (c .enum-told .given .1))
+    (λ c. simp (c .enum-told2 .given .1))
+    λ c. simp (c .enum-told3 .given .1))
