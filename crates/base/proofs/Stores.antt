@@ -18,5 +18,6 @@ pub sets-front : (vs l : List ℕ) → length vs ≤ length l → sets l 0 vs �
 sets-front vs l h = rw zero-add at (sets-eq vs l 0 (rw zero-add h))
 
 -- what is put, and more behind it, is their join put
-pub put-join : (out xs ys : List ℕ) (at : ℕ) {a b : List ℕ} {p q : ℕ} → PutAt out at xs p a → PutAt a p ys q b → PutAt out at (xs ++ ys) q b
+pub put-join : (out xs ys : List ℕ) (at : ℕ) {a b : List ℕ} {p q : ℕ}
+    → PutAt out at xs p a → PutAt a p ys q b → PutAt out at (xs ++ ys) q b
 put-join out xs ys at e f = (rw length-append (omega arith), rw sets-append (cc))

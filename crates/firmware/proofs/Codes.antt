@@ -13,31 +13,41 @@ use Rattle.base.proofs.Tests.{by-test}
 use Rattle.frame.proofs.Stuffing.{stuffed-form}
 use Rattle.frame.proofs.Round.{made-good}
 use Rattle.firmware.specs.Code.{refused, countIn, codeOf, rowFrom}
-use Rattle.firmware.specs.Claims.{Given, answered, codeFor, wireFor, CodeWhen, CodesWhen, CountsBelow, RoomSuffices, CodesTell, RefusalUnchanged}
+use Rattle.firmware.specs.Claims.{Given, answered, codeFor, wireFor, CodeWhen, CodesWhen, CountsBelow}
+use Rattle.firmware.specs.Claims.{RoomSuffices, CodesTell, RefusalUnchanged}
 
 module _ (limit : ℕ) (g : Given) where
   -- the longest wire form
   longest : length (g .payload) + 5 ≤ limit → length (wireFor g) ≤ 2 + 2 * (limit + 2)
   longest h =
       let made = made-good limit (g .command) (g .number) (g .flags) (g .payload) h .good in
-      omega (arith, made .true-length, made .most, stuffed-form (bodyOf (g .command) (g .number) (g .flags) (g .payload)) .at-most-twice)
+      omega (
+        arith,
+        made .true-length,
+        made .most,
+        stuffed-form (bodyOf (g .command) (g .number) (g .flags) (g .payload)) .at-most-twice,
+      )
 
   -- the writer's three answers
   each : (P : Write → Type 0) → P (outcome (row 21 (0 ∷ [])) (g .out)) → P (outcome (row 22 (0 ∷ [])) (g .out))
-      → (length (wireFor g) ≤ 2 + 2 * (limit + 2) → P (outcome (row 0 (length (wireFor g) ∷ [])) (onto (wireFor g) (g .out)))) → P (answered limit g)
+      → (length (wireFor g) ≤ 2 + 2 * (limit + 2)
+      → P (outcome (row 0 (length (wireFor g) ∷ [])) (onto (wireFor g) (g .out)))) → P (answered limit g)
   each P too-long no-room written =
       by-test P (ltb limit (length (g .payload) + 5)) (λ _. too-long) λ t.
-      by-test P (ltb (length (g .out)) (length (wireFor g))) (λ _. no-room) λ _. written (longest (ltb-false limit (length (g .payload) + 5) t))
+      by-test P (ltb (length (g .out)) (length (wireFor g))) (λ _. no-room)
+      λ _. written (longest (ltb-false limit (length (g .payload) + 5) t))
 
 below : (limit : ℕ) (g : Given) → countIn (answered limit g .row) ≤ 2 + 2 * (limit + 2)
-below limit g = each limit g (λ (w : Write). countIn (w .row) ≤ 2 + 2 * (limit + 2)) (omega arith) (omega arith) (λ h. h)
+below limit g =
+    each limit g (λ (w : Write). countIn (w .row) ≤ 2 + 2 * (limit + 2)) (omega arith) (omega arith) (λ h. h)
 
 pub counts-below : CountsBelow
 counts-below = record { any = below; ours = below frameLimit }
 
 told : (limit : ℕ) → 2 + 2 * (limit + 2) < 65536 → (g : Given) → rowFrom (codeFor limit g) ≡ answered limit g .row
 told limit small g =
-    each limit g (λ (w : Write). rowFrom (codeOf (w .row)) ≡ w .row) refl refl (λ h. rw (lt-ltb (length (wireFor g)) refused (omega arith)))
+    each limit g (λ (w : Write). rowFrom (codeOf (w .row)) ≡ w .row) refl refl
+    (λ h. rw (lt-ltb (length (wireFor g)) refused (omega arith)))
 
 pub code-tells : CodesTell
 code-tells limit small =
@@ -45,7 +55,8 @@ code-tells limit small =
 
 pub refusal-unchanged : RefusalUnchanged
 refusal-unchanged limit small g =
-    each limit g (λ (w : Write). refused ≤ codeOf (w .row) → w .out ≡ g .out) (λ _. refl) (λ _. refl) (λ h r. absurd (omega arith))
+    each limit g (λ (w : Write). refused ≤ codeOf (w .row) → w .out ≡ g .out) (λ _. refl) (λ _. refl)
+    (λ h r. absurd (omega arith))
 
 when : (limit : ℕ) (g : Given) → CodeWhen limit g
 when limit g =

@@ -28,12 +28,14 @@ codeFor limit g = codeOf (answered limit g .row)
 abbrev pub wireFor : Given → List ℕ
 wireFor g = wire (bodyOf (g .command) (g .number) (g .flags) (g .payload))
 
--- ---- counts-below: no count is above 2 and twice the bytes of the longest body, which for C's limit is 2,054; so none reaches 65,536
+-- ---- counts-below: no count is above 2 and twice the bytes of the longest body,
+-- which for C's limit is 2,054; so none reaches 65,536
 pub record CountsBelow : Type 0 where
   pub any : (limit : ℕ) (g : Given) → countIn (answered limit g .row) ≤ 2 + 2 * (limit + 2)
   pub ours : (g : Given) → countIn (answered frameLimit g .row) ≤ 2054
 
--- ---- code-tells: nothing is lost where no count reaches 65,536; a caller reads the answer back, and two answers with one number are one
+-- ---- code-tells: nothing is lost where no count reaches 65,536;
+-- a caller reads the answer back, and two answers with one number are one
 pub record CodeTells (limit : ℕ) : Type 0 where
   pub told : (g : Given) → rowFrom (codeFor limit g) ≡ answered limit g .row
   pub apart : (g h : Given) → codeFor limit g ≡ codeFor limit h → answered limit g .row ≡ answered limit h .row
@@ -44,22 +46,27 @@ CodesTell = (limit : ℕ) → 2 + 2 * (limit + 2) < 65536 → CodeTells limit
 
 -- ---- refusal-unchanged: "output unchanged", of every number from 65,536 on
 abbrev pub RefusalUnchanged : Type 0
-RefusalUnchanged = (limit : ℕ) → 2 + 2 * (limit + 2) < 65536 → (g : Given) → refused ≤ codeFor limit g → answered limit g .out ≡ g .out
+RefusalUnchanged =
+    (limit : ℕ) → 2 + 2 * (limit + 2) < 65536 → (g : Given) → refused ≤ codeFor limit g → answered limit g .out ≡ g .out
 
--- ---- code-when: the table's "Given exactly when" of 21 and 22, and the count otherwise, in the numbers that C gets. The three cases are all there
--- are and, by counts-below, their numbers differ, so each comes only then
+-- ---- code-when: the table's "Given exactly when" of 21 and 22, and the count otherwise, in the numbers that C gets.
+-- The three cases are all there are and, by counts-below, their numbers differ, so each comes only then
 pub record CodeWhen (limit : ℕ) (g : Given) : Type 0 where
   pub payload : limit < length (g .payload) + 5 → codeFor limit g ≡ 65557
   pub room : length (g .payload) + 5 ≤ limit → length (g .out) < length (wireFor g) → codeFor limit g ≡ 65558
-  pub written : length (g .payload) + 5 ≤ limit → length (wireFor g) ≤ length (g .out) → codeFor limit g ≡ length (wireFor g)
+  pub written : length (g .payload) + 5 ≤ limit → length (wireFor g) ≤ length (g .out)
+      → codeFor limit g ≡ length (wireFor g)
 
 -- of every call; for C's limit in figures
 pub record CodesWhen : Type 0 where
   pub any : (limit : ℕ) (g : Given) → CodeWhen limit g
   pub payload : (g : Given) → 1019 < length (g .payload) → codeFor frameLimit g ≡ 65557
-  pub room : (g : Given) → length (g .payload) ≤ 1019 → length (g .out) < length (wireFor g) → codeFor frameLimit g ≡ 65558
-  pub written : (g : Given) → length (g .payload) ≤ 1019 → length (wireFor g) ≤ length (g .out) → codeFor frameLimit g ≡ length (wireFor g)
+  pub room : (g : Given) → length (g .payload) ≤ 1019 → length (g .out) < length (wireFor g)
+      → codeFor frameLimit g ≡ 65558
+  pub written : (g : Given)
+      → length (g .payload) ≤ 1019 → length (wireFor g) ≤ length (g .out) → codeFor frameLimit g ≡ length (wireFor g)
 
 -- ---- room-suffices: 2,054 bytes of output hold the wire form of every payload that is not too long
 abbrev pub RoomSuffices : Type 0
-RoomSuffices = (g : Given) → length (g .payload) ≤ 1019 → 2054 ≤ length (g .out) → codeFor frameLimit g ≡ length (wireFor g)
+RoomSuffices =
+    (g : Given) → length (g .payload) ≤ 1019 → 2054 ≤ length (g .out) → codeFor frameLimit g ≡ length (wireFor g)

@@ -1,4 +1,5 @@
--- One body byte of an open frame: the body goes on, or it is complete or refused, and never two of these. Assumes nothing.
+-- One body byte of an open frame: the body goes on, or it is complete or refused,
+-- and never two of these. Assumes nothing.
 use Prim.Native.Nat.{ℕ, _+_, _*_, _%_, _^_, _≤_, _<_}
 use mathlib.Core.Path.{_≡_, sym, ap, _∙_}
 use mathlib.Core.List.{List, [], _∷_, _++_}
@@ -59,21 +60,34 @@ module _ (limit : ℕ) (b : List ℕ) where
 
   -- the one verdict that a body can end in
   abbrev ending : Verdict
-  ending = cond (ltb (lengthOf b) 5) Short (cond (ltb limit (lengthOf b)) Long (cond (eqb (sumIn b) (sumDue b)) Frame Sum))
+  ending =
+      cond (ltb (lengthOf b) 5) Short (cond (ltb limit (lengthOf b)) Long (cond (eqb (sumIn b) (sumDue b)) Frame Sum))
 
   ends-in : (e : Verdict) → Ends limit b e → ending ≡ e
-  ends-in Frame p = rw (le-ltb (lengthOf b) 5 (p .least), le-ltb limit (lengthOf b) (p .most), eq-eqb (sumIn b) (sumDue b) (p .sum-holds))
+  ends-in Frame p =
+      rw (
+        le-ltb (lengthOf b) 5 (p .least),
+        le-ltb limit (lengthOf b) (p .most),
+        eq-eqb (sumIn b) (sumDue b) (p .sum-holds),
+      )
   ends-in Short p = rw (lt-ltb (lengthOf b) 5 (p .1))
   ends-in Long p = rw (le-ltb (lengthOf b) 5 (p .2), lt-ltb limit (lengthOf b) (p .3))
   ends-in Stuff p = absurd p
   ends-in Cut p = absurd p
-  ends-in Sum p = rw (le-ltb (lengthOf b) 5 (p .1), le-ltb limit (lengthOf b) (p .2), ne-eqb (sumIn b) (sumDue b) (p .3))
+  ends-in Sum p =
+      rw (le-ltb (lengthOf b) 5 (p .1), le-ltb limit (lengthOf b) (p .2), ne-eqb (sumIn b) (sumDue b) (p .3))
 
   pub same-end : (d e : Verdict) → Ends limit b d → Ends limit b e → d ≡ e
   same-end d e p q = sym (ends-in d p) ∙ ends-in e q
 
 pub unfinished-of : {limit h l m : ℕ} {b : List ℕ} → Partial limit h l m b → 1 ≤ length b → Unfinished limit b
-unfinished-of p some = record { some-byte = some; first = p .first; under = rw (p .count) (p .under); bounds = λ k. p .bounds (omega (arith, p .count)) }
+unfinished-of p some =
+    record {
+      some-byte = some;
+      first = p .first;
+      under = rw (p .count) (p .under);
+      bounds = λ k. p .bounds (omega (arith, p .count));
+    }
 
 -- behind a header there is no body byte yet
 pub partial-none : {limit h l m : ℕ} (body : List ℕ) → h ≡ 0 → m ≡ 0 → Partial limit h l m (take h body)
@@ -91,7 +105,8 @@ partial-none body e s =
     })
 
 -- with one more byte
-pub first-on : {limit h l m : ℕ} {b : List ℕ} → Partial limit h l m b → (v : ℕ) → 1 ≤ length b → getD (b ++ v ∷ []) 0 0 ≢ 255
+pub first-on : {limit h l m : ℕ} {b : List ℕ}
+    → Partial limit h l m b → (v : ℕ) → 1 ≤ length b → getD (b ++ v ∷ []) 0 0 ≢ 255
 first-on {b} p v some = rw (List·getD-append b (v ∷ []) 0 0 some) (p .first)
 
 pub size : {limit h l m : ℕ} {b : List ℕ} → Partial limit h l m b → (v : ℕ) → length (b ++ v ∷ []) ≡ h + 1
@@ -102,12 +117,14 @@ pub stored : (body : List ℕ) (h v : ℕ) → h < length body → take (h + 1) 
 stored body h v k = rw add-one (take-suc-set body h v k)
 
 -- a body that is complete with the byte v is the front that the reader holds
-pub whole-held : (body : List ℕ) (h v : ℕ) → h < length body → length (take h body ++ v ∷ []) ≡ lengthOf (take h body ++ v ∷ []) + 2
+pub whole-held : (body : List ℕ) (h v : ℕ)
+    → h < length body → length (take h body ++ v ∷ []) ≡ lengthOf (take h body ++ v ∷ []) + 2
     → frontBody (set body h v) ≡ take h body ++ v ∷ []
 whole-held body h v k full =
     let b : List ℕ = set body h v in
     let b′ : List ℕ = take h body ++ v ∷ [] in
-    let n : length b′ ≡ h + 1 = omega (arith, length-append (take h body) (v ∷ []), length-take-le h body (omega arith)) in
+    let n : length b′ ≡ h + 1 =
+    omega (arith, length-append (take h body) (v ∷ []), length-take-le h body (omega arith)) in
     let a0 : getD (take (h + 1) b) 0 0 ≡ getD b 0 0 = getD-take (h + 1) b 0 0 (omega arith) in
     let a1 : getD (take (h + 1) b) 1 0 ≡ getD b 1 0 = getD-take (h + 1) b 1 0 (omega arith) in
     let e0 : getD b′ 0 0 ≡ getD b 0 0 = rw (stored body h v k) at a0 in
@@ -116,7 +133,8 @@ whole-held body h v k full =
     ap (λ (j : ℕ). take j b) all ∙ stored body h v k
 
 -- the byte v, behind the body bytes b so far
-module _ {limit : ℕ} {b : List ℕ} (s : Scan) (p : Partial limit (s .have) (s .length) (s .sum) b) (v : ℕ) (first : getD (b ++ v ∷ []) 0 0 ≢ 255) where
+module _ {limit : ℕ} {b : List ℕ} (s : Scan) (p : Partial limit (s .have) (s .length) (s .sum) b) (v : ℕ)
+    (first : getD (b ++ v ∷ []) 0 0 ≢ 255) where
   abbrev h : ℕ
   h = s .have
 
@@ -136,18 +154,21 @@ module _ {limit : ℕ} {b : List ℕ} (s : Scan) (p : Partial limit (s .have) (s
       let c : getD grown 1 0 ≡ v = getD-at b v [] 0 1 (p .count ∙ e) in
       omega (arith, p .high e)
 
-  module _ (P : Step → Type 0) (goes-on : (k : ℕ) → h ≤ limit → Partial limit (h + 1) k ((s .sum + v) % 2 ^ 8) grown → P (grownOf s k v))
+  module _ (P : Step → Type 0)
+      (goes-on : (k : ℕ) → h ≤ limit → Partial limit (h + 1) k ((s .sum + v) % 2 ^ 8) grown → P (grownOf s k v))
       (ends : (e : Verdict) → Ends limit grown e → P (endedOf s v e)) where
     completed : h ≡ lengthOf b + 1 → 2 ≤ h → P (completedOf s v)
     completed e two =
         let lo : lengthOf grown ≡ lengthOf b = length-on two in
         let full : length grown ≡ lengthOf grown + 2 = omega (arith, size p v) in
         let last : sumIn grown ≡ v = getD-at b v [] 0 (lengthOf grown + 1) (omega (arith, p .count)) in
-        let due : sumDue grown ≡ s .sum = ap checksum (take-at b (v ∷ []) (lengthOf grown + 1) (omega (arith, p .count))) ∙ sym (p .summed) in
+        let due : sumDue grown ≡ s .sum =
+        ap checksum (take-at b (v ∷ []) (lengthOf grown + 1) (omega (arith, p .count))) ∙ sym (p .summed) in
         let five : 5 ≤ lengthOf grown = omega (arith, p .bounds two .0) in
         let most : lengthOf grown ≤ limit = omega (arith, p .bounds two .1) in
         by-test P (eqb v (s .sum))
-        (λ q. ends Frame (record { true-length = full; least = five; most = most; sum-holds = last ∙ eqb-true v (s .sum) q ∙ sym due }))
+        (λ q. ends Frame (record
+        { true-length = full; least = five; most = most; sum-holds = last ∙ eqb-true v (s .sum) q ∙ sym due }))
         (λ q. ends Sum (full, five, most, (λ k. eqb-false v (s .sum) q (sym last ∙ k ∙ due))))
 
     pub body-cases : P (bodyByteOf limit s v)

@@ -1,4 +1,5 @@
--- What any call of any reader owes its caller: it counts no byte that was not offered, and takes one where it can. Assumes nothing.
+-- What any call of any reader owes its caller: it counts no byte that was not offered,
+-- and takes one where it can. Assumes nothing.
 use Prim.Native.Nat.{ℕ, _+_, _^_, _≤_}
 use mathlib.Core.Path.{_≡_, refl}
 use mathlib.Core.List.{List, [], _∷_}
@@ -29,13 +30,15 @@ run-counts limit (x ∷ xs) n r =
     let e : Event = advanceOf limit (r .scan) x .event in
     let c = count-event e (n + 1) (r .scan .start) (nextOf limit r x .scan .taken) in
     let rest = run-counts limit xs (n + 1) (nextOf limit r x) in
-    by-test (Counts n (n + length (x ∷ xs))) (decidesOf e) (λ d. (omega (arith, c), omega (arith, c))) (λ d. (omega (arith, rest .0), omega (arith, rest .1)))
+    by-test (Counts n (n + length (x ∷ xs))) (decidesOf e) (λ d. (omega (arith, c), omega (arith, c)))
+    (λ d. (omega (arith, rest .0), omega (arith, rest .1)))
 
 pub within : Within
 within limit r bs =
     let run = run-counts limit bs 0 r in
     by-test (λ (y : Reply). countOf (y .row) ≤ length bs) (inRangeOf limit (r .scan))
-    (λ a. by-test (λ (y : Reply). countOf (y .row) ≤ length bs) (leb (r .scan .taken + length bs) (2 ^ 62)) (λ b. omega (arith, run .1)) (λ b. omega arith))
+    (λ a. by-test (λ (y : Reply). countOf (y .row) ≤ length bs) (leb (r .scan .taken + length bs) (2 ^ 62))
+    (λ b. omega (arith, run .1)) (λ b. omega arith))
     (λ a. omega arith)
 
 some-run : (limit : ℕ) (x : ℕ) (xs : List ℕ) (r : State) → 1 ≤ countOf (runOf limit (x ∷ xs) 0 r .row)

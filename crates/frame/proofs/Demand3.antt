@@ -15,13 +15,18 @@ unfolding zeros
 fresh-holds limit = record { phase = tt; room = length-replicate (limit + 2) 0; inside = omega arith }
 
 -- all that is proved of the calls of a fresh reader
-pub from-fresh : (limit : ℕ) → limit ≤ 65279 → (calls : List Call) → Logged limit (freshOf limit) (logOf limit (freshOf limit) calls)
+pub from-fresh : (limit : ℕ)
+    → limit ≤ 65279 → (calls : List Call) → Logged limit (freshOf limit) (logOf limit (freshOf limit) calls)
 from-fresh limit small calls = logged limit small calls (freshOf limit) (fresh-holds limit) (omega arith)
 
 pub demand-3 : Demand3s
 demand-3 limit small calls =
     let ok = from-fresh limit small calls in
-    record { frames = ok .frames; lists = rw (ok .frames) (framesOf-lists limit small (stream (logOf limit (freshOf limit) calls))); accounts = ok .accounts }
+    record {
+      frames = ok .frames;
+      lists = rw (ok .frames) (framesOf-lists limit small (stream (logOf limit (freshOf limit) calls)));
+      accounts = ok .accounts;
+    }
 
 pub never-state : NeverState
 never-state limit small calls = from-fresh limit small calls .never

@@ -1,4 +1,5 @@
--- The reader as a fold over bytes, which goes on where something is decided. What calls say and leave is the fold of their stream. Assumes nothing.
+-- The reader as a fold over bytes, which goes on where something is decided.
+-- What calls say and leave is the fold of their stream. Assumes nothing.
 use Prim.Native.Nat.{ℕ, suc, _+_, _^_, _≤_}
 use mathlib.Core.Path.{_≡_, refl, sym, ap, _∙_}
 use mathlib.Core.List.{List, [], _∷_, _++_}
@@ -10,7 +11,8 @@ use Rattle.base.specs.Rows.{Row}
 use Rattle.frame.specs.Table.{codeOf, eventRow}
 use Rattle.frame.specs.Rules.{advanceOf, decidesOf, inRangeOf}
 use Rattle.frame.specs.Calls.{Reply, reply, nextOf, endingRow, runOf}
-use Rattle.frame.specs.Logs.{Call, give, ask, callOf, entryOf, logOf, stateAfter, offered, takenBy, stream, decided}
+use Rattle.frame.specs.Logs.{Call, give, ask, callOf, entryOf, logOf, stateAfter, offered, takenBy, stream}
+use Rattle.frame.specs.Logs.{decided}
 use Rattle.frame.specs.Lines.{Line, lined, linesOf, heldUnder}
 use Rattle.frame.specs.State.{Phase, Idle, Half, Header, Open, Escape, State}
 use Rattle.frame.specs.declared.scan.Event.{Event}
@@ -42,7 +44,8 @@ afterAll limit r (x ∷ xs) = afterAll limit (nextOf limit r x) xs
 unfoldable pub saidAll : ℕ → State → List ℕ → List Line
 saidAll limit r [] = []
 saidAll limit r (x ∷ xs) =
-    cond (decidesOf (advanceOf limit (r .scan) x .event)) (lineAt limit r x ∷ saidAll limit (nextOf limit r x) xs) (saidAll limit (nextOf limit r x) xs)
+    cond (decidesOf (advanceOf limit (r .scan) x .event)) (lineAt limit r x ∷ saidAll limit (nextOf limit r x) xs)
+    (saidAll limit (nextOf limit r x) xs)
 
 module _ (limit : ℕ) where
   pub after-append : (a b : List ℕ) (r : State) → afterAll limit r (a ++ b) ≡ afterAll limit (afterAll limit r a) b
@@ -54,11 +57,13 @@ module _ (limit : ℕ) where
   join true d u v w e = ap (λ (l : List Line). d ∷ l) e
   join false d u v w e = e
 
-  pub said-append : (a b : List ℕ) (r : State) → saidAll limit r (a ++ b) ≡ saidAll limit r a ++ saidAll limit (afterAll limit r a) b
+  pub said-append : (a b : List ℕ) (r : State)
+      → saidAll limit r (a ++ b) ≡ saidAll limit r a ++ saidAll limit (afterAll limit r a) b
   unfolding afterAll saidAll
   said-append [] b r = refl
   said-append (x ∷ a) b r =
-      join (decidesOf (advanceOf limit (r .scan) x .event)) (lineAt limit r x) (saidAll limit (nextOf limit r x) (a ++ b)) (saidAll limit (nextOf limit r x) a)
+      join (decidesOf (advanceOf limit (r .scan) x .event)) (lineAt limit r x)
+      (saidAll limit (nextOf limit r x) (a ++ b)) (saidAll limit (nextOf limit r x) a)
       (saidAll limit (afterAll limit (nextOf limit r x) a) b) (said-append a b (nextOf limit r x))
 
   -- ---- calls, of any reader
@@ -80,7 +85,8 @@ module _ (limit : ℕ) where
   decided-line Sum = refl
 
   lined-event : (c : Call) (e : Event) (n s p : ℕ) (r q : State) (ls : List Line) → decidesOf e ≡ true
-      → lined (entryOf r c (reply (eventRow e n s p) q)) ls ≡ record { number = eventCode e; start = s; end = p; body = heldUnder (eventCode e) (q .body) } ∷ ls
+      → lined (entryOf r c (reply (eventRow e n s p) q)) ls
+      ≡ record { number = eventCode e; start = s; end = p; body = heldUnder (eventCode e) (q .body) } ∷ ls
   lined-event c Quiet n s p r q ls d = absurd (true≢false (sym d))
   lined-event c (Decided v) n s p r q ls d = rw (decided-line v)
 
@@ -102,7 +108,8 @@ module _ (limit : ℕ) where
       record { k = suc (w .k); counts = omega (arith, w .counts); reader = w .reader; said = λ ls. rw d (w .said ls) })
 
   -- a call that takes nothing and decides nothing
-  took-none : (c : Call) (r : State) (bs : List ℕ) (a : Row) → takenBy c a ≡ 0 → ((ls : List Line) → lined (entryOf r c (reply a r)) ls ≡ ls)
+  took-none : (c : Call) (r : State) (bs : List ℕ) (a : Row)
+      → takenBy c a ≡ 0 → ((ls : List Line) → lined (entryOf r c (reply a r)) ls ≡ ls)
       → Took c r 0 bs (reply a r)
   unfolding afterAll saidAll
   took-none c r bs a none s = record { k = 0; counts = omega arith; reader = refl; said = s }
@@ -117,9 +124,12 @@ module _ (limit : ℕ) where
   took-call : (r : State) (c : Call) → Took c r 0 (offered c) (callOf limit r c)
   took-call r (give bs) =
       by-test (Took (give bs) r 0 bs) (inRangeOf limit (r .scan))
-      (λ a. by-test (Took (give bs) r 0 bs) (leb (r .scan .taken + length bs) (2 ^ 62)) (λ b. took bs bs 0 r) (λ b. took-none (give bs) r bs _ refl (λ ls. refl)))
+      (λ a. by-test (Took (give bs) r 0 bs) (leb (r .scan .taken + length bs) (2 ^ 62)) (λ b. took bs bs 0 r)
+      (λ b. took-none (give bs) r bs _ refl (λ ls. refl)))
       (λ a. took-none (give bs) r bs _ refl (λ ls. refl))
-  took-call r ask = by-test (Took ask r 0 []) (inRangeOf limit (r .scan)) (λ a. took-end r (r .scan .phase)) (λ a. took-none ask r [] _ refl (λ ls. refl))
+  took-call r ask =
+      by-test (Took ask r 0 []) (inRangeOf limit (r .scan)) (λ a. took-end r (r .scan .phase))
+      (λ a. took-none ask r [] _ refl (λ ls. refl))
 
   -- what the calls say and leave
   pub record Folded (r : State) (cs : List Call) : Type 0 where
@@ -136,7 +146,8 @@ module _ (limit : ℕ) where
       let s : List ℕ = stream (logOf limit (y .state) cs) in
       let count : takenBy c (y .row) ≡ w .k = omega (arith, w .counts) in
       record {
-        lines = w .said (linesOf (logOf limit (y .state) cs)) ∙ rw (count, said-append (take (w .k) (offered c)) s r, ← w .reader, rest .lines);
+        lines = w .said (linesOf (logOf limit (y .state) cs))
+            ∙ rw (count, said-append (take (w .k) (offered c)) s r, ← w .reader, rest .lines);
         reader = rest .reader ∙ rw (count, after-append (take (w .k) (offered c)) s r, ← w .reader);
       }
 

@@ -1,4 +1,5 @@
--- A header that no FF follows has its line, or its frame is still open: a frame's start stays until its line is said. Assumes nothing.
+-- A header that no FF follows has its line, or its frame is still open:
+-- a frame's start stays until its line is said. Assumes nothing.
 use Prim.Native.Nat.{ℕ, _+_, _≤_}
 use mathlib.Core.Path.{_≡_, refl, sym, ap, _∙_}
 use mathlib.Core.List.{List, [], _∷_, _++_, List·Memᴰ, List·Memᴰ·head, Memᴰ·append-right}
@@ -44,7 +45,8 @@ module _ (limit : ℕ) (r : State) where
   abbrev On : Step → Type 0
   On = Follows (r .scan .start)
 
-  body-follows : (v : ℕ) → Partial limit (r .scan .have) (r .scan .length) (r .scan .sum) b → getD (b ++ v ∷ []) 0 0 ≢ 255
+  body-follows : (v : ℕ) → Partial limit (r .scan .have) (r .scan .length) (r .scan .sum) b
+      → getD (b ++ v ∷ []) 0 0 ≢ 255
       → On (bodyByteOf limit (r .scan) v)
   body-follows v p first = body-cases (r .scan) p v first On (λ k low q. inr (tt, refl)) (λ e q. inl refl)
 
@@ -54,7 +56,8 @@ module _ (limit : ℕ) (r : State) where
       let e : getD (b ++ x ∷ []) 0 0 ≡ x = getD-at b x [] 0 0 (p .count ∙ i .1) in
       body-follows x p (λ j. k (sym e ∙ j))
 
-  inside-follows : (x : ℕ) (f : Phase) → Inside f → InvIn limit f (r .scan) b → On (cond (eqb x 255) (onFFIn f (r .scan)) (onOtherIn f limit (r .scan) x))
+  inside-follows : (x : ℕ) (f : Phase) → Inside f → InvIn limit f (r .scan) b
+      → On (cond (eqb x 255) (onFFIn f (r .scan)) (onOtherIn f limit (r .scan) x))
   inside-follows x Idle n i = absurd n
   inside-follows x Half n i = absurd n
   inside-follows x Header n i = absurd n
@@ -62,16 +65,19 @@ module _ (limit : ℕ) (r : State) where
       by-test On (eqb x 255) (λ q. inr (tt, refl)) (λ q. body-follows x (i .part) (first-on (i .part) x (i .some-byte)))
   inside-follows x Escape n i =
       by-test On (eqb x 255) (λ q. inl refl)
-      (λ q. by-test On (eqb x 85) (λ w. body-follows 255 (i .part) (first-on (i .part) 255 (i .some-byte))) (λ w. inl refl))
+      (λ q. by-test On (eqb x 85)
+      (λ w. body-follows 255 (i .part) (first-on (i .part) 255 (i .some-byte))) (λ w. inl refl))
 
 -- a line that starts at st is said, or the frame is open still
 abbrev Kept : ℕ → ℕ → State → List ℕ → Type 0
 Kept limit st r xs =
-    ((a : Line) × (a .start ≡ st) × List·Memᴰ a (saidAll limit r xs)) ⊎ (Inside (afterAll limit r xs .scan .phase) × (afterAll limit r xs .scan .start ≡ st))
+    ((a : Line) × (a .start ≡ st) × List·Memᴰ a (saidAll limit r xs))
+    ⊎ (Inside (afterAll limit r xs .scan .phase) × (afterAll limit r xs .scan .start ≡ st))
 
 module _ (limit : ℕ) where
   -- a step of the frame, before bytes that keep it
-  step-on : (x : ℕ) (xs : List ℕ) (r : State) → (Inside (nextOf limit r x .scan .phase) → Kept limit (nextOf limit r x .scan .start) (nextOf limit r x) xs)
+  step-on : (x : ℕ) (xs : List ℕ) (r : State)
+      → (Inside (nextOf limit r x .scan .phase) → Kept limit (nextOf limit r x .scan .start) (nextOf limit r x) xs)
       → Follows (r .scan .start) (advanceOf limit (r .scan) x) → Kept limit (r .scan .start) r (x ∷ xs)
   unfolding saidAll afterAll
   step-on x xs r rest f = go (decidesOf (advanceOf limit (r .scan) x .event)) refl f
@@ -81,7 +87,8 @@ module _ (limit : ℕ) where
       on d s (inl w) = inl (w .0, w .1 ∙ s, (rw d (w .2)))
       on d s (inr w) = inr (w .0, w .1 ∙ s)
 
-      go : (u : Bool) → decidesOf (advanceOf limit (r .scan) x .event) ≡ u → Follows (r .scan .start) (advanceOf limit (r .scan) x) → Kept limit (r .scan .start) r (x ∷ xs)
+      go : (u : Bool) → decidesOf (advanceOf limit (r .scan) x .event) ≡ u
+          → Follows (r .scan .start) (advanceOf limit (r .scan) x) → Kept limit (r .scan .start) r (x ∷ xs)
       go true d f = inl (lineAt limit r x, refl, (rw d (List·Memᴰ·head refl)))
       go false d (inl e) = absurd (true≢false (sym e ∙ d))
       go false d (inr w) = on d (w .1) (rest (w .0))
@@ -95,7 +102,8 @@ module _ (limit : ℕ) where
         (inside-follows limit r x (r .scan .phase) n (i .phase))
 
     -- a header that no FF follows
-    header-kept : {st : ℕ} (x : ℕ) (xs : List ℕ) (r : State) → At limit st [] r → x ≢ 255 → Kept limit (r .scan .start) r (x ∷ xs)
+    header-kept : {st : ℕ} (x : ℕ) (xs : List ℕ) (r : State)
+        → At limit st [] r → x ≢ 255 → Kept limit (r .scan .start) r (x ∷ xs)
     header-kept x xs r a k =
         step-on x xs r (λ n. follows xs (nextOf limit r x) (moves limit small r x (a .holds) .holds) n)
         (go (r .scan .phase) (a .between) (a .holds .phase))
@@ -109,17 +117,26 @@ module _ (limit : ℕ) where
         go Escape n i = absurd n
 
     -- the same behind any bytes of a fresh reader
-    from-before : (before after : List ℕ) (x : ℕ) → x ≢ 255 → Kept limit (length before) (freshOf limit) (before ++ 255 ∷ 255 ∷ x ∷ after)
+    from-before : (before after : List ℕ) (x : ℕ)
+        → x ≢ 255 → Kept limit (length before) (freshOf limit) (before ++ 255 ∷ 255 ∷ x ∷ after)
     from-before before after x k =
         let q : State = afterAll limit (freshOf limit) before in
         let there = kept limit small before (freshOf limit) (fresh-holds limit) in
         let h : List ℕ = 255 ∷ 255 ∷ [] in
         let a : At limit (q .scan .taken) [] (afterAll limit q h) = read-header limit small q (there .holds) in
         let start : afterAll limit q h .scan .start ≡ length before = omega (arith, a .starts, there .place) in
-        rw (after-append limit before (h ++ x ∷ after) (freshOf limit), after-append limit h (x ∷ after) q, said-append limit before (h ++ x ∷ after) (freshOf limit), said-append limit h (x ∷ after) q, ← start)
-        (wider (saidAll limit (freshOf limit) before) (saidAll limit q h) (header-kept x after (afterAll limit q h) a k))
+        rw (
+          after-append limit before (h ++ x ∷ after) (freshOf limit),
+          after-append limit h (x ∷ after) q,
+          said-append limit before (h ++ x ∷ after) (freshOf limit),
+          said-append limit h (x ∷ after) q,
+          ← start,
+        )
+        (wider (saidAll limit (freshOf limit) before) (saidAll limit q h)
+        (header-kept x after (afterAll limit q h) a k))
       where
-        wider : {A : Type 0} {st : ℕ} (u v : List Line) {w : List Line} → ((a : Line) × (a .start ≡ st) × List·Memᴰ a w) ⊎ A → ((a : Line) × (a .start ≡ st) × List·Memᴰ a (u ++ (v ++ w))) ⊎ A
+        wider : {A : Type 0} {st : ℕ} (u v : List Line) {w : List Line} → ((a : Line) × (a .start ≡ st) × List·Memᴰ a w)
+            ⊎ A → ((a : Line) × (a .start ≡ st) × List·Memᴰ a (u ++ (v ++ w))) ⊎ A
         wider u v (inl p) = inl (p .0, p .1, Memᴰ·append-right u (Memᴰ·append-right v (p .2)))
         wider u v (inr p) = inr p
 
@@ -131,7 +148,8 @@ inside-opened Open s n = (tt, refl)
 inside-opened Escape s n = (tt, refl)
 
 module _ (limit : ℕ) (small : limit ≤ 65279) where
-  told-or-open : (xs : List ℕ) (st : ℕ) → Kept limit st (freshOf limit) xs → ((a : Line) × (a .start ≡ st) × List·Memᴰ a (saidAll limit (freshOf limit) xs)) ⊎ IsOpen limit xs st
+  told-or-open : (xs : List ℕ) (st : ℕ) → Kept limit st (freshOf limit) xs
+      → ((a : Line) × (a .start ≡ st) × List·Memᴰ a (saidAll limit (freshOf limit) xs)) ⊎ IsOpen limit xs st
   told-or-open xs st (inl w) = inl w
   told-or-open xs st (inr p) =
       let q : State = afterAll limit (freshOf limit) xs in
@@ -142,10 +160,12 @@ module _ (limit : ℕ) (small : limit ≤ 65279) where
         raw = pending q;
         bytes = w .bytes;
         starts = sym (w .place ∙ o .1 ∙ p .1);
-        opens = pending-opens limit (q .scan .phase) (q .scan) (held q) (kept limit small xs (freshOf limit) (fresh-holds limit) .holds .phase) (o .0);
+        opens = pending-opens limit (q .scan .phase) (q .scan) (held q)
+            (kept limit small xs (freshOf limit) (fresh-holds limit) .holds .phase) (o .0);
       })
 
 pub no-header-lost : NoHeaderLost
 no-header-lost limit small calls before after x e k =
     rw (folded limit calls (freshOf limit) .lines)
-    (told-or-open limit small (stream (logOf limit (freshOf limit) calls)) (length before) (rw e (from-before limit small before after x k)))
+    (told-or-open limit small (stream (logOf limit (freshOf limit) calls)) (length before)
+    (rw e (from-before limit small before after x k)))

@@ -37,7 +37,11 @@ pub record FrameHere (limit : ℕ) (t b : List ℕ) : Type 0 where
 pub good-isGood : (limit : ℕ) (b : List ℕ) → Good limit b → isGood limit b ≡ true
 unfolding isGood sumHolds
 good-isGood limit b g =
-    rw (eq-eqb (length b) (lengthOf b + 2) (g .true-length), le-leb 5 (lengthOf b) (g .least), le-leb (lengthOf b) limit (g .most))
+    rw (
+      eq-eqb (length b) (lengthOf b + 2) (g .true-length),
+      le-leb 5 (lengthOf b) (g .least),
+      le-leb (lengthOf b) limit (g .most),
+    )
     (eq-eqb (getD b (lengthOf b + 1) 0) (checksum (take (lengthOf b + 1) b)) (g .sum-holds))
 
 pub isGood-good : (limit : ℕ) (b : List ℕ) → isGood limit b ≡ true → Good limit b
@@ -69,13 +73,19 @@ candidate-is b rest l =
 pub here-some : (limit : ℕ) (t b : List ℕ) → FrameHere limit t b → here limit t ≡ some b
 unfolding here
 here-some limit t b f =
-    rw (f .bytes, candidate-is b (f .rest) (f .good .true-length), startsWith-append (wire b) (f .rest), good-isGood limit b (f .good))
+    rw (
+      f .bytes,
+      candidate-is b (f .rest) (f .good .true-length),
+      startsWith-append (wire b) (f .rest),
+      good-isGood limit b (f .good),
+    )
 
 pub here-sound : (limit : ℕ) (t b : List ℕ) → here limit t ≡ some b → FrameHere limit t b
 unfolding here
 here-sound limit t b e = go (startsWith (wire (candidate t)) t && isGood limit (candidate t)) refl e
   where
-    go : (k : Bool) → (startsWith (wire (candidate t)) t && isGood limit (candidate t)) ≡ k → keep k (candidate t) ≡ some b → FrameHere limit t b
+    go : (k : Bool) → (startsWith (wire (candidate t)) t && isGood limit (candidate t)) ≡ k
+        → keep k (candidate t) ≡ some b → FrameHere limit t b
     go true q e =
         let same : candidate t ≡ b = cc in
         let h = both (startsWith (wire (candidate t)) t) q in

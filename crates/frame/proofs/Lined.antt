@@ -1,7 +1,9 @@
--- Each line that is said stands in the stream, by rising start, and what the reader has begun is the stream's end. Assumes nothing.
+-- Each line that is said stands in the stream, by rising start, and what the reader has begun is the stream's end.
+-- Assumes nothing.
 use Prim.Native.Nat.{ℕ, _+_, _≤_, _<_}
 use mathlib.Core.Path.{_≡_, refl, sym, ap, _∙_}
-use mathlib.Core.List.{List, [], _∷_, _++_, append-assoc, append-nil, List·Memᴰ, List·Memᴰ·not-nil, List·Memᴰ·cases-cons}
+use mathlib.Core.List.{List, [], _∷_, _++_, append-assoc, append-nil, List·Memᴰ, List·Memᴰ·not-nil}
+use mathlib.Core.List.{List·Memᴰ·cases-cons}
 use mathlib.Core.Bool.{Bool, true, false, cond, true≢false}
 use mathlib.Core.Logic.{_≢_, _⊎_, inl, inr}
 use native.Mathlib.Omega.{arith}
@@ -11,7 +13,8 @@ use lib.Dec.{eqb}
 use borrow.Author.Tests.{eqb-true, eqb-false}
 use Rattle.frame.specs.Wire.{wire, lengthOf}
 use Rattle.frame.specs.Frames.{frontBody}
-use Rattle.frame.specs.Lines.{Decides, is-frame, is-short, is-long, is-stuff, is-cut, is-sum, heldUnder, Line, IsLine, LinesFrom}
+use Rattle.frame.specs.Lines.{Decides, is-frame, is-short, is-long, is-stuff, is-cut, is-sum, heldUnder, Line}
+use Rattle.frame.specs.Lines.{IsLine, LinesFrom}
 use Rattle.frame.specs.Table.{codeOf}
 use Rattle.frame.specs.Rules.{bodyByteOf, onFFIn, onOtherIn, advanceOf, decidesOf}
 use Rattle.frame.specs.Calls.{nextOf}
@@ -21,8 +24,10 @@ use Rattle.frame.specs.declared.scan.Event.the-variants.{Quiet}
 use Rattle.frame.specs.declared.scan.Verdict.{Verdict}
 use Rattle.frame.specs.declared.scan.Verdict.the-variants.{Frame, Short, Long, Stuff, Cut, Sum}
 use Rattle.base.proofs.Tests.{by-test}
-use Rattle.frame.proofs.Moves.{held, pending, pendingIn, origin, originIn, Inv, InvIn, after, moves, wire-snoc, wire-ff, wire-none, wire-wait}
-use Rattle.frame.proofs.Bodies.{Partial, partial-none, first-on, Ends, unfinished-of, stored, whole-held, body-cases}
+use Rattle.frame.proofs.Moves.{held, pending, pendingIn, origin, originIn, Inv, InvIn, after, moves, wire-snoc}
+use Rattle.frame.proofs.Moves.{wire-ff, wire-none, wire-wait}
+use Rattle.frame.proofs.Bodies.{Partial, partial-none, first-on, Ends, unfinished-of, stored, whole-held}
+use Rattle.frame.proofs.Bodies.{body-cases}
 use Rattle.frame.proofs.Fold.{eventCode, lineAt, afterAll, saidAll}
 
 -- the raw bytes, from place o on, of which e is decided; gone are those that are no longer pending then
@@ -38,10 +43,12 @@ pub record Tells (limit o : ℕ) (raw : List ℕ) (r : State) (s : Step) : Type 
   pub line : decidesOf (s .event) ≡ true → Answered limit o raw gone r (s .event) (after r s .body)
 
 -- a byte that decides nothing
-quiet : {limit o : ℕ} {raw : List ℕ} {r : State} {s : Step} → s .event ≡ Quiet → (gone : List ℕ) → raw ≡ gone ++ pending (after r s) → Tells limit o raw r s
+quiet : {limit o : ℕ} {raw : List ℕ} {r : State} {s : Step}
+    → s .event ≡ Quiet → (gone : List ℕ) → raw ≡ gone ++ pending (after r s) → Tells limit o raw r s
 quiet q gone e = record { gone = gone; bytes = e; line = λ d. absurd (true≢false (sym d ∙ ap decidesOf q)) }
 
-body-decides : (limit : ℕ) (b held : List ℕ) {raw : List ℕ} (e : Verdict) → Ends limit b e → raw ≡ wire b → (length b ≡ lengthOf b + 2 → frontBody held ≡ b)
+body-decides : (limit : ℕ) (b held : List ℕ) {raw : List ℕ} (e : Verdict)
+    → Ends limit b e → raw ≡ wire b → (length b ≡ lengthOf b + 2 → frontBody held ≡ b)
     → Decides limit raw (codeOf e) (heldUnder (codeOf e) held)
 body-decides limit b held Frame p q w = is-frame b refl (w (p .true-length)) q p
 body-decides limit b held Short p q w = is-short b refl refl q (p .0) (p .1)
@@ -58,7 +65,8 @@ module _ (limit : ℕ) (r : State) (room : length (r .body) ≡ limit + 2) (insi
   abbrev TellsFrom : Phase → ℕ → Step → Type 0
   TellsFrom f x s = Tells limit (originIn f (r .scan)) (pendingIn f b ++ x ∷ []) r s
 
-  body-tells : (raw : List ℕ) (v : ℕ) → Partial limit (r .scan .have) (r .scan .length) (r .scan .sum) b → getD (b ++ v ∷ []) 0 0 ≢ 255
+  body-tells : (raw : List ℕ) (v : ℕ)
+      → Partial limit (r .scan .have) (r .scan .length) (r .scan .sum) b → getD (b ++ v ∷ []) 0 0 ≢ 255
       → raw ≡ wire (b ++ v ∷ []) → Tells limit (r .scan .start) raw r (bodyByteOf limit (r .scan) v)
   body-tells raw v p first e =
       let h : ℕ = r .scan .have in
@@ -68,7 +76,8 @@ module _ (limit : ℕ) (r : State) (room : length (r .body) ≡ limit + 2) (insi
         gone = raw;
         bytes = sym (append-nil raw);
         line = λ d. record {
-          decides = body-decides limit (b ++ v ∷ []) (set (r .body) h v) e′ q e (whole-held (r .body) h v (omega arith));
+          decides =
+              body-decides limit (b ++ v ∷ []) (set (r .body) h v) e′ q e (whole-held (r .body) h v (omega arith));
           starts = refl;
           rises = omega (arith, ap length e);
         };
@@ -83,10 +92,16 @@ module _ (limit : ℕ) (r : State) (room : length (r .body) ≡ limit + 2) (insi
       record {
         gone = wire b;
         bytes = wire-wait b (255 ∷ []);
-        line = λ d. record { decides = is-cut b refl refl (wire-wait b (255 ∷ [])) (unfinished-of (i .part) (i .some-byte)); starts = refl; rises = omega arith };
+        line = λ d. record {
+          decides = is-cut b refl refl (wire-wait b (255 ∷ []))
+              (unfinished-of (i .part) (i .some-byte));
+          starts = refl;
+          rises = omega arith;
+        };
       }
 
-  other-tells : (x : ℕ) → x ≢ 255 → (f : Phase) → InvIn limit f (r .scan) b → TellsFrom f x (onOtherIn f limit (r .scan) x)
+  other-tells : (x : ℕ) → x ≢ 255 → (f : Phase) → InvIn limit f (r .scan) b
+      → TellsFrom f x (onOtherIn f limit (r .scan) x)
   other-tells x k Idle i = quiet refl (x ∷ []) refl
   other-tells x k Half i = quiet refl (255 ∷ x ∷ []) refl
   other-tells x k Header i =
@@ -94,9 +109,11 @@ module _ (limit : ℕ) (r : State) (room : length (r .body) ≡ limit + 2) (insi
       let none-yet : b ≡ [] = ap (λ (j : ℕ). take j (r .body)) (i .1) in
       let e : getD (b ++ x ∷ []) 0 0 ≡ x = getD-at b x [] 0 0 (p .count ∙ i .1) in
       body-tells (255 ∷ 255 ∷ x ∷ []) x p (λ q. k (sym e ∙ q))
-      (ap (λ (j : List ℕ). j ++ x ∷ []) (sym (wire-none none-yet)) ∙ sym (wire-snoc b x [] k) ∙ append-nil (wire (b ++ x ∷ [])))
+      (ap (λ (j : List ℕ). j ++ x ∷ []) (sym (wire-none none-yet)) ∙ sym (wire-snoc b x [] k)
+      ∙ append-nil (wire (b ++ x ∷ [])))
   other-tells x k Open i =
-      body-tells (wire b ++ x ∷ []) x (i .part) (first-on (i .part) x (i .some-byte)) (sym (wire-snoc b x [] k) ∙ append-nil (wire (b ++ x ∷ [])))
+      body-tells (wire b ++ x ∷ []) x (i .part) (first-on (i .part) x (i .some-byte))
+      (sym (wire-snoc b x [] k) ∙ append-nil (wire (b ++ x ∷ [])))
   other-tells x k Escape i =
       by-test (TellsFrom Escape x) (eqb x 85)
       (λ q.
@@ -107,7 +124,8 @@ module _ (limit : ℕ) (r : State) (room : length (r .body) ≡ limit + 2) (insi
         gone = (wire b ++ 255 ∷ []) ++ x ∷ [];
         bytes = sym (append-nil ((wire b ++ 255 ∷ []) ++ x ∷ []));
         line = λ d. record {
-          decides = is-stuff b x refl refl (wire-wait b (x ∷ [])) (unfinished-of (i .part) (i .some-byte)) (eqb-false x 85 q) k;
+          decides = is-stuff b x refl refl (wire-wait b (x ∷ []))
+              (unfinished-of (i .part) (i .some-byte)) (eqb-false x 85 q) k;
           starts = refl;
           rises = omega arith;
         };
@@ -115,7 +133,8 @@ module _ (limit : ℕ) (r : State) (room : length (r .body) ≡ limit + 2) (insi
 
 -- ---- all bytes of a reader that the calls can reach
 
-place-in : (limit : ℕ) (f : Phase) (s : Scan) (b : List ℕ) → InvIn limit f s b → s .taken ≡ originIn f s + length (pendingIn f b)
+place-in : (limit : ℕ) (f : Phase) (s : Scan) (b : List ℕ)
+    → InvIn limit f s b → s .taken ≡ originIn f s + length (pendingIn f b)
 place-in limit Idle s b i = omega arith
 place-in limit Half s b i = omega arith
 place-in limit Header s b i = i .0
@@ -123,24 +142,30 @@ place-in limit Open s b i = i .place
 place-in limit Escape s b i = omega (arith, i .place, length-append (wire b) (255 ∷ []))
 
 -- lines that start at n or later, with a line before them that starts at m < n, where t
-module _ {P : Line → Type 0} (a : Line) (ls : List Line) {m n : ℕ} (each : (l : Line) → List·Memᴰ l ls → P l) (low : m ≤ n) (rise : LinesFrom n ls) where
+module _ {P : Line → Type 0} (a : Line) (ls : List Line) {m n : ℕ} (each : (l : Line) → List·Memᴰ l ls → P l)
+    (low : m ≤ n) (rise : LinesFrom n ls) where
   from-lower : (ls : List Line) (k : ℕ) → k ≤ n → LinesFrom n ls → LinesFrom k ls
   from-lower [] k h p = tt
   from-lower (l ∷ ls) k h p = (omega (arith, p .0), p .1)
 
-  with-line : (t : Bool) → (t ≡ true → P a × (a .start ≡ m) × (m < n)) → ((l : Line) → List·Memᴰ l (cond t (a ∷ ls) ls) → P l) × LinesFrom m (cond t (a ∷ ls) ls)
+  with-line : (t : Bool) → (t ≡ true → P a × (a .start ≡ m) × (m < n))
+      → ((l : Line) → List·Memᴰ l (cond t (a ∷ ls) ls) → P l) × LinesFrom m (cond t (a ∷ ls) ls)
   with-line true h =
-      let first : P a × (a .start ≡ m) × (m < n) = h refl in
-      ((λ l k. go (first .0) l (List·Memᴰ·cases-cons k)), (omega (arith, first .1), from-lower ls (a .start + 1) (omega (arith, first .1, first .2)) rise))
+      let first : P a × (a .start ≡ m) × (m < n) = h refl in (
+        (λ l k. go (first .0) l (List·Memᴰ·cases-cons k)),
+        (omega (arith, first .1), from-lower ls (a .start + 1) (omega (arith, first .1, first .2)) rise),
+      )
     where
       go : P a → (l : Line) → (l ≡ a) ⊎ List·Memᴰ l ls → P l
       go p l (inl q) = rw q p
       go p l (inr k) = each l k
   with-line false h = (each, from-lower ls m low rise)
 
-regroup : (before p gone q xs : List ℕ) (x : ℕ) → p ++ x ∷ [] ≡ gone ++ q → before ++ (p ++ x ∷ xs) ≡ (before ++ gone) ++ (q ++ xs)
+regroup : (before p gone q xs : List ℕ) (x : ℕ)
+    → p ++ x ∷ [] ≡ gone ++ q → before ++ (p ++ x ∷ xs) ≡ (before ++ gone) ++ (q ++ xs)
 regroup before p gone q xs x e =
-    ap (λ (k : List ℕ). before ++ k) (sym (append-assoc p (x ∷ []) xs) ∙ ap (λ (k : List ℕ). k ++ xs) e ∙ append-assoc gone q xs) ∙ sym (append-assoc before gone (q ++ xs))
+    ap (λ (k : List ℕ). before ++ k) (sym (append-assoc p (x ∷ []) xs) ∙ ap (λ (k : List ℕ). k ++ xs) e
+    ∙ append-assoc gone q xs) ∙ sym (append-assoc before gone (q ++ xs))
 
 -- the bytes xs, of a reader that has begun its pending bytes behind the bytes before
 pub record Lined (limit : ℕ) (r : State) (before xs : List ℕ) : Type 0 where
@@ -151,7 +176,8 @@ pub record Lined (limit : ℕ) (r : State) (before xs : List ℕ) : Type 0 where
   pub place : length front ≡ origin (afterAll limit r xs)
 
 module _ (limit : ℕ) (small : limit ≤ 65279) where
-  tells : (r : State) (x : ℕ) → Inv limit r → Tells limit (origin r) (pending r ++ x ∷ []) r (advanceOf limit (r .scan) x)
+  tells : (r : State) (x : ℕ)
+      → Inv limit r → Tells limit (origin r) (pending r ++ x ∷ []) r (advanceOf limit (r .scan) x)
   tells r x i =
       by-test (TellsFrom limit r (i .room) (i .inside) (r .scan .phase) x) (eqb x 255)
       (λ q. rw (eqb-true x 255 q) (ff-tells limit r (i .room) (i .inside) (r .scan .phase) (i .phase)))
@@ -168,12 +194,15 @@ module _ (limit : ℕ) (small : limit ≤ 65279) where
       → Lined limit (nextOf limit r x) (before ++ w .gone) xs → Lined limit r before (x ∷ xs)
   unfolding saidAll afterAll
   lined-on x xs r before at w end on rest =
-      let left : before ++ (pending r ++ x ∷ xs) ≡ (before ++ w .gone) ++ (pending (nextOf limit r x) ++ xs) = regroup before (pending r) (w .gone) (pending (nextOf limit r x)) xs x (w .bytes) in
+      let left : before ++ (pending r ++ x ∷ xs) ≡ (before ++ w .gone) ++ (pending (nextOf limit r x) ++ xs) =
+      regroup before (pending r) (w .gone) (pending (nextOf limit r x)) xs x (w .bytes) in
       let both =
-      with-line {P = λ (l : Line). IsLine limit (before ++ (pending r ++ x ∷ xs)) l} (lineAt limit r x) (saidAll limit (nextOf limit r x) xs) {m = origin r} (λ l k. rw left (rest .sound l k)) (omega arith) (rest .rising)
+      with-line {P = λ (l : Line). IsLine limit (before ++ (pending r ++ x ∷ xs)) l} (lineAt limit r x) (saidAll limit
+      (nextOf limit r x) xs) {m = origin r} (λ l k. rw left (rest .sound l k)) (omega arith) (rest .rising)
       (decidesOf (advanceOf limit (r .scan) x .event))
       (λ d.
-      let a : Answered limit (origin r) (pending r ++ x ∷ []) (w .gone) r (advanceOf limit (r .scan) x .event) (nextOf limit r x .body) = w .line d in (
+      let a : Answered limit (origin r) (pending r ++ x ∷ []) (w .gone) r (advanceOf limit (r .scan) x .event)
+      (nextOf limit r x .body) = w .line d in (
         record {
           before = before;
           raw = pending r ++ x ∷ [];
@@ -188,17 +217,27 @@ module _ (limit : ℕ) (small : limit ≤ 65279) where
       )) in
       record { sound = both .0; rising = both .1; front = rest .front; bytes = left ∙ rest .bytes; place = rest .place }
 
-  pub lined : (xs : List ℕ) (r : State) → Inv limit r → (before : List ℕ) → length before ≡ origin r → Lined limit r before xs
+  pub lined : (xs : List ℕ) (r : State)
+      → Inv limit r → (before : List ℕ) → length before ≡ origin r → Lined limit r before xs
   unfolding saidAll afterAll
   lined [] r i before at =
-      record { sound = λ l k. absurd (List·Memᴰ·not-nil k); rising = tt; front = before; bytes = ap (λ (k : List ℕ). before ++ k) (append-nil (pending r)); place = at }
+      record {
+        sound = λ l k. absurd (List·Memᴰ·not-nil k);
+        rising = tt;
+        front = before;
+        bytes = ap (λ (k : List ℕ). before ++ k) (append-nil (pending r));
+        place = at;
+      }
   lined (x ∷ xs) r i before at =
       let m = moves limit small r x i in
       let w : Tells limit (origin r) (pending r ++ x ∷ []) r (advanceOf limit (r .scan) x) = tells r x i in
       let q : State = nextOf limit r x in
       let from : r .scan .taken ≡ origin r + length (pending r) = place-of r i in
       let to : q .scan .taken ≡ origin q + length (pending q) = place-of q (m .holds) in
-      let end : q .scan .taken ≡ origin r + length (pending r ++ x ∷ []) = omega (arith, m .one, length-append (pending r) (x ∷ [])) in
-      let parts : length (pending r ++ x ∷ []) ≡ length (w .gone) + length (pending q) = ap length (w .bytes) ∙ length-append (w .gone) (pending q) in
+      let end : q .scan .taken ≡ origin r + length (pending r ++ x ∷ []) =
+      omega (arith, m .one, length-append (pending r) (x ∷ [])) in
+      let parts : length (pending r ++ x ∷ []) ≡ length (w .gone) + length (pending q) =
+      ap length (w .bytes) ∙ length-append (w .gone) (pending q) in
       let on : origin q ≡ origin r + length (w .gone) = omega arith in
-      lined-on x xs r before at w end on (lined xs q (m .holds) (before ++ w .gone) (omega (arith, length-append before (w .gone))))
+      lined-on x xs r before at w end on
+      (lined xs q (m .holds) (before ++ w .gone) (omega (arith, length-append before (w .gone))))

@@ -11,7 +11,8 @@ use Rattle.frame.specs.Wire.{unstuff}
 use Rattle.base.specs.Rows.{Row, row}
 use Rattle.frame.specs.Calls.{reply, endingRow, freshOf}
 use Rattle.frame.specs.Logs.{logOf, stateAfter, stream}
-use Rattle.frame.specs.Lines.{Decides, is-frame, is-short, is-long, is-stuff, is-cut, is-sum, Line, IsLine, Opens, at-header, in-body, at-ff, IsOpen}
+use Rattle.frame.specs.Lines.{Decides, is-frame, is-short, is-long, is-stuff, is-cut, is-sum, Line, IsLine, Opens}
+use Rattle.frame.specs.Lines.{at-header, in-body, at-ff, IsOpen}
 use Rattle.frame.specs.Claims.{EachLine, EndTold, EndsTold}
 use Rattle.frame.specs.State.{Phase, Idle, Half, Header, Open, Escape, Scan, State}
 use Rattle.frame.proofs.Stuffing.{stuffed-form}
@@ -37,12 +38,15 @@ body-in (is-stuff b x n h e u k f) = rw n h
 body-in (is-cut b n h e u) = rw n h
 body-in (is-sum b n h e l k m w) = rw (n, e) (h ∙ sym (stuffed-form b .reads-back))
 
-raw-in : {limit : ℕ} {xs : List ℕ} {l : Line} (w : IsLine limit xs l) → w .raw ≡ take (l .end - l .start) (drop (l .start) xs)
+raw-in : {limit : ℕ} {xs : List ℕ} {l : Line} (w : IsLine limit xs l)
+    → w .raw ≡ take (l .end - l .start) (drop (l .start) xs)
 raw-in {limit} {xs} {l} w =
-    let rest : drop (l .start) xs ≡ w .raw ++ w .after = rw (w .bytes) (drop-at (w .before) (w .raw ++ w .after) (l .start) (sym (w .starts))) in
+    let rest : drop (l .start) xs ≡ w .raw ++ w .after =
+    rw (w .bytes) (drop-at (w .before) (w .raw ++ w .after) (l .start) (sym (w .starts))) in
     sym (rw rest (take-at (w .raw) (w .after) (l .end - l .start) (omega (arith, w .starts, w .ends))))
 
-same-body : {limit : ℕ} {xs : List ℕ} {l k : Line} → IsLine limit xs l → IsLine limit xs k → l .number ≡ k .number → l .start ≡ k .start → l .end ≡ k .end → l .body ≡ k .body
+same-body : {limit : ℕ} {xs : List ℕ} {l k : Line} → IsLine limit xs l → IsLine limit xs k → l .number ≡ k .number
+    → l .start ≡ k .start → l .end ≡ k .end → l .body ≡ k .body
 same-body {limit} {xs} {l} {k} v w n s e =
     let raws : v .raw ≡ w .raw = raw-in v ∙ rw (s, e) (sym (raw-in w)) in
     body-in (v .decides) ∙ rw (n, raws) (sym (body-in (w .decides)))
@@ -59,12 +63,22 @@ module _ (limit : ℕ) (small : limit ≤ 65279) where
       let k = kept limit small (w .before) (freshOf limit) (fresh-holds limit) in
       let at : q .scan .taken ≡ length (w .before) = omega (arith, k .place) in
       let told = reads limit small q (k .holds) (w .decides) in
-      let a : Line = record { number = l .number; start = q .scan .taken; end = q .scan .taken + length (w .raw); body = told .0 } in
+      let a : Line = record {
+        number = l .number;
+        start = q .scan .taken;
+        end = q .scan .taken + length (w .raw);
+        body = told .0;
+      } in
       let start : l .start ≡ q .scan .taken = w .starts ∙ sym at in
       let end : l .end ≡ q .scan .taken + length (w .raw) = w .ends ∙ ap (λ (n : ℕ). n + length (w .raw)) (sym at) in
       let said : List·Memᴰ a (saidAll limit (freshOf limit) xs) =
-      rw (w .bytes, said-append limit (w .before) (w .raw ++ w .after) (freshOf limit), said-append limit (w .raw) (w .after) q)
-      (Memᴰ·append-right (saidAll limit (freshOf limit) (w .before)) (Memᴰ·append-left (saidAll limit (afterAll limit q (w .raw)) (w .after)) (told .1))) in
+      rw (
+        w .bytes,
+        said-append limit (w .before) (w .raw ++ w .after) (freshOf limit),
+        said-append limit (w .raw) (w .after) q,
+      )
+      (Memᴰ·append-right (saidAll limit (freshOf limit) (w .before))
+      (Memᴰ·append-left (saidAll limit (afterAll limit q (w .raw)) (w .after)) (told .1))) in
       let same : l ≡ a = line-path refl start end (same-body w (from-fresh xs .sound a said) refl start end) in
       Memᴰ·cast same said
 
@@ -72,7 +86,8 @@ pub each-line : EachLine
 each-line limit small calls =
     let s : List ℕ = stream (logOf limit (freshOf limit) calls) in
     let w : Lined limit (freshOf limit) [] s = from-fresh limit small s in
-    rw (folded limit calls (freshOf limit) .lines) (record { sound = w .sound; complete = complete limit small s; rising = w .rising })
+    rw (folded limit calls (freshOf limit) .lines)
+    (record { sound = w .sound; complete = complete limit small s; rising = w .rising })
 
 -- ---- an end asked
 
@@ -109,7 +124,8 @@ clean-row Open s n = absurd (n tt)
 clean-row Escape s n = absurd (n tt)
 
 -- what is pending of an open frame
-pub pending-opens : (limit : ℕ) (f : Phase) (s : Scan) (b : List ℕ) → InvIn limit f s b → Opened f → Opens limit (pendingIn f b)
+pub pending-opens : (limit : ℕ) (f : Phase) (s : Scan) (b : List ℕ)
+    → InvIn limit f s b → Opened f → Opens limit (pendingIn f b)
 pending-opens limit Idle s b i n = absurd n
 pending-opens limit Half s b i n = absurd n
 pending-opens limit Header s b i n = at-header refl
@@ -117,19 +133,22 @@ pending-opens limit Open s b i n = in-body b refl (unfinished-of (i .part) (i .s
 pending-opens limit Escape s b i n = at-ff b refl (unfinished-of (i .part) (i .some-byte))
 
 module _ (limit : ℕ) (small : limit ≤ 65279) where
-  opens-after : (r : State) → Inv limit r → {raw : List ℕ} → Opens limit raw → Opened (afterAll limit r raw .scan .phase) × (afterAll limit r raw .scan .start ≡ r .scan .taken)
+  opens-after : (r : State) → Inv limit r → {raw : List ℕ} → Opens limit raw
+      → Opened (afterAll limit r raw .scan .phase) × (afterAll limit r raw .scan .start ≡ r .scan .taken)
   opens-after r i (at-header e) = rw e (at-opened (read-header limit small r i))
   opens-after r i (in-body b e u) = rw e (at-opened (read-body limit small r i b u))
   opens-after r i (at-ff b e u) = let w = read-ff limit small r i b u in rw e (rw (w .0) tt, w .1)
 
-  told : (xs : List ℕ) → afterAll limit (freshOf limit) xs .scan .taken ≤ 2 ^ 62 → EndTold limit xs (afterAll limit (freshOf limit) xs)
+  told : (xs : List ℕ) → afterAll limit (freshOf limit) xs .scan .taken ≤ 2 ^ 62
+      → EndTold limit xs (afterAll limit (freshOf limit) xs)
   told xs most =
       let q : State = afterAll limit (freshOf limit) xs in
       let k = kept limit small xs (freshOf limit) (fresh-holds limit) in
       let w : Lined limit (freshOf limit) [] xs = from-fresh limit small xs in
       let at : q .scan .taken ≡ length xs = omega (arith, k .place) in
       record {
-        left-open = λ start o. rw (in-range limit small q (k .holds) most) (ap (λ (a : Row). reply a q) (open-is xs start o at));
+        left-open = λ start o. rw (in-range limit small q (k .holds) most)
+            (ap (λ (a : Row). reply a q) (open-is xs start o at));
         left-clean = λ none. rw (in-range limit small q (k .holds) most) (ap (λ (a : Row). reply a q)
             (clean-row (q .scan .phase) (q .scan) (λ n. none (origin q) (record {
               before = w .front;
@@ -140,20 +159,25 @@ module _ (limit : ℕ) (small : limit ≤ 65279) where
             })) ∙ ap (λ (n : ℕ). row 2 (n ∷ [])) at));
       }
     where
-      open-is : (xs : List ℕ) (start : ℕ) → IsOpen limit xs start → afterAll limit (freshOf limit) xs .scan .taken ≡ length xs
-          → endingRow (afterAll limit (freshOf limit) xs .scan .phase) (afterAll limit (freshOf limit) xs .scan) ≡ row 16 (length xs ∷ start ∷ [])
+      open-is : (xs : List ℕ) (start : ℕ)
+          → IsOpen limit xs start → afterAll limit (freshOf limit) xs .scan .taken ≡ length xs
+          → endingRow (afterAll limit (freshOf limit) xs .scan .phase) (afterAll limit (freshOf limit) xs .scan)
+          ≡ row 16 (length xs ∷ start ∷ [])
       open-is xs start o at =
           let q : State = afterAll limit (freshOf limit) xs in
           let p : State = afterAll limit (freshOf limit) (o .before) in
           let k = kept limit small (o .before) (freshOf limit) (fresh-holds limit) in
-          let there : q ≡ afterAll limit p (o .raw) = ap (λ (l : List ℕ). afterAll limit (freshOf limit) l) (o .bytes) ∙ after-append limit (o .before) (o .raw) (freshOf limit) in
-          let opened : Opened (q .scan .phase) × (q .scan .start ≡ p .scan .taken) = rw there (opens-after p (k .holds) (o .opens)) in
+          let there : q ≡ afterAll limit p (o .raw) = ap (λ (l : List ℕ). afterAll limit (freshOf limit) l) (o .bytes)
+          ∙ after-append limit (o .before) (o .raw) (freshOf limit) in
+          let opened : Opened (q .scan .phase) × (q .scan .start ≡ p .scan .taken) =
+          rw there (opens-after p (k .holds) (o .opens)) in
           let from : q .scan .start ≡ start = omega (arith, opened .1, k .place, o .starts) in
           open-row (q .scan .phase) (q .scan) (opened .0) ∙ rw (at, from)
 
 pub end-told : EndsTold
 end-told limit small calls =
     let s : List ℕ = stream (logOf limit (freshOf limit) calls) in
-    let e : stateAfter limit (freshOf limit) calls ≡ afterAll limit (freshOf limit) s = folded limit calls (freshOf limit) .reader in
+    let e : stateAfter limit (freshOf limit) calls ≡ afterAll limit (freshOf limit) s =
+    folded limit calls (freshOf limit) .reader in
     let r = reached limit small calls (freshOf limit) (fresh-holds limit) (omega arith) in
     rw e (told limit small s (rw e at (r .most)))

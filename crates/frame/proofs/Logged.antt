@@ -16,7 +16,8 @@ use Rattle.base.specs.Rows.{Row, row}
 use Rattle.frame.specs.Table.{codeOf, eventRow}
 use Rattle.frame.specs.Rules.{advanceOf, decidesOf, inRangeOf}
 use Rattle.frame.specs.Calls.{Reply, reply, nextOf, endingRow, runOf, feedOf, finishOf}
-use Rattle.frame.specs.Logs.{Call, give, ask, callOf, Entry, entryOf, logOf, stateAfter, offered, takenBy, takenIn, stream, handed, handedOut, decided, Account, Accounts}
+use Rattle.frame.specs.Logs.{Call, give, ask, callOf, Entry, entryOf, logOf, stateAfter, offered, takenBy}
+use Rattle.frame.specs.Logs.{takenIn, stream, handed, handedOut, decided, Account, Accounts}
 use Rattle.frame.specs.State.{Phase, Idle, Half, Header, Open, Escape, State}
 use Rattle.frame.specs.declared.scan.Event.{Event}
 use Rattle.frame.specs.declared.scan.Event.the-variants.{Quiet, Decided}
@@ -42,13 +43,15 @@ record Took (limit : ℕ) (r : State) (n : ℕ) (bs : List ℕ) (y : Reply) : Ty
   place : taken (y .state) ≡ taken r + k
   holds : Inv limit (y .state)
   frames : (t : List ℕ) → framesFrom limit (origin r) (pending r ++ (take k bs ++ t))
-      ≡ handedBy event (record { start = start; end = taken r + k; body = frontBody (y .state .body) }) (framesFrom limit (origin (y .state)) (pending (y .state) ++ t))
+      ≡ handedBy event (record { start = start; end = taken r + k; body = frontBody (y .state .body) })
+      (framesFrom limit (origin (y .state)) (pending (y .state) ++ t))
 
 silent : (e : Event) → decidesOf e ≡ false → (f : Found) (l : List Found) → handedBy e f l ≡ l
 silent Quiet d f l = refl
 silent (Decided v) d f l = absurd (true≢false d)
 
-took : (limit : ℕ) → limit ≤ 65279 → (bs : List ℕ) (n : ℕ) (r : State) → Inv limit r → Took limit r n bs (runOf limit bs n r)
+took : (limit : ℕ) → limit ≤ 65279 → (bs : List ℕ) (n : ℕ) (r : State) → Inv limit r
+    → Took limit r n bs (runOf limit bs n r)
 unfolding runOf
 took limit small [] n r i =
     record {
@@ -81,7 +84,8 @@ took limit small (x ∷ xs) n r i =
       frames = λ t. rw (← one) (m .frames t);
     })
     (λ d.
-    let w : Took limit (nextOf limit r x) (n + 1) xs (runOf limit xs (n + 1) (nextOf limit r x)) = took limit small xs (n + 1) (nextOf limit r x) (m .holds) in
+    let w : Took limit (nextOf limit r x) (n + 1) xs (runOf limit xs (n + 1) (nextOf limit r x)) =
+    took limit small xs (n + 1) (nextOf limit r x) (m .holds) in
     let count : n + 1 + w .k ≡ n + suc (w .k) = omega arith in
     let end : taken (nextOf limit r x) + w .k ≡ taken r + suc (w .k) = omega arith in
     record {
@@ -91,7 +95,8 @@ took limit small (x ∷ xs) n r i =
       within = omega (arith, w .within);
       all = λ q. ap suc (w .all q);
       some = λ q. omega arith;
-      row-is = w .row-is ∙ ap (λ (j : ℕ). eventRow (w .event) j (w .start) (taken (nextOf limit r x) + w .k)) count ∙ ap (λ (j : ℕ). eventRow (w .event) (n + suc (w .k)) (w .start) j) end;
+      row-is = w .row-is ∙ ap (λ (j : ℕ). eventRow (w .event) j (w .start) (taken (nextOf limit r x) + w .k)) count
+          ∙ ap (λ (j : ℕ). eventRow (w .event) (n + suc (w .k)) (w .start) j) end;
       place = w .place ∙ end;
       holds = w .holds;
       frames = λ t. m .frames (take (w .k) xs ++ t) ∙ silent e d _ _ ∙ rw end at (w .frames t);
@@ -105,7 +110,8 @@ pub record Called (limit : ℕ) (r : State) (c : Call) (y : Reply) : Type 0 wher
   pub most : taken (y .state) ≤ 2 ^ 62
   pub place : taken (y .state) ≡ taken r + takenBy c (y .row)
   pub account : Account (taken r) (entryOf r c y)
-  pub shape : y .row .number ≡ 1 → y .row ≡ row 1 (takenBy c (y .row) ∷ getD (y .row .values) 1 0 ∷ getD (y .row .values) 2 0 ∷ [])
+  pub shape : y .row .number ≡ 1
+      → y .row ≡ row 1 (takenBy c (y .row) ∷ getD (y .row .values) 1 0 ∷ getD (y .row .values) 2 0 ∷ [])
   pub frames : (t : List ℕ) → framesFrom limit (origin r) (pending r ++ (take (takenBy c (y .row)) (offered c) ++ t))
       ≡ handed (entryOf r c y) (framesFrom limit (origin (y .state)) (pending (y .state) ++ t))
 
@@ -113,14 +119,17 @@ pub record Called (limit : ℕ) (r : State) (c : Call) (y : Reply) : Type 0 wher
 not-asked : {A : Type 0} {bs : List ℕ} → give bs ≡ ask → A
 not-asked e = let z : _≡_ {A = ℕ} 0 1 = cc in absurd (omega arith)
 
-with-row : (limit : ℕ) (r : State) (c : Call) (y : Reply) (a : Row) → y .row ≡ a → Called limit r c (reply a (y .state)) → Called limit r c y
+with-row : (limit : ℕ) (r : State) (c : Call) (y : Reply) (a : Row)
+    → y .row ≡ a → Called limit r c (reply a (y .state)) → Called limit r c y
 with-row limit r c y a e h = rw (← e) at h
 
-module _ (limit : ℕ) (r q : State) (bs : List ℕ) (k s : ℕ) (fits : taken r + length bs ≤ 2 ^ 62) (within : k ≤ length bs)
+module _ (limit : ℕ) (r q : State) (bs : List ℕ) (k s : ℕ)
+    (fits : taken r + length bs ≤ 2 ^ 62) (within : k ≤ length bs)
     (place : taken q ≡ taken r + k) (holds : Inv limit q) where
   -- MORE
   more-called : k ≡ length bs
-      → ((t : List ℕ) → framesFrom limit (origin r) (pending r ++ (take k bs ++ t)) ≡ framesFrom limit (origin q) (pending q ++ t))
+      → ((t : List ℕ) → framesFrom limit (origin r) (pending r ++ (take k bs ++ t))
+      ≡ framesFrom limit (origin q) (pending q ++ t))
       → Called limit r (give bs) (reply (row 0 (k ∷ [])) q)
   more-called all f =
       record {
@@ -159,7 +168,8 @@ module _ (limit : ℕ) (r q : State) (bs : List ℕ) (k s : ℕ) (fits : taken r
 
   event-called : (e : Event) → (decidesOf e ≡ false → k ≡ length bs) → (decidesOf e ≡ true → 1 ≤ k)
       → ((t : List ℕ) → framesFrom limit (origin r) (pending r ++ (take k bs ++ t))
-      ≡ handedBy e (record { start = s; end = taken r + k; body = frontBody (q .body) }) (framesFrom limit (origin q) (pending q ++ t)))
+      ≡ handedBy e (record { start = s; end = taken r + k; body = frontBody (q .body) })
+      (framesFrom limit (origin q) (pending q ++ t)))
       → Called limit r (give bs) (reply (eventRow e k s (taken r + k)) q)
   event-called Quiet all some f = more-called (all refl) f
   event-called (Decided v) all some f =
@@ -197,7 +207,8 @@ module _ (limit : ℕ) (small : limit ≤ 65279) (r : State) (i : Inv limit r) (
       let n : 0 + w .k ≡ w .k = omega arith in
       with-row limit r (give bs) (runOf limit bs 0 r) (eventRow (w .event) (w .k) (w .start) (taken r + w .k))
       (w .row-is ∙ ap (λ (j : ℕ). eventRow (w .event) j (w .start) (taken r + w .k)) n)
-      (event-called limit r (runOf limit bs 0 r .state) bs (w .k) (w .start) (leb-true (taken r + length bs) (2 ^ 62) d) (w .within) (w .place) (w .holds) (w .event) (w .all) (w .some) (w .frames)))
+      (event-called limit r (runOf limit bs 0 r .state) bs (w .k) (w .start) (leb-true (taken r + length bs) (2 ^ 62) d)
+      (w .within) (w .place) (w .holds) (w .event) (w .all) (w .some) (w .frames)))
       (λ d.
       let over : 2 ^ 62 < taken r + length bs = leb-false (taken r + length bs) (2 ^ 62) d in
       record {
@@ -221,7 +232,8 @@ module _ (limit : ℕ) (small : limit ≤ 65279) (r : State) (i : Inv limit r) (
       }))
 
   -- CLEAN or OPEN, of number d
-  end-called : (d : ℕ) (v : List ℕ) → decided d ≡ false → 2 ≤ d → d < 17 → getD v 0 0 ≡ taken r → Called limit r ask (reply (row d v) r)
+  end-called : (d : ℕ) (v : List ℕ)
+      → decided d ≡ false → 2 ≤ d → d < 17 → getD v 0 0 ≡ taken r → Called limit r ask (reply (row d v) r)
   end-called d v undecided low high first =
       let other : eqb d 1 ≡ false = ne-eqb d 1 (λ e. omega arith) in
       record {
@@ -264,10 +276,12 @@ pub record Logged (limit : ℕ) (r : State) (log : List Entry) : Type 0 where
   pub frames : handedOut log ≡ framesFrom limit (origin r) (pending r ++ stream log)
   pub accounts : Accounts (taken r) log
   pub never : (e : Entry) → List·Memᴰ e log → e .row .number ≢ 17
-  pub shapes : (e : Entry) → List·Memᴰ e log → e .row .number ≡ 1 → e .row ≡ row 1 (takenIn e ∷ getD (e .row .values) 1 0 ∷ getD (e .row .values) 2 0 ∷ [])
+  pub shapes : (e : Entry) → List·Memᴰ e log → e .row .number ≡ 1
+      → e .row ≡ row 1 (takenIn e ∷ getD (e .row .values) 1 0 ∷ getD (e .row .values) 2 0 ∷ [])
 
 -- what holds of the first and of the others holds of each
-each : (P : Entry → Type 0) (a e : Entry) (l : List Entry) → P a → ((e : Entry) → List·Memᴰ e l → P e) → List·Memᴰ e (a ∷ l) → P e
+each : (P : Entry → Type 0) (a e : Entry) (l : List Entry)
+    → P a → ((e : Entry) → List·Memᴰ e l → P e) → List·Memᴰ e (a ∷ l) → P e
 each P a e l first rest m = go (List·Memᴰ·cases-cons m)
   where
     go : (e ≡ a) ⊎ List·Memᴰ e l → P e
@@ -278,16 +292,24 @@ module _ (limit : ℕ) (small : limit ≤ 65279) where
   pub logged : (cs : List Call) (r : State) → Inv limit r → taken r ≤ 2 ^ 62 → Logged limit r (logOf limit r cs)
   unfolding logOf handedOut stream Accounts
   logged [] r i most =
-      record { frames = sym (nothing-left limit r i); accounts = tt; never = λ e m. absurd (List·Memᴰ·not-nil m); shapes = λ e m. absurd (List·Memᴰ·not-nil m) }
+      record {
+        frames = sym (nothing-left limit r i);
+        accounts = tt;
+        never = λ e m. absurd (List·Memᴰ·not-nil m);
+        shapes = λ e m. absurd (List·Memᴰ·not-nil m);
+      }
   logged (c ∷ cs) r i most =
       let y : Reply = callOf limit r c in
       let ok : Called limit r c y = called limit small r i most c in
       let rest = logged cs (y .state) (ok .holds) (ok .most) in
       record {
-        frames = ap (λ (l : List Found). handed (entryOf r c y) l) (rest .frames) ∙ sym (ok .frames (stream (logOf limit (y .state) cs)));
+        frames = ap (λ (l : List Found). handed (entryOf r c y) l) (rest .frames)
+            ∙ sym (ok .frames (stream (logOf limit (y .state) cs)));
         accounts = (ok .account, (rw (ok .place) at (rest .accounts)));
-        never = λ e m. each (λ e. e .row .number ≢ 17) (entryOf r c y) e (logOf limit (y .state) cs) (ok .account .in-range) (rest .never) m;
-        shapes = λ e m. each (λ e. e .row .number ≡ 1 → e .row ≡ row 1 (takenIn e ∷ getD (e .row .values) 1 0 ∷ getD (e .row .values) 2 0 ∷ [])) (entryOf r c y) e (logOf limit (y .state) cs) (ok .shape) (rest .shapes) m;
+        never = λ e m. each (λ e. e .row .number ≢ 17) (entryOf r c y) e (logOf limit (y .state) cs)
+            (ok .account .in-range) (rest .never) m;
+        shapes = λ e m. each (λ e. e .row .number ≡ 1 → e .row ≡ row 1 (takenIn e ∷ getD (e .row .values) 1 0 ∷ getD
+            (e .row .values) 2 0 ∷ [])) (entryOf r c y) e (logOf limit (y .state) cs) (ok .shape) (rest .shapes) m;
       }
 
   -- the reader after the calls
@@ -296,7 +318,8 @@ module _ (limit : ℕ) (small : limit ≤ 65279) where
     pub most : taken q ≤ 2 ^ 62
     pub place : taken q ≡ taken r + length (stream log)
 
-  pub reached : (cs : List Call) (r : State) → Inv limit r → taken r ≤ 2 ^ 62 → Reached r (stateAfter limit r cs) (logOf limit r cs)
+  pub reached : (cs : List Call) (r : State)
+      → Inv limit r → taken r ≤ 2 ^ 62 → Reached r (stateAfter limit r cs) (logOf limit r cs)
   unfolding logOf stateAfter stream
   reached [] r i most = record { holds = i; most = most; place = omega arith }
   reached (c ∷ cs) r i most =
@@ -304,7 +327,8 @@ module _ (limit : ℕ) (small : limit ≤ 65279) where
       let ok : Called limit r c y = called limit small r i most c in
       let rest = reached cs (y .state) (ok .holds) (ok .most) in
       let front : List ℕ = take (takenBy c (y .row)) (offered c) in
-      let size : length front ≡ takenBy c (y .row) = length-take-le (takenBy c (y .row)) (offered c) (ok .account .within) in
+      let size : length front ≡ takenBy c (y .row) =
+      length-take-le (takenBy c (y .row)) (offered c) (ok .account .within) in
       record {
         holds = rest .holds;
         most = rest .most;

@@ -1,5 +1,6 @@
 -- One raw byte over the stream. A state stands for the raw bytes of the frame that it has begun, its pending bytes;
--- a byte keeps the list of frames of the pending bytes and any rest, but for the frame that it hands out. Assumes nothing.
+-- a byte keeps the list of frames of the pending bytes and any rest, but for the frame that it hands out.
+-- Assumes nothing.
 use Prim.Native.Nat.{ℕ, suc, _+_, _-_, _%_, _^_, _≤_}
 use mathlib.Core.Path.{_≡_, refl, sym, ap, _∙_}
 use mathlib.Core.List.{List, [], _∷_, _++_, append-assoc}
@@ -23,8 +24,10 @@ use Rattle.frame.specs.declared.scan.Verdict.{Verdict}
 use Rattle.frame.specs.declared.scan.Verdict.the-variants.{Frame, Short, Long, Stuff, Cut, Sum}
 use Rattle.base.proofs.Tests.{by-test}
 use Rattle.frame.proofs.Stuffing.{stuff-append}
-use Rattle.frame.proofs.Bodies.{Partial, partial-none, first-on, sumIn, sumDue, Ends, size, stored, body-cases, whole-held}
-use Rattle.frame.proofs.Skip.{pass, pass-other, pass-pair, pass-lone, pass-triple, pass-wire, take-wire, none-end, none-lone, none-broken, none-short, none-long, none-sum}
+use Rattle.frame.proofs.Bodies.{Partial, partial-none, first-on, sumIn, sumDue, Ends, size, stored, body-cases}
+use Rattle.frame.proofs.Bodies.{whole-held}
+use Rattle.frame.proofs.Skip.{pass, pass-other, pass-pair, pass-lone, pass-triple, pass-wire, take-wire}
+use Rattle.frame.proofs.Skip.{none-end, none-lone, none-broken, none-short, none-long, none-sum}
 
 -- ---- what a state stands for
 
@@ -88,12 +91,14 @@ foundBy r s = record { start = r .scan .start; end = s .scan .taken; body = fron
 pub record Moved (limit o : ℕ) (p : List ℕ → List ℕ) (r : State) (s : Step) : Type 0 where
   pub one : s .scan .taken ≡ suc (r .scan .taken)
   pub holds : Inv limit (after r s)
-  pub frames : (t : List ℕ) → framesFrom limit o (p t) ≡ handedBy (s .event) (foundBy r s) (framesFrom limit (origin (after r s)) (pending (after r s) ++ t))
+  pub frames : (t : List ℕ) → framesFrom limit o (p t)
+      ≡ handedBy (s .event) (foundBy r s) (framesFrom limit (origin (after r s)) (pending (after r s) ++ t))
 
 pub at-place : (limit : ℕ) (t : List ℕ) {m n : ℕ} → m ≡ n → framesFrom limit m t ≡ framesFrom limit n t
 at-place limit t e = ap (λ (k : ℕ). framesFrom limit k t) e
 
-found-path : {s s′ e e′ : ℕ} {b b′ : List ℕ} → s ≡ s′ → e ≡ e′ → b ≡ b′ → _≡_ {A = Found} (record { start = s; end = e; body = b }) (record { start = s′; end = e′; body = b′ })
+found-path : {s s′ e e′ : ℕ} {b b′ : List ℕ} → s ≡ s′ → e ≡ e′ → b ≡ b′
+    → _≡_ {A = Found} (record { start = s; end = e; body = b }) (record { start = s′; end = e′; body = b′ })
 found-path p q r = λ i. record { start = p i; end = q i; body = r i }
 
 -- ---- one more byte of a list
@@ -126,7 +131,8 @@ wire-none e = rw e refl
 
 -- the next body byte v of the state r, whatever its phase, stands in the stream
 module _ (limit : ℕ) (r : State) (room : length (r .body) ≡ limit + 2) (inside : r .scan .have ≤ limit + 1)
-    (p : Partial limit (r .scan .have) (r .scan .length) (r .scan .sum) (held r)) (v : ℕ) (first : getD (held r ++ v ∷ []) 0 0 ≢ 255)
+    (p : Partial limit (r .scan .have) (r .scan .length) (r .scan .sum) (held r)) (v : ℕ)
+    (first : getD (held r ++ v ∷ []) 0 0 ≢ 255)
     (place : suc (r .scan .taken) ≡ r .scan .start + length (wire (held r ++ v ∷ []))) where
   abbrev h : ℕ
   h = r .scan .have
@@ -143,7 +149,8 @@ module _ (limit : ℕ) (r : State) (room : length (r .body) ≡ limit + 2) (insi
   some : 1 ≤ length grown
   some = omega (arith, size p v)
 
-  goes-on : (k : ℕ) → h ≤ limit → Partial limit (h + 1) k ((r .scan .sum + v) % 2 ^ 8) grown → Moves (grownOf (r .scan) k v)
+  goes-on : (k : ℕ) → h ≤ limit → Partial limit (h + 1) k ((r .scan .sum + v) % 2 ^ 8) grown
+      → Moves (grownOf (r .scan) k v)
   goes-on k low q =
       let in-place : take (h + 1) (set (r .body) h v) ≡ grown = stored (r .body) h v (omega arith) in
       record {
@@ -157,22 +164,31 @@ module _ (limit : ℕ) (r : State) (room : length (r .body) ≡ limit + 2) (insi
       }
 
   -- the frame ends
-  ended : (e : Verdict) → ((t : List ℕ) → framesFrom limit st (wire grown ++ t) ≡ handedBy (Decided e) (foundBy r (endedOf (r .scan) v e)) (framesFrom limit (r .scan .taken + 1) t))
+  ended : (e : Verdict) → ((t : List ℕ) → framesFrom limit st (wire grown ++ t)
+      ≡ handedBy (Decided e) (foundBy r (endedOf (r .scan) v e)) (framesFrom limit (r .scan .taken + 1) t))
       → Moves (endedOf (r .scan) v e)
   ended e f =
-      record { one = add-one (r .scan .taken); holds = record { phase = tt; room = length-set (r .body) h v ∙ room; inside = omega arith }; frames = f }
+      record {
+        one = add-one (r .scan .taken);
+        holds = record { phase = tt; room = length-set (r .body) h v ∙ room; inside = omega arith };
+        frames = f;
+      }
 
   -- a refused frame is none
-  refused : (e : Verdict) → eqb (codeOf e) 1 ≡ false → ((t : List ℕ) → here limit (wire grown ++ t) ≡ none) → Moves (endedOf (r .scan) v e)
+  refused : (e : Verdict)
+      → eqb (codeOf e) 1 ≡ false → ((t : List ℕ) → here limit (wire grown ++ t) ≡ none) → Moves (endedOf (r .scan) v e)
   refused e other none-here =
-      ended e (λ t. pass-wire limit grown t st some first (none-here t) ∙ at-place limit t {n = r .scan .taken + 1} (omega arith) ∙ rw other)
+      ended e (λ t. pass-wire limit grown t st some first (none-here t)
+      ∙ at-place limit t {n = r .scan .taken + 1} (omega arith) ∙ rw other)
 
   completes : Good limit grown → Moves (endedOf (r .scan) v Frame)
   completes g =
       ended Frame (λ t.
       take-wire limit grown t st some first g
-      ∙ ap (λ (l : List Found). record { start = st; end = st + length (wire grown); body = grown } ∷ l) (at-place limit t (omega arith))
-      ∙ ap (λ (f : Found). f ∷ framesFrom limit (r .scan .taken + 1) t) (found-path refl (omega arith) (sym (whole-held (r .body) h v (omega arith) (g .true-length)))))
+      ∙ ap (λ (l : List Found). record { start = st; end = st + length (wire grown); body = grown } ∷ l)
+      (at-place limit t (omega arith))
+      ∙ ap (λ (f : Found). f ∷ framesFrom limit (r .scan .taken + 1) t)
+      (found-path refl (omega arith) (sym (whole-held (r .body) h v (omega arith) (g .true-length)))))
 
   ended-moves : (e : Verdict) → Ends limit grown e → Moves (endedOf (r .scan) v e)
   unfolding isGood sumHolds
@@ -183,7 +199,11 @@ module _ (limit : ℕ) (r : State) (room : length (r .body) ≡ limit + 2) (insi
   ended-moves Cut q = absurd q
   ended-moves Sum q =
       refused Sum refl (λ t. none-sum limit grown t (q .0)
-      (rw (eq-eqb (length grown) (lengthOf grown + 2) (q .0), le-leb 5 (lengthOf grown) (q .1), le-leb (lengthOf grown) limit (q .2))
+      (rw (
+        eq-eqb (length grown) (lengthOf grown + 2) (q .0),
+        le-leb 5 (lengthOf grown) (q .1),
+        le-leb (lengthOf grown) limit (q .2),
+      )
       (ne-eqb (sumIn grown) (sumDue grown) (q .3))))
 
   pub body-moves : Moves (bodyByteOf limit (r .scan) v)
@@ -191,7 +211,8 @@ module _ (limit : ℕ) (r : State) (room : length (r .body) ≡ limit + 2) (insi
 
 -- ---- a raw byte, by phase
 
-module _ (limit : ℕ) (small : limit ≤ 65279) (r : State) (room : length (r .body) ≡ limit + 2) (inside : r .scan .have ≤ limit + 1) where
+module _ (limit : ℕ) (small : limit ≤ 65279) (r : State) (room : length (r .body) ≡ limit + 2)
+    (inside : r .scan .have ≤ limit + 1) where
   abbrev b : List ℕ
   b = held r
 
@@ -208,7 +229,8 @@ module _ (limit : ℕ) (small : limit ≤ 65279) (r : State) (room : length (r .
   one = add-one (r .scan .taken)
 
   -- raw bytes that are the wire form with one body byte more
-  on-body : (f : Phase) (x v : ℕ) → Partial limit (r .scan .have) (r .scan .length) (r .scan .sum) b → getD (b ++ v ∷ []) 0 0 ≢ 255
+  on-body : (f : Phase) (x v : ℕ)
+      → Partial limit (r .scan .have) (r .scan .length) (r .scan .sum) b → getD (b ++ v ∷ []) 0 0 ≢ 255
       → suc (r .scan .taken) ≡ at + length (wire (b ++ v ∷ [])) → originIn f (r .scan) ≡ at
       → ((t : List ℕ) → pendingIn f b ++ x ∷ t ≡ wire (b ++ v ∷ []) ++ t) → MovesFrom f x (bodyByteOf limit (r .scan) v)
   on-body f x v p first place o same =
@@ -216,18 +238,30 @@ module _ (limit : ℕ) (small : limit ≤ 65279) (r : State) (room : length (r .
       record {
         one = m .one;
         holds = m .holds;
-        frames = λ t. at-place limit (pendingIn f b ++ x ∷ t) o ∙ ap (λ (j : List ℕ). framesFrom limit at j) (same t) ∙ m .frames t;
+        frames = λ t. at-place limit (pendingIn f b ++ x ∷ t) o
+            ∙ ap (λ (j : List ℕ). framesFrom limit at j) (same t) ∙ m .frames t;
       }
 
   -- a frame that is begun, before bytes that it cannot go on with, is none
-  broken : (x : ℕ) (t : List ℕ) {n : ℕ} → Begun limit (r .scan) b n → x ≢ 85 → framesFrom limit at (wire b ++ 255 ∷ x ∷ t) ≡ framesFrom limit (at + length (wire b)) (255 ∷ x ∷ t)
+  broken : (x : ℕ) (t : List ℕ) {n : ℕ} → Begun limit (r .scan) b n → x ≢ 85
+      → framesFrom limit at (wire b ++ 255 ∷ x ∷ t) ≡ framesFrom limit (at + length (wire b)) (255 ∷ x ∷ t)
   broken x t i k =
-      pass-wire limit b (255 ∷ x ∷ t) at (i .some-byte) (i .part .first) (none-broken limit b x t (rw (i .part .count) (i .part .under)) k)
+      pass-wire limit b (255 ∷ x ∷ t) at (i .some-byte) (i .part .first)
+      (none-broken limit b x t (rw (i .part .count) (i .part .under)) k)
 
   ff-moves : (f : Phase) → Start f → MovesFrom f 255 (onFFIn f (r .scan))
   ff-moves Idle i =
-      record { one = one; holds = record { phase = omega arith; room = room; inside = omega arith }; frames = λ t. at-place limit (255 ∷ t) (omega arith) }
-  ff-moves Half i = record { one = one; holds = record { phase = (omega arith, refl, refl); room = room; inside = omega arith }; frames = λ t. refl }
+      record {
+        one = one;
+        holds = record { phase = omega arith; room = room; inside = omega arith };
+        frames = λ t. at-place limit (255 ∷ t) (omega arith);
+      }
+  ff-moves Half i =
+      record {
+        one = one;
+        holds = record { phase = (omega arith, refl, refl); room = room; inside = omega arith };
+        frames = λ t. refl;
+      }
   ff-moves Header i =
       record {
         one = one;
@@ -237,7 +271,11 @@ module _ (limit : ℕ) (small : limit ≤ 65279) (r : State) (room : length (r .
   ff-moves Open i =
       record {
         one = one;
-        holds = record { phase = record { some-byte = i .some-byte; place = omega (arith, i .place); part = i .part }; room = room; inside = inside };
+        holds = record {
+          phase = record { some-byte = i .some-byte; place = omega (arith, i .place); part = i .part };
+          room = room;
+          inside = inside;
+        };
         frames = λ t. ap (λ (k : List ℕ). framesFrom limit at k) (sym (wire-wait b t));
       }
   ff-moves Escape i =
@@ -271,10 +309,12 @@ module _ (limit : ℕ) (small : limit ≤ 65279) (r : State) (room : length (r .
       on-body Header x x p (λ q. k (sym e ∙ q)) (omega (arith, length-snoc b x k, i .0)) refl
       (λ t. ap (λ (j : List ℕ). j ++ x ∷ t) (sym (wire-none none-yet)) ∙ sym (wire-snoc b x t k))
   other-moves x k Open i =
-      on-body Open x x (i .part) (first-on (i .part) x (i .some-byte)) (omega (arith, length-snoc b x k, i .place)) refl (λ t. sym (wire-snoc b x t k))
+      on-body Open x x (i .part) (first-on (i .part) x (i .some-byte)) (omega (arith, length-snoc b x k, i .place)) refl
+      (λ t. sym (wire-snoc b x t k))
   other-moves x k Escape i =
       by-test (MovesFrom Escape x) (eqb x 85)
-      (λ q. on-body Escape x 255 (i .part) (first-on (i .part) 255 (i .some-byte)) (omega (arith, length-ff b, i .place)) refl
+      (λ q. on-body Escape x 255 (i .part) (first-on (i .part) 255 (i .some-byte))
+      (omega (arith, length-ff b, i .place)) refl
       (λ t. rw (eqb-true x 85 q) (wire-wait b (85 ∷ t) ∙ sym (wire-ff b t))))
       (λ q.
       let n : ℕ = at + length (wire b) in
@@ -287,7 +327,8 @@ module _ (limit : ℕ) (small : limit ≤ 65279) (r : State) (room : length (r .
       })
 
 -- a raw byte, of any reader that the calls can reach
-pub moves : (limit : ℕ) → limit ≤ 65279 → (r : State) (x : ℕ) → Inv limit r → Moved limit (origin r) (λ t. pending r ++ x ∷ t) r (advanceOf limit (r .scan) x)
+pub moves : (limit : ℕ) → limit ≤ 65279 → (r : State) (x : ℕ) → Inv limit r
+    → Moved limit (origin r) (λ t. pending r ++ x ∷ t) r (advanceOf limit (r .scan) x)
 moves limit small r x i =
     by-test (MovesFrom limit small r (i .room) (i .inside) (r .scan .phase) x) (eqb x 255)
     (λ q. rw (eqb-true x 255 q) (ff-moves limit small r (i .room) (i .inside) (r .scan .phase) (i .phase)))
@@ -301,14 +342,19 @@ module _ (limit : ℕ) where
   unfolding framesFrom stuff
   nothing-left r i = go (r .scan .phase) (r .scan) (held r) (i .phase)
     where
-      go : (f : Phase) (s : Scan) (b : List ℕ) → InvIn limit f s b → framesFrom limit (originIn f s) (pendingIn f b ++ []) ≡ []
+      go : (f : Phase) (s : Scan) (b : List ℕ)
+          → InvIn limit f s b → framesFrom limit (originIn f s) (pendingIn f b ++ []) ≡ []
       go Idle s b h = refl
       go Half s b h = pass-lone limit (s .taken - 1) 255
-      go Header s b h = pass limit (s .start) 255 (255 ∷ []) (none-end limit [] (omega arith)) ∙ pass-lone limit (suc (s .start)) 255
-      go Open s b h = pass-wire limit b [] (s .start) (h .some-byte) (h .part .first) (none-end limit b (rw (h .part .count) (h .part .under)))
+      go Header s b h =
+          pass limit (s .start) 255 (255 ∷ []) (none-end limit [] (omega arith)) ∙ pass-lone limit (suc (s .start)) 255
+      go Open s b h =
+          pass-wire limit b [] (s .start) (h .some-byte) (h .part .first)
+          (none-end limit b (rw (h .part .count) (h .part .under)))
       go Escape s b h =
           ap (λ (l : List ℕ). framesFrom limit (s .start) l) (wire-wait b [])
-          ∙ pass-wire limit b (255 ∷ []) (s .start) (h .some-byte) (h .part .first) (none-lone limit b (rw (h .part .count) (h .part .under)))
+          ∙ pass-wire limit b (255 ∷ []) (s .start) (h .some-byte) (h .part .first)
+          (none-lone limit b (rw (h .part .count) (h .part .under)))
           ∙ pass-lone limit (s .start + length (wire b)) 255
 
   -- a header that follows ends whatever is pending
@@ -316,15 +362,20 @@ module _ (limit : ℕ) where
       → framesFrom limit (origin r) (pending r ++ 255 ∷ 255 ∷ t) ≡ framesFrom limit (r .scan .taken) (255 ∷ 255 ∷ t)
   settles small r i t = go (r .scan .phase) (r .scan) (held r) (i .phase)
     where
-      go : (f : Phase) (s : Scan) (b : List ℕ) → InvIn limit f s b → framesFrom limit (originIn f s) (pendingIn f b ++ 255 ∷ 255 ∷ t) ≡ framesFrom limit (s .taken) (255 ∷ 255 ∷ t)
+      go : (f : Phase) (s : Scan) (b : List ℕ) → InvIn limit f s b → framesFrom limit (originIn f s) (pendingIn f b
+          ++ 255 ∷ 255 ∷ t) ≡ framesFrom limit (s .taken) (255 ∷ 255 ∷ t)
       go Idle s b h = refl
       go Half s b h = pass-triple limit small (s .taken - 1) t ∙ at-place limit (255 ∷ 255 ∷ t) (omega arith)
       go Header s b h =
-          pass-triple limit small (s .start) (255 ∷ t) ∙ pass-triple limit small (suc (s .start)) t ∙ at-place limit (255 ∷ 255 ∷ t) (omega (arith, h .0))
+          pass-triple limit small (s .start) (255 ∷ t) ∙ pass-triple limit small (suc (s .start)) t
+          ∙ at-place limit (255 ∷ 255 ∷ t) (omega (arith, h .0))
       go Open s b h =
-          pass-wire limit b (255 ∷ 255 ∷ t) (s .start) (h .some-byte) (h .part .first) (none-broken limit b 255 t (rw (h .part .count) (h .part .under)) (omega arith))
+          pass-wire limit b (255 ∷ 255 ∷ t) (s .start) (h .some-byte) (h .part .first)
+          (none-broken limit b 255 t (rw (h .part .count) (h .part .under)) (omega arith))
           ∙ at-place limit (255 ∷ 255 ∷ t) (omega (arith, h .place))
       go Escape s b h =
           ap (λ (l : List ℕ). framesFrom limit (s .start) l) (wire-wait b (255 ∷ 255 ∷ t))
-          ∙ pass-wire limit b (255 ∷ 255 ∷ 255 ∷ t) (s .start) (h .some-byte) (h .part .first) (none-broken limit b 255 (255 ∷ t) (rw (h .part .count) (h .part .under)) (omega arith))
-          ∙ pass-triple limit small (s .start + length (wire b)) t ∙ at-place limit (255 ∷ 255 ∷ t) (omega (arith, h .place))
+          ∙ pass-wire limit b (255 ∷ 255 ∷ 255 ∷ t) (s .start) (h .some-byte) (h .part .first)
+          (none-broken limit b 255 (255 ∷ t) (rw (h .part .count) (h .part .under)) (omega arith))
+          ∙ pass-triple limit small (s .start + length (wire b)) t
+          ∙ at-place limit (255 ∷ 255 ∷ t) (omega (arith, h .place))

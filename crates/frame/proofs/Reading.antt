@@ -1,4 +1,5 @@
--- Each stretch of the stream that the table answers is told: from any reader, a header and the bytes behind it lead to the deciding byte. Assumes nothing.
+-- Each stretch of the stream that the table answers is told:
+-- from any reader, a header and the bytes behind it lead to the deciding byte. Assumes nothing.
 use Prim.Native.Nat.{ℕ, _+_, _≤_, _<_}
 use mathlib.Core.Path.{_≡_, refl, sym, ap, _∙_}
 use mathlib.Core.List.{List, [], _∷_, _++_, append-assoc, append-nil, List·Memᴰ, List·Memᴰ·head, Memᴰ·append-right}
@@ -21,14 +22,16 @@ use Rattle.frame.proofs.Stuffing.{stuff-append}
 use Rattle.frame.proofs.Here.{lengthOf-append}
 use Rattle.frame.proofs.Skip.{good-first}
 use Rattle.frame.proofs.Moves.{held, Inv, InvIn, after}
-use Rattle.frame.proofs.Bodies.{Partial, partial-none, Ends, never-both, same-end, unfinished-of, stored, body-cases}
+use Rattle.frame.proofs.Bodies.{Partial, partial-none, Ends, never-both, same-end, unfinished-of, stored}
+use Rattle.frame.proofs.Bodies.{body-cases}
 use Rattle.frame.specs.Table.{codeOf}
 use Rattle.frame.proofs.Fold.{eventCode, lineAt, afterAll, saidAll, after-append, said-append, kept}
 
 -- ---- fronts of bodies
 
 module _ (limit : ℕ) (a c : List ℕ) (some : 1 ≤ length a) where
-  front-of : getD (a ++ c) 0 0 ≢ 255 → length a < lengthOf (a ++ c) + 2 → (2 ≤ length a → (5 ≤ lengthOf (a ++ c)) × (lengthOf (a ++ c) ≤ limit)) → Unfinished limit a
+  front-of : getD (a ++ c) 0 0 ≢ 255 → length a < lengthOf (a ++ c) + 2
+      → (2 ≤ length a → (5 ≤ lengthOf (a ++ c)) × (lengthOf (a ++ c) ≤ limit)) → Unfinished limit a
   front-of first under bounds =
       let e : getD (a ++ c) 0 0 ≡ getD a 0 0 = List·getD-append a c 0 0 some in
       record {
@@ -56,13 +59,19 @@ ends-first limit small b Cut p = absurd p
 ends-first limit small b Sum p = λ q. omega (arith, p .2)
 
 -- the body before a last byte that decides
-ends-front : (limit : ℕ) → limit ≤ 65279 → (a : List ℕ) (v : ℕ) (e : Verdict) → Ends limit (a ++ v ∷ []) e → Unfinished limit a
+ends-front : (limit : ℕ) → limit ≤ 65279 → (a : List ℕ) (v : ℕ) (e : Verdict)
+    → Ends limit (a ++ v ∷ []) e → Unfinished limit a
 ends-front limit small a v e p = go e p (length-append a (v ∷ [])) (ends-first limit small (a ++ v ∷ []) e p)
   where
-    go : (e : Verdict) → Ends limit (a ++ v ∷ []) e → length (a ++ v ∷ []) ≡ length a + 1 → getD (a ++ v ∷ []) 0 0 ≢ 255 → Unfinished limit a
-    go Frame p n f = front-of limit a (v ∷ []) (omega (arith, p .true-length, p .least)) f (omega (arith, p .true-length)) (λ k. (p .least, p .most))
-    go Short p n f = front-of limit a (v ∷ []) (omega (arith, p .0)) f (omega (arith, p .0)) (λ k. absurd (omega (arith, p .0)))
-    go Long p n f = front-of limit a (v ∷ []) (omega (arith, p .0)) f (omega (arith, p .0)) (λ k. absurd (omega (arith, p .0)))
+    go : (e : Verdict) → Ends limit (a ++ v ∷ []) e → length (a ++ v ∷ []) ≡ length a + 1
+        → getD (a ++ v ∷ []) 0 0 ≢ 255 → Unfinished limit a
+    go Frame p n f =
+        front-of limit a (v ∷ []) (omega (arith, p .true-length, p .least)) f (omega (arith, p .true-length))
+        (λ k. (p .least, p .most))
+    go Short p n f =
+        front-of limit a (v ∷ []) (omega (arith, p .0)) f (omega (arith, p .0)) (λ k. absurd (omega (arith, p .0)))
+    go Long p n f =
+        front-of limit a (v ∷ []) (omega (arith, p .0)) f (omega (arith, p .0)) (λ k. absurd (omega (arith, p .0)))
     go Stuff p n f = absurd p
     go Cut p n f = absurd p
     go Sum p n f = front-of limit a (v ∷ []) (omega (arith, p .0, p .1)) f (omega (arith, p .0)) (λ k. (p .1, p .2))
@@ -74,7 +83,9 @@ record Snoc (b : List ℕ) : Type 0 where
 
 snoc : (x : ℕ) (xs : List ℕ) → Snoc (x ∷ xs)
 snoc x [] = record { front = []; last = x; parts = refl }
-snoc x (y ∷ ys) = let s : Snoc (y ∷ ys) = snoc y ys in record { front = x ∷ s .front; last = s .last; parts = ap (λ (k : List ℕ). x ∷ k) (s .parts) }
+snoc x (y ∷ ys) =
+    let s : Snoc (y ∷ ys) = snoc y ys in
+    record { front = x ∷ s .front; last = s .last; parts = ap (λ (k : List ℕ). x ∷ k) (s .parts) }
 
 -- ---- one body byte
 
@@ -116,9 +127,21 @@ module _ (limit : ℕ) (r : State) (room : length (r .body) ≡ limit + 2) where
       → advanceOf limit (r .scan) v ≡ bodyByteOf limit (r .scan) v → Due limit r v
   unfolding afterAll stuff
   due-alone v other p e =
-      record { pre = []; last = v; split = rw other; q = r; runs = refl; room = room; part = p; same = refl; starts = refl; step = e }
+      record {
+        pre = [];
+        last = v;
+        split = rw other;
+        q = r;
+        runs = refl;
+        room = room;
+        part = p;
+        same = refl;
+        starts = refl;
+        step = e;
+      }
 
-  due-in : (f : Phase) → r .scan .phase ≡ f → Between f → InvIn limit f (r .scan) b → (v : ℕ) → getD (b ++ v ∷ []) 0 0 ≢ 255 → Due limit r v
+  due-in : (f : Phase) → r .scan .phase ≡ f → Between f → InvIn limit f (r .scan) b → (v : ℕ)
+      → getD (b ++ v ∷ []) 0 0 ≢ 255 → Due limit r v
   unfolding afterAll stuff
   due-in Idle is n i v first = absurd n
   due-in Half is n i v first = absurd n
@@ -164,7 +187,8 @@ module _ (limit : ℕ) (r : State) (room : length (r .body) ≡ limit + 2) where
       → (nextOf limit r 255 .scan .phase ≡ Escape) × (nextOf limit r 255 .scan .start ≡ r .scan .start)
   wait-in Idle is n i some = absurd n
   wait-in Half is n i some = absurd n
-  wait-in Header is n i some = let none-yet : length b ≡ 0 = ap (λ (j : ℕ). length (take j (r .body))) (i .1) in absurd (omega arith)
+  wait-in Header is n i some =
+      let none-yet : length b ≡ 0 = ap (λ (j : ℕ). length (take j (r .body))) (i .1) in absurd (omega arith)
   wait-in Open is n i some = rw is (refl, refl)
   wait-in Escape is n i some = absurd n
 
@@ -179,12 +203,15 @@ pub record Ready (limit : ℕ) (r : State) (raw : List ℕ) (st : ℕ) (e : Verd
   pub event : advanceOf limit (afterAll limit r pre .scan) last .event ≡ Decided e
 
 pub line-path : {a a′ b b′ c c′ : ℕ} {d d′ : List ℕ} → a ≡ a′ → b ≡ b′ → c ≡ c′ → d ≡ d′
-    → _≡_ {A = Line} (record { number = a; start = b; end = c; body = d }) (record { number = a′; start = b′; end = c′; body = d′ })
+    → _≡_ {A = Line} (record { number = a; start = b; end = c; body = d })
+    (record { number = a′; start = b′; end = c′; body = d′ })
 line-path p q w v = λ j. record { number = p j; start = q j; end = w j; body = v j }
 
-ready-behind : {limit : ℕ} {r : State} {raw : List ℕ} {st : ℕ} {e : Verdict} (c : List ℕ) → Ready limit (afterAll limit r c) raw st e → Ready limit r (c ++ raw) st e
+ready-behind : {limit : ℕ} {r : State} {raw : List ℕ} {st : ℕ} {e : Verdict} (c : List ℕ)
+    → Ready limit (afterAll limit r c) raw st e → Ready limit r (c ++ raw) st e
 ready-behind {limit} {r} c w =
-    let there : afterAll limit r (c ++ w .pre) ≡ afterAll limit (afterAll limit r c) (w .pre) = after-append limit c (w .pre) r in
+    let there : afterAll limit r (c ++ w .pre) ≡ afterAll limit (afterAll limit r c) (w .pre) =
+    after-append limit c (w .pre) r in
     record {
       pre = c ++ w .pre;
       last = w .last;
@@ -195,24 +222,41 @@ ready-behind {limit} {r} c w =
 
 module _ (limit : ℕ) (small : limit ≤ 65279) where
   due : {st : ℕ} {b : List ℕ} {r : State} → At limit st b r → (v : ℕ) → getD (b ++ v ∷ []) 0 0 ≢ 255 → Due limit r v
-  due {st} {b} {r} a v first = due-in limit r (a .holds .room) (r .scan .phase) refl (a .between) (a .holds .phase) v (rw (a .held-is) first)
+  due {st} {b} {r} a v first =
+      due-in limit r (a .holds .room) (r .scan .phase) refl (a .between) (a .holds .phase) v (rw (a .held-is) first)
 
-  step-on : {st : ℕ} {b : List ℕ} {r : State} → At limit st b r → (v : ℕ) → Unfinished limit (b ++ v ∷ []) → At limit st (b ++ v ∷ []) (afterAll limit r (stuff (v ∷ [])))
+  step-on : {st : ℕ} {b : List ℕ} {r : State} → At limit st b r → (v : ℕ) → Unfinished limit (b ++ v ∷ [])
+      → At limit st (b ++ v ∷ []) (afterAll limit r (stuff (v ∷ [])))
   unfolding afterAll
   step-on {st} {b} {r} a v u =
       let d : Due limit r v = due a v (u .first) in
       let q : State = d .q in
       let b-is : held q ≡ b = d .same ∙ a .held-is in
-      let Goes : Step → Type 0 = λ (s : Step). Between (s .scan .phase) × (held (after q s) ≡ b ++ v ∷ []) × (s .scan .start ≡ st) in
+      let Goes : Step → Type 0 =
+      λ (s : Step). Between (s .scan .phase) × (held (after q s) ≡ b ++ v ∷ []) × (s .scan .start ≡ st) in
       let g : Goes (advanceOf limit (q .scan) (d .last)) =
       rw (d .step)
       (body-cases (q .scan) (d .part) v (rw b-is (u .first)) Goes
-      (λ k low p. (tt, stored (q .body) (q .scan .have) v (omega (arith, d .room)) ∙ ap (λ (j : List ℕ). j ++ v ∷ []) b-is, d .starts ∙ a .starts))
+      (λ k low p. (
+        tt,
+        stored (q .body) (q .scan .have) v (omega (
+          arith,
+          d .room,
+        )) ∙ ap (λ (j : List ℕ). j ++ v ∷ []) b-is,
+        d .starts ∙ a .starts,
+      ))
       (λ e p. absurd (never-both limit (b ++ v ∷ []) e (rw b-is at p) u))) in
-      let there : afterAll limit r (stuff (v ∷ [])) ≡ nextOf limit q (d .last) = rw (d .split, after-append limit (d .pre) (d .last ∷ []) r, d .runs) in
-      record { holds = kept limit small (stuff (v ∷ [])) r (a .holds) .holds; between = rw there (g .0); held-is = rw there (g .1); starts = rw there (g .2) }
+      let there : afterAll limit r (stuff (v ∷ [])) ≡ nextOf limit q (d .last) =
+      rw (d .split, after-append limit (d .pre) (d .last ∷ []) r, d .runs) in
+      record {
+        holds = kept limit small (stuff (v ∷ [])) r (a .holds) .holds;
+        between = rw there (g .0);
+        held-is = rw there (g .1);
+        starts = rw there (g .2);
+      }
 
-  step-end : {st : ℕ} {b : List ℕ} {r : State} → At limit st b r → (v : ℕ) (e : Verdict) → Ends limit (b ++ v ∷ []) e → Ready limit r (stuff (v ∷ [])) st e
+  step-end : {st : ℕ} {b : List ℕ} {r : State}
+      → At limit st b r → (v : ℕ) (e : Verdict) → Ends limit (b ++ v ∷ []) e → Ready limit r (stuff (v ∷ [])) st e
   step-end {st} {b} {r} a v e p =
       let first : getD (b ++ v ∷ []) 0 0 ≢ 255 = ends-first limit small (b ++ v ∷ []) e p in
       let d : Due limit r v = due a v first in
@@ -223,18 +267,27 @@ module _ (limit : ℕ) (small : limit ≤ 65279) where
       (body-cases (q .scan) (d .part) v (rw b-is first) (λ (s : Step). s .event ≡ Decided e)
       (λ k low w. absurd (never-both limit (b ++ v ∷ []) e p (rw b-is at (unfinished-of w (omega (arith, w .count))))))
       (λ e′ w. ap Decided (same-end limit (b ++ v ∷ []) e′ e (rw b-is at w) p))) in
-      record { pre = d .pre; last = d .last; parts = d .split; starts = rw (d .runs) (d .starts ∙ a .starts); event = rw (d .runs) says }
+      record {
+        pre = d .pre;
+        last = d .last;
+        parts = d .split;
+        starts = rw (d .runs) (d .starts ∙ a .starts);
+        event = rw (d .runs) says;
+      }
 
   -- a stuffed body that decides nothing
-  run : (c b : List ℕ) {st : ℕ} {r : State} → At limit st b r → Unfinished limit (b ++ c) → At limit st (b ++ c) (afterAll limit r (stuff c))
+  run : (c b : List ℕ) {st : ℕ} {r : State}
+      → At limit st b r → Unfinished limit (b ++ c) → At limit st (b ++ c) (afterAll limit r (stuff c))
   unfolding afterAll stuff
   run [] b a u = rw (append-nil b) a
   run (v ∷ c) b {st} {r} a u =
       let whole : (b ++ v ∷ []) ++ c ≡ b ++ v ∷ c = append-assoc b (v ∷ []) c in
       let some : 1 ≤ length (b ++ v ∷ []) = omega (arith, length-append b (v ∷ [])) in
       let all : Unfinished limit ((b ++ v ∷ []) ++ c) = rw whole u in
-      let next : At limit st (b ++ v ∷ []) (afterAll limit r (stuff (v ∷ []))) = step-on a v (front-unfinished limit (b ++ v ∷ []) c some all) in
-      rw (stuff-append (v ∷ []) c, after-append limit (stuff (v ∷ [])) (stuff c) r, ← whole) (run c (b ++ v ∷ []) next all)
+      let next : At limit st (b ++ v ∷ []) (afterAll limit r (stuff (v ∷ []))) =
+      step-on a v (front-unfinished limit (b ++ v ∷ []) c some all) in
+      rw (stuff-append (v ∷ []) c, after-append limit (stuff (v ∷ [])) (stuff c) r, ← whole)
+      (run c (b ++ v ∷ []) next all)
 
   module _ (r : State) (i : Inv limit r) where
     abbrev st : ℕ
@@ -248,12 +301,14 @@ module _ (limit : ℕ) (small : limit ≤ 65279) where
     pub read-body : (b : List ℕ) → Unfinished limit b → At limit st b (afterAll limit r (wire b))
     read-body b u = rw (after-append limit (255 ∷ 255 ∷ []) (stuff b) r) (run b [] read-header u)
 
-    pub read-ff : (b : List ℕ) → Unfinished limit b → (afterAll limit r (wire b ++ 255 ∷ []) .scan .phase ≡ Escape) × (afterAll limit r (wire b ++ 255 ∷ []) .scan .start ≡ st)
+    pub read-ff : (b : List ℕ) → Unfinished limit b → (afterAll limit r (wire b ++ 255 ∷ []) .scan .phase ≡ Escape)
+        × (afterAll limit r (wire b ++ 255 ∷ []) .scan .start ≡ st)
     unfolding afterAll
     read-ff b u =
         let q : State = afterAll limit r (wire b) in
         let a : At limit st b q = read-body b u in
-        let w = wait-in limit q (a .holds .room) (q .scan .phase) refl (a .between) (a .holds .phase) (rw (a .held-is) (u .some-byte)) in
+        let w = wait-in limit q (a .holds .room) (q .scan .phase) refl (a .between) (a .holds .phase)
+        (rw (a .held-is) (u .some-byte)) in
         rw (after-append limit (wire b) (255 ∷ []) r) (w .0, w .1 ∙ a .starts)
 
     -- SHORT, LONG, FRAME and SUM
@@ -275,18 +330,27 @@ module _ (limit : ℕ) (small : limit ≤ 65279) where
             let a : List ℕ = s .front in
             let v : ℕ = s .last in
             let ends : Ends limit (a ++ v ∷ []) e = rw (s .parts) at p in
-            let w : Ready limit (afterAll limit r (wire a)) (stuff (v ∷ [])) st e = step-end (read-body a (ends-front limit small a v e ends)) v e ends in
+            let w : Ready limit (afterAll limit r (wire a)) (stuff (v ∷ [])) st e =
+            step-end (read-body a (ends-front limit small a v e ends)) v e ends in
             rw (s .parts, stuff-append a (v ∷ [])) (ready-behind (wire a) w)
 
     -- CUT and STUFF: the byte x behind an FF that waits
-    ff-ready : (b : List ℕ) (x : ℕ) (e : Verdict) → Unfinished limit b → ((s : Scan) → s .phase ≡ Escape → advanceOf limit s x .event ≡ Decided e) → Ready limit r (wire b ++ 255 ∷ x ∷ []) st e
+    ff-ready : (b : List ℕ) (x : ℕ) (e : Verdict) → Unfinished limit b → ((s : Scan) → s .phase ≡ Escape
+        → advanceOf limit s x .event ≡ Decided e) → Ready limit r (wire b ++ 255 ∷ x ∷ []) st e
     ff-ready b x e u says =
         let w = read-ff b u in
-        record { pre = wire b ++ 255 ∷ []; last = x; parts = sym (append-assoc (wire b) (255 ∷ []) (x ∷ [])); starts = w .1; event = says (afterAll limit r (wire b ++ 255 ∷ []) .scan) (w .0) }
+        record {
+          pre = wire b ++ 255 ∷ [];
+          last = x;
+          parts = sym (append-assoc (wire b) (255 ∷ []) (x ∷ []));
+          starts = w .1;
+          event = says (afterAll limit r (wire b ++ 255 ∷ []) .scan) (w .0);
+        }
 
     -- the byte's line is among those that are said, with some body
     abbrev Told : List ℕ → ℕ → Type 0
-    Told raw n = (b : List ℕ) × List·Memᴰ (record { number = n; start = st; end = st + length raw; body = b }) (saidAll limit r raw)
+    Told raw n = (b : List ℕ)
+        × List·Memᴰ (record { number = n; start = st; end = st + length raw; body = b }) (saidAll limit r raw)
 
     says : {raw : List ℕ} {n : ℕ} (e : Verdict) → n ≡ codeOf e → Ready limit r raw st e → Told raw n
     unfolding saidAll afterAll
@@ -296,11 +360,18 @@ module _ (limit : ℕ) (small : limit ≤ 65279) where
         let yes : decidesOf (advanceOf limit (q .scan) (w .last) .event) ≡ true = ap decidesOf ev in
         let all : List ℕ = w .pre ++ w .last ∷ [] in
         let end : nextOf limit q (w .last) .scan .taken ≡ st + length all
-        = ap (λ (z : State). z .scan .taken) (sym (after-append limit (w .pre) (w .last ∷ []) r)) ∙ kept limit small all r i .place in
+        = ap (λ (z : State). z .scan .taken) (sym (after-append limit (w .pre) (w .last ∷ []) r))
+        ∙ kept limit small all r i .place in
         let b : List ℕ = lineAt limit q (w .last) .body in
-        let here : List·Memᴰ (record { number = n; start = st; end = st + length all; body = b }) (saidAll limit q (w .last ∷ []))
-        = rw yes (List·Memᴰ·head (line-path (code ∙ sym (ap eventCode ev)) (sym (w .starts)) (sym end) refl)) in
-        (b, (rw (w .parts, said-append limit (w .pre) (w .last ∷ []) r) (Memᴰ·append-right (saidAll limit r (w .pre)) here)))
+        let here : List·Memᴰ (record { number = n; start = st; end = st + length all; body = b })
+        (saidAll limit q (w .last ∷ []))
+        = rw yes (List·Memᴰ·head (line-path (code ∙ sym (ap eventCode ev)) (sym (w .starts)) (sym end) refl)) in (
+          b,
+          (rw (
+            w .parts,
+            said-append limit (w .pre) (w .last ∷ []) r,
+          ) (Memᴰ·append-right (saidAll limit r (w .pre)) here)),
+        )
 
     cut-at : (s : Scan) → s .phase ≡ Escape → advanceOf limit s 255 .event ≡ Decided Cut
     cut-at s e = rw e

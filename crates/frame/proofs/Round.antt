@@ -1,7 +1,9 @@
--- What the writer writes is read back: after any calls, the calls that take a wire form end in FRAME at its last byte. Assumes nothing.
+-- What the writer writes is read back: after any calls, the calls that take a wire form end in FRAME at its last byte.
+-- Assumes nothing.
 use Prim.Native.Nat.{ℕ, _+_, _-_, _≤_, _<_}
 use mathlib.Core.Path.{_≡_, refl, sym, ap, _∙_}
-use mathlib.Core.List.{List, [], _∷_, _++_, append-nil, List·Memᴰ, List·Memᴰ·head, List·Memᴰ·tail, head-eq-of-cons-eq, cons≢nil}
+use mathlib.Core.List.{List, [], _∷_, _++_, append-nil, List·Memᴰ, List·Memᴰ·head, List·Memᴰ·tail, head-eq-of-cons-eq}
+use mathlib.Core.List.{cons≢nil}
 use mathlib.Core.Bool.{Bool, true, false, cond}
 use mathlib.Core.Logic.{_≢_}
 use native.Mathlib.Nat.{add-zero}
@@ -10,12 +12,14 @@ use lib.ListN.{length, getD, take, drop, length-append, length-drop, take-append
 use lib.Seq.{take-at, getD-at, take-append-le, drop-append-le, length-take-le, getD-take}
 use lib.Dec.{eqb}
 use borrow.Author.Tests.{eqb-true}
-use Rattle.frame.specs.Wire.{stuff, wire, lengthOf, commandOf, numberOf, flagsOf, payloadOf, unsummed, bodyOf, Good}
+use Rattle.frame.specs.Wire.{stuff, wire, lengthOf, commandOf, numberOf, flagsOf, payloadOf, unsummed, bodyOf}
+use Rattle.frame.specs.Wire.{Good}
 use Rattle.base.specs.Sums.{checksum}
 use Rattle.frame.specs.Frames.{Found, frontBody, framesFrom}
 use Rattle.base.specs.Rows.{row}
 use Rattle.frame.specs.Calls.{freshOf}
-use Rattle.frame.specs.Logs.{Entry, takenIn, logOf, stateAfter, offered, stream, handedOut, decided, Account, Accounts}
+use Rattle.frame.specs.Logs.{Entry, takenIn, logOf, stateAfter, offered, stream, handedOut, decided, Account}
+use Rattle.frame.specs.Logs.{Accounts}
 use Rattle.frame.specs.Claims.{MadeGood, ReadBack, RoundTrip, ReadAnywhere}
 use Rattle.frame.specs.State.{State}
 use Rattle.frame.proofs.Skip.{good-first, take-wire}
@@ -44,7 +48,8 @@ module _ (command number flags : ℕ) (payload : List ℕ) where
         true-length = omega (arith, length-append u (checksum u ∷ []));
         least = omega arith;
         most = omega arith;
-        sum-holds = getD-at u (checksum u) [] 0 (lengthOf made + 1) n ∙ ap checksum (sym (take-at u (checksum u ∷ []) (lengthOf made + 1) n));
+        sum-holds = getD-at u (checksum u) [] 0 (lengthOf made + 1) n
+            ∙ ap checksum (sym (take-at u (checksum u ∷ []) (lengthOf made + 1) n));
       }
 
   command-made : commandOf made ≡ command
@@ -96,7 +101,8 @@ module _ (u b : List ℕ) (e : frontBody u ≡ b) where
 -- ---- the call that hands out the one frame of a log
 
 abbrev foundIn : Entry → Found
-foundIn e = record { start = getD (e .row .values) 1 0; end = getD (e .row .values) 2 0; body = frontBody (e .after .body) }
+foundIn e =
+    record { start = getD (e .row .values) 1 0; end = getD (e .row .values) 2 0; body = frontBody (e .after .body) }
 
 record Single (log : List Entry) (f : Found) : Type 0 where
   early : List Entry
@@ -111,11 +117,27 @@ unfolding handedOut
 single [] f e = absurd (cons≢nil (sym e))
 single (a ∷ l) f e = go (eqb (a .row .number) 1) refl e (λ k. single l f k)
   where
-    go : (t : Bool) → eqb (a .row .number) 1 ≡ t → cond t (foundIn a ∷ handedOut l) (handedOut l) ≡ f ∷ [] → (handedOut l ≡ f ∷ [] → Single l f) → Single (a ∷ l) f
-    go true q e ih = record { early = []; last = a; late = l; parts = refl; number = eqb-true (a .row .number) 1 q; found = head-eq-of-cons-eq e }
+    go : (t : Bool) → eqb (a .row .number) 1 ≡ t → cond t (foundIn a ∷ handedOut l) (handedOut l) ≡ f ∷ []
+        → (handedOut l ≡ f ∷ [] → Single l f) → Single (a ∷ l) f
+    go true q e ih =
+        record {
+          early = [];
+          last = a;
+          late = l;
+          parts = refl;
+          number = eqb-true (a .row .number) 1 q;
+          found = head-eq-of-cons-eq e;
+        }
     go false q e ih =
         let s : Single l f = ih e in
-        record { early = a ∷ s .early; last = s .last; late = s .late; parts = ap (λ (k : List Entry). a ∷ k) (s .parts); number = s .number; found = s .found }
+        record {
+          early = a ∷ s .early;
+          last = s .last;
+          late = s .late;
+          parts = ap (λ (k : List Entry). a ∷ k) (s .parts);
+          number = s .number;
+          found = s .found;
+        }
 
 -- what a log's parts owe to the counts
 record Split (n : ℕ) (early : List Entry) (last : Entry) (late : List Entry) : Type 0 where
@@ -123,17 +145,24 @@ record Split (n : ℕ) (early : List Entry) (last : Entry) (late : List Entry) :
   size : length (stream (early ++ last ∷ late)) ≡ length (stream early) + (takenIn last + length (stream late))
   member : List·Memᴰ last (early ++ last ∷ late)
 
-split : (early : List Entry) (last : Entry) (late : List Entry) (n : ℕ) → Accounts n (early ++ last ∷ late) → Split n early last late
+split : (early : List Entry) (last : Entry) (late : List Entry) (n : ℕ)
+    → Accounts n (early ++ last ∷ late) → Split n early last late
 unfolding Accounts stream
 split [] last late n a =
-    let taken : length (take (takenIn last) (offered (last .call))) ≡ takenIn last = length-take-le (takenIn last) (offered (last .call)) (a .0 .within) in
-    record { account = rw add-zero (a .0); size = omega (arith, length-append (take (takenIn last) (offered (last .call))) (stream late)); member = List·Memᴰ·head refl }
+    let taken : length (take (takenIn last) (offered (last .call))) ≡ takenIn last =
+    length-take-le (takenIn last) (offered (last .call)) (a .0 .within) in
+    record {
+      account = rw add-zero (a .0);
+      size = omega (arith, length-append (take (takenIn last) (offered (last .call))) (stream late));
+      member = List·Memᴰ·head refl;
+    }
 split (e ∷ early) last late n a =
     let s : Split (n + takenIn e) early last late = split early last late (n + takenIn e) (a .1) in
     let c : ℕ = takenIn e in
     let f : List ℕ = take c (offered (e .call)) in
     let taken : length f ≡ c = length-take-le c (offered (e .call)) (a .0 .within) in
-    let all : length (f ++ stream early) ≡ c + length (stream early) = length-append f (stream early) ∙ ap (λ (k : ℕ). k + length (stream early)) taken in
+    let all : length (f ++ stream early) ≡ c + length (stream early) =
+    length-append f (stream early) ∙ ap (λ (k : ℕ). k + length (stream early)) taken in
     let place : n + c + length (stream early) ≡ n + length (f ++ stream early) = omega arith in
     record {
       account = rw place at (s .account);
@@ -146,14 +175,16 @@ member-of q m = rw q m
 
 -- ---- the round trip
 
-module _ (limit : ℕ) (small : limit ≤ 65279) (command number flags : ℕ) (payload : List ℕ) (fits : length payload + 5 ≤ limit) where
+module _ (limit : ℕ) (small : limit ≤ 65279) (command number flags : ℕ) (payload : List ℕ)
+    (fits : length payload + 5 ≤ limit) where
   abbrev body : List ℕ
   body = bodyOf command number flags payload
 
   abbrev whole : ℕ → Found
   whole n = record { start = n; end = n + length (wire body); body = body }
 
-  one-frame : (r : State) → Inv limit r → framesFrom limit (origin r) (pending r ++ wire body) ≡ whole (r .scan .taken) ∷ []
+  one-frame : (r : State)
+      → Inv limit r → framesFrom limit (origin r) (pending r ++ wire body) ≡ whole (r .scan .taken) ∷ []
   unfolding framesFrom
   one-frame r i =
       let g : Good limit body = good-made command number flags payload limit fits in
@@ -161,17 +192,22 @@ module _ (limit : ℕ) (small : limit ≤ 65279) (command number flags : ℕ) (p
       settles limit small r i (stuff body) ∙ ap (λ (l : List ℕ). framesFrom limit n l) (sym (append-nil (wire body)))
       ∙ take-wire limit body [] n (omega (arith, g .true-length)) (good-first limit body small g) g
 
-  read-back : (r : State) (log : List Entry) (n : ℕ) → r .scan .taken ≡ n → Inv limit r → Logged limit r log → stream log ≡ wire body → ReadBack n command number flags payload log
+  read-back : (r : State) (log : List Entry) (n : ℕ) → r .scan .taken ≡ n → Inv limit r → Logged limit r log
+      → stream log ≡ wire body → ReadBack n command number flags payload log
   read-back r log n at-n i ok all =
       let g : Good limit body = good-made command number flags payload limit fits in
-      let s : Single log (whole (r .scan .taken)) = single log (whole (r .scan .taken)) (ok .frames ∙ ap (λ (l : List ℕ). framesFrom limit (origin r) (pending r ++ l)) all ∙ one-frame r i) in
+      let s : Single log (whole (r .scan .taken)) = single log (whole (r .scan .taken))
+      (ok .frames ∙ ap (λ (l : List ℕ). framesFrom limit (origin r) (pending r ++ l)) all ∙ one-frame r i) in
       let e : Entry = s .last in
-      let w : Split (r .scan .taken) (s .early) e (s .late) = split (s .early) e (s .late) (r .scan .taken) (rw (s .parts) at (ok .accounts)) in
+      let w : Split (r .scan .taken) (s .early) e (s .late) =
+      split (s .early) e (s .late) (r .scan .taken) (rw (s .parts) at (ok .accounts)) in
       let start : getD (e .row .values) 1 0 ≡ r .scan .taken = ap (λ (f : Found). f .start) (s .found) in
-      let end : getD (e .row .values) 2 0 ≡ r .scan .taken + length (wire body) = ap (λ (f : Found). f .end) (s .found) in
+      let end : getD (e .row .values) 2 0 ≡ r .scan .taken + length (wire body) =
+      ap (λ (f : Found). f .end) (s .found) in
       let held : frontBody (e .after .body) ≡ body = ap (λ (f : Found). f .body) (s .found) in
       let is-decided : decided (e .row .number) ≡ true = rw (s .number) in
-      let size : length (wire body) ≡ length (stream (s .early)) + (takenIn e + length (stream (s .late))) = sym (ap length all) ∙ ap (λ (l : List Entry). length (stream l)) (s .parts) ∙ w .size in
+      let size : length (wire body) ≡ length (stream (s .early)) + (takenIn e + length (stream (s .late))) =
+      sym (ap length all) ∙ ap (λ (l : List Entry). length (stream l)) (s .parts) ∙ w .size in
       let five : lengthOf body ≡ length payload + 5 = length-made command number flags payload in
       let same : lengthOf (e .after .body) ≡ lengthOf body = same-length (e .after .body) body held in
       record {
@@ -181,12 +217,19 @@ module _ (limit : ℕ) (small : limit ≤ 65279) (command number flags : ℕ) (p
         parts = s .parts;
         nothing-later = no-bytes (stream (s .late)) (omega (arith, w .account .ends is-decided));
         some-taken = w .account .some is-decided;
-        frame = ok .shapes e (member-of (s .parts) (w .member)) (s .number) ∙ frame-row (start ∙ at-n) (end ∙ ap (λ (k : ℕ). k + length (wire body)) at-n);
+        frame = ok .shapes e (member-of (s .parts) (w .member)) (s .number)
+            ∙ frame-row (start ∙ at-n) (end ∙ ap (λ (k : ℕ). k + length (wire body)) at-n);
         body = held;
         command-is = at (e .after .body) body held 2 (omega arith) ∙ command-made command number flags payload;
         number-is = at (e .after .body) body held 3 (omega arith) ∙ number-made command number flags payload;
-        flags-are = omega (arith, at (e .after .body) body held 4 (omega arith), at (e .after .body) body held 5 (omega arith), flags-made command number flags payload);
-        payload-is = same-payload (e .after .body) body held (g .true-length) (omega arith) ∙ payload-made command number flags payload;
+        flags-are = omega (
+          arith,
+          at (e .after .body) body held 4 (omega arith),
+          at (e .after .body) body held 5 (omega arith),
+          flags-made command number flags payload,
+        );
+        payload-is = same-payload (e .after .body) body held (g .true-length) (omega arith)
+            ∙ payload-made command number flags payload;
       }
     where
       frame-row : {c a a′ b b′ : ℕ} → a ≡ a′ → b ≡ b′ → row 1 (c ∷ a ∷ b ∷ []) ≡ row 1 (c ∷ a′ ∷ b′ ∷ [])
@@ -196,9 +239,18 @@ pub round-trip : RoundTrip
 round-trip limit small command number flags payload fits earlier later all =
     let r = reached limit small earlier (freshOf limit) (fresh-holds limit) (omega arith) in
     let q : State = stateAfter limit (freshOf limit) earlier in
-    read-back limit small command number flags payload fits q (logOf limit q later) (length (stream (logOf limit (freshOf limit) earlier))) (omega (arith, r .place)) (r .holds) (logged limit small later q (r .holds) (r .most)) all
+    read-back limit small command number flags payload fits q (logOf limit q later)
+    (length (stream (logOf limit (freshOf limit) earlier))) (omega (arith, r .place)) (r .holds)
+    (logged limit small later q (r .holds) (r .most)) all
 
 pub read-anywhere : ReadAnywhere
 read-anywhere limit small command number flags payload fits calls before after e =
     demand-3 limit small calls .lists .complete _
-    (record { before = before; after = after; bytes = e; starts = refl; ends = refl; good = good-made command number flags payload limit fits })
+    (record {
+      before = before;
+      after = after;
+      bytes = e;
+      starts = refl;
+      ends = refl;
+      good = good-made command number flags payload limit fits;
+    })

@@ -1,4 +1,5 @@
--- An answer can be read back from its line of the table, and a reader from its state, so no two have the same. Assumes nothing.
+-- An answer can be read back from its line of the table, and a reader from its state,
+-- so no two have the same. Assumes nothing.
 use Prim.Native.Nat.{ℕ}
 use mathlib.Core.Path.{_≡_, refl}
 use Rattle.base.specs.Rows.{Row}
@@ -43,7 +44,9 @@ answer-back answer.State = refl
 answer-back answer.Used = refl
 
 abbrev endingFrom : Row → Ending
-endingFrom r = under r 2 (ending.Clean (wirePlace (value r 0))) (under r 16 (ending.Open (wirePlace (value r 0)) (wirePlace (value r 1))) ending.State)
+endingFrom r =
+    under r 2 (ending.Clean (wirePlace (value r 0)))
+    (under r 16 (ending.Open (wirePlace (value r 0)) (wirePlace (value r 1))) ending.State)
 
 ending-back : (a : Ending) → endingFrom (endRowOf a) ≡ a
 ending-back (ending.Clean t) = refl

@@ -6,7 +6,8 @@ use native.Mathlib.Omega.{arith}
 use lib.ListN.{length, take, drop, take-append-drop, length-append, length-drop}
 use Rattle.frame.specs.Table.{countOf}
 use Rattle.frame.specs.Calls.{Reply, freshOf, feedOf}
-use Rattle.frame.specs.Logs.{Call, give, callOf, Entry, entryOf, takenIn, logOf, stateAfter, offered, stream, offer, send, joined}
+use Rattle.frame.specs.Logs.{Call, give, callOf, Entry, entryOf, takenIn, logOf, stateAfter, offered, stream}
+use Rattle.frame.specs.Logs.{offer, send, joined}
 use Rattle.frame.specs.Claims.{SentWhole}
 use Rattle.frame.specs.State.{State}
 use Rattle.frame.proofs.Counts.{within, progress}
@@ -22,10 +23,12 @@ stream-append (e ∷ a) b =
     let f : List ℕ = take (takenIn e) (offered (e .call)) in
     ap (λ (l : List ℕ). f ++ l) (stream-append a b) ∙ sym (append-assoc f (stream a) (stream b))
 
-log-append : (limit : ℕ) (a b : List Call) (r : State) → logOf limit r (a ++ b) ≡ logOf limit r a ++ logOf limit (stateAfter limit r a) b
+log-append : (limit : ℕ) (a b : List Call) (r : State)
+    → logOf limit r (a ++ b) ≡ logOf limit r a ++ logOf limit (stateAfter limit r a) b
 unfolding logOf stateAfter
 log-append limit [] b r = refl
-log-append limit (c ∷ a) b r = ap (λ (l : List Entry). entryOf r c (callOf limit r c) ∷ l) (log-append limit a b (callOf limit r c .state))
+log-append limit (c ∷ a) b r =
+    ap (λ (l : List Entry). entryOf r c (callOf limit r c) ∷ l) (log-append limit a b (callOf limit r c .state))
 
 -- what is left where a byte was taken, if there was one
 fewer : (n c : ℕ) (bs : List ℕ) → (1 ≤ length bs → 1 ≤ c) → length bs ≤ suc n → length (drop c bs) ≤ n
@@ -42,23 +45,29 @@ module _ (limit : ℕ) (small : limit ≤ 65279) where
       let y : Reply = feedOf limit r bs in
       let c : ℕ = countOf (y .row) in
       let ok : Called limit r (give bs) y = called limit small r i most (give bs) in
-      let left : length (drop c bs) ≤ n = fewer n c bs (λ h. progress limit r bs (in-range limit small r i most) room h) few in
-      let fits : y .state .scan .taken + length (drop c bs) ≤ 2 ^ 62 = omega (arith, ok .place, length-drop c bs, within limit r bs) in
-      ap (λ (l : List ℕ). take c bs ++ l) (offered-whole n (drop c bs) (y .state) (ok .holds) fits left) ∙ take-append-drop c bs
+      let left : length (drop c bs) ≤ n =
+      fewer n c bs (λ h. progress limit r bs (in-range limit small r i most) room h) few in
+      let fits : y .state .scan .taken + length (drop c bs) ≤ 2 ^ 62 =
+      omega (arith, ok .place, length-drop c bs, within limit r bs) in
+      ap (λ (l : List ℕ). take c bs ++ l) (offered-whole n (drop c bs) (y .state) (ok .holds) fits left)
+      ∙ take-append-drop c bs
 
-  sent-pieces : (ps : List (List ℕ)) (r : State) → Inv limit r → r .scan .taken + length (joined ps) ≤ 2 ^ 62 → stream (logOf limit r (send limit r ps)) ≡ joined ps
+  sent-pieces : (ps : List (List ℕ)) (r : State) → Inv limit r → r .scan .taken + length (joined ps) ≤ 2 ^ 62
+      → stream (logOf limit r (send limit r ps)) ≡ joined ps
   unfolding logOf stream send joined
   sent-pieces [] r i room = refl
   sent-pieces (p ∷ ps) r i room =
       let all : length (p ++ joined ps) ≡ length p + length (joined ps) = length-append p (joined ps) in
       let cs : List Call = offer limit (length p) r p in
       let whole : stream (logOf limit r cs) ≡ p = offered-whole (length p) p r i (omega arith) (omega arith) in
-      let q : Reached limit small r (stateAfter limit r cs) (logOf limit r cs) = reached limit small cs r i (omega arith) in
+      let q : Reached limit small r (stateAfter limit r cs) (logOf limit r cs) =
+      reached limit small cs r i (omega arith) in
       let rest : stream (logOf limit (stateAfter limit r cs) (send limit (stateAfter limit r cs) ps)) ≡ joined ps
       = sent-pieces ps (stateAfter limit r cs) (q .holds) (omega (arith, q .place, ap length whole)) in
       let late : List Entry = logOf limit (stateAfter limit r cs) (send limit (stateAfter limit r cs) ps) in
       ap (λ (l : List Entry). stream l) (log-append limit cs (send limit (stateAfter limit r cs) ps) r)
-      ∙ stream-append (logOf limit r cs) late ∙ ap (λ (l : List ℕ). l ++ stream late) whole ∙ ap (λ (l : List ℕ). p ++ l) rest
+      ∙ stream-append (logOf limit r cs) late ∙ ap (λ (l : List ℕ). l ++ stream late) whole
+      ∙ ap (λ (l : List ℕ). p ++ l) rest
 
 pub sent-whole : SentWhole
 sent-whole limit small earlier pieces room =

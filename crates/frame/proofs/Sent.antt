@@ -1,4 +1,5 @@
--- Where untaken bytes always come again first, the stream is the front of what was sent, and the whole once all is taken. Assumes nothing.
+-- Where untaken bytes always come again first, the stream is the front of what was sent,
+-- and the whole once all is taken. Assumes nothing.
 use Prim.Native.Nat.{ℕ, _+_}
 use mathlib.Core.Path.{_≡_, refl, sym, ap, _∙_}
 use mathlib.Core.List.{List, [], _∷_, _++_, append-assoc, append-nil}
@@ -11,7 +12,8 @@ use Rattle.frame.specs.Claims.{Front, SentAgain}
 use Rattle.base.proofs.Lists.{no-bytes}
 use Rattle.frame.proofs.Demand3.{from-fresh}
 
-front : (n : ℕ) (log : List Entry) (sent : List ℕ) → Accounts n log → OffersFront sent log → (rest : List ℕ) × (sent ≡ stream log ++ rest)
+front : (n : ℕ) (log : List Entry) (sent : List ℕ)
+    → Accounts n log → OffersFront sent log → (rest : List ℕ) × (sent ≡ stream log ++ rest)
 unfolding OffersFront Accounts stream
 front n [] sent a f = (sent, refl)
 front n (e ∷ es) sent a f =
@@ -20,7 +22,8 @@ front n (e ∷ es) sent a f =
     let t : take c sent ≡ take c (offered (e .call)) =
     ap (λ (l : List ℕ). take c l) (f .0 .1) ∙ take-append-le c (offered (e .call)) (f .0 .0) (a .0 .within) in (
       ih .0,
-      sym (take-append-drop c sent) ∙ ap (λ (l : List ℕ). l ++ drop c sent) t ∙ ap (λ (l : List ℕ). take c (offered (e .call)) ++ l) (ih .1)
+      sym (take-append-drop c sent) ∙ ap (λ (l : List ℕ). l ++ drop c sent) t
+          ∙ ap (λ (l : List ℕ). take c (offered (e .call)) ++ l) (ih .1)
           ∙ sym (append-assoc (take c (offered (e .call))) (stream es) (ih .0)),
     )
 
@@ -31,8 +34,10 @@ fronted n log sent a f =
     record {
       rest = r .0;
       front = r .1;
-      whole = λ l. sym (r .1 ∙ ap (λ (t : List ℕ). stream log ++ t) (no-bytes (r .0) (omega arith)) ∙ append-nil (stream log));
+      whole = λ l. sym (r .1 ∙ ap (λ (t : List ℕ). stream log ++ t) (no-bytes (r .0) (omega arith))
+          ∙ append-nil (stream log));
     }
 
 pub sent-again : SentAgain
-sent-again limit small calls sent f = fronted 0 (logOf limit (freshOf limit) calls) sent (from-fresh limit small calls .accounts) f
+sent-again limit small calls sent f =
+    fronted 0 (logOf limit (freshOf limit) calls) sent (from-fresh limit small calls .accounts) f

@@ -10,7 +10,8 @@ use lib.ListN.{length, drop, getD}
 use lib.Seq.{drop-cons, drop-length}
 use lib.Dec.{ltb, leb, eqb}
 use Rattle.base.specs.Rows.{row}
-use Rattle.frame.specs.Rules.{Ready, inRangeOf, completedOf, bodyByteOf, onFFIn, onOtherIn, advanceOf, decidesOf, putOf}
+use Rattle.frame.specs.Rules.{Ready, inRangeOf, completedOf, bodyByteOf, onFFIn, onOtherIn, advanceOf, decidesOf}
+use Rattle.frame.specs.Rules.{putOf}
 use Rattle.frame.specs.Table.{eventRow}
 use Rattle.frame.specs.Calls.{reply, runOf}
 use Rattle.frame.specs.State.{Phase, Idle, Half, Header, Open, Escape, Scan, Step, State}
@@ -31,7 +32,8 @@ module _ {limit : ℕ} {s : Scan} (n : ℕ) (h : Ready limit s (n + 1)) where
       by-test Kept (eqb (s .have) 0) (λ none. omega (arith, eqb-true))
       λ _. by-test Kept (eqb (s .have) 1)
       (λ one. by-test Kept (ltb (s .length * 256 + v) 5) (λ _. omega arith)
-      λ least. by-test Kept (ltb limit (s .length * 256 + v)) (λ _. omega arith) λ most. omega (arith, eqb-true, ltb-false))
+      λ least. by-test Kept (ltb limit (s .length * 256 + v)) (λ _. omega arith)
+      λ most. omega (arith, eqb-true, ltb-false))
       λ _. by-test Kept (ltb (s .length) (s .have)) (λ _. kept-completed v)
       λ _. by-test Kept (ltb limit (s .have)) (λ _. kept-completed v) λ within. omega (arith, ltb-false)
 
@@ -55,7 +57,8 @@ module _ {limit : ℕ} {s : Scan} (n : ℕ) (h : Ready limit s (n + 1)) where
 
 -- ---- a run of bytes
 
--- a call that began with the reader r₀ has taken i bytes, which decided nothing, and has the reader r and room for the rest
+-- a call that began with the reader r₀ has taken i bytes, which decided nothing,
+-- and has the reader r and room for the rest
 pub record At (limit : ℕ) (bytes : List ℕ) (r₀ : State) (i : ℕ) (r : State) : Type 0 where
   pub within : i ≤ length bytes
   pub room : Ready limit (r .scan) (length bytes - i)
@@ -70,7 +73,8 @@ module _ {limit : ℕ} {bytes : List ℕ} {r₀ r : State} {i : ℕ} (at : At li
   unfolding runOf
   run-end e = at .same ∙ rw (e, drop-length)
 
-  module _ (h : i < length bytes) {step : Step} {body : List ℕ} (e : step ≡ advanceOf limit (r .scan) (getD bytes i 0)) (f : body ≡ putOf (step .put) (r .body) (r .scan .have) (step .byte)) where
+  module _ (h : i < length bytes) {step : Step} {body : List ℕ} (e : step ≡ advanceOf limit (r .scan) (getD bytes i 0))
+      (f : body ≡ putOf (step .put) (r .body) (r .scan .have) (step .byte)) where
     abbrev after : State
     after = record { scan = step .scan; body = body }
 
@@ -79,10 +83,15 @@ module _ {limit : ℕ} {bytes : List ℕ} {r₀ r : State} {i : ℕ} (at : At li
     unfolding runOf
     run-on q =
         let room : Ready limit (r .scan) (length bytes - (i + 1) + 1) = omega (arith, at .room) in
-        record { within = omega arith; room = rw e (kept _ room (getD bytes i 0)); same = at .same ∙ rw (next-byte bytes i h) (simp (← e, q, f)) }
+        record {
+          within = omega arith;
+          room = rw e (kept _ room (getD bytes i 0));
+          same = at .same ∙ rw (next-byte bytes i h) (simp (← e, q, f));
+        }
 
     -- the next byte decides: the run stops behind it
-    pub run-stop : decidesOf (step .event) ≡ true → runOf limit bytes 0 r₀ ≡ reply (eventRow (step .event) (i + 1) (r .scan .start) (step .scan .taken)) after
+    pub run-stop : decidesOf (step .event) ≡ true
+        → runOf limit bytes 0 r₀ ≡ reply (eventRow (step .event) (i + 1) (r .scan .start) (step .scan .taken)) after
     unfolding runOf
     run-stop q = at .same ∙ rw (next-byte bytes i h) (simp (← e, q, f))
 

@@ -16,7 +16,8 @@ unfolding stuff
 stuff-append [] b = refl
 stuff-append (x ∷ xs) b = go (eqb x 255) (stuff-append xs b)
   where
-    go : (t : Bool) → stuff (xs ++ b) ≡ stuff xs ++ stuff b → x ∷ behind t (stuff (xs ++ b)) ≡ x ∷ behind t (stuff xs) ++ stuff b
+    go : (t : Bool) → stuff (xs ++ b) ≡ stuff xs ++ stuff b
+        → x ∷ behind t (stuff (xs ++ b)) ≡ x ∷ behind t (stuff xs) ++ stuff b
     go true h = rw h
     go false h = rw h
 
@@ -25,7 +26,8 @@ unfolding stuff unstuff
 unstuff-stuff [] r = refl
 unstuff-stuff (x ∷ xs) r = go (eqb x 255) (unstuff-stuff xs r)
   where
-    go : (t : Bool) → unstuff false (stuff xs ++ r) ≡ xs ++ unstuff false r → x ∷ unstuff t (behind t (stuff xs) ++ r) ≡ x ∷ (xs ++ unstuff false r)
+    go : (t : Bool) → unstuff false (stuff xs ++ r) ≡ xs ++ unstuff false r
+        → x ∷ unstuff t (behind t (stuff xs) ++ r) ≡ x ∷ (xs ++ unstuff false r)
     go true h = rw h
     go false h = rw h
 
@@ -37,11 +39,13 @@ pub record Longer (a b rest z : List ℕ) : Type 0 where
   pub left : stuff (first ∷ more) ++ rest ≡ z
 
 -- two stuffed bodies at the front of one wire: one is a front of the other
-pub compare-bodies : (b a rest z : List ℕ) → stuff b ++ rest ≡ stuff a ++ z → ((c : List ℕ) × (a ≡ b ++ c)) ⊎ Longer a b rest z
+pub compare-bodies : (b a rest z : List ℕ)
+    → stuff b ++ rest ≡ stuff a ++ z → ((c : List ℕ) × (a ≡ b ++ c)) ⊎ Longer a b rest z
 unfolding stuff
 compare-bodies [] a rest z e = inl (a, refl)
 compare-bodies (y ∷ ys) [] rest z e = inr (record { first = y; more = ys; whole = refl; left = e })
-compare-bodies (y ∷ ys) (x ∷ xs) rest z e = go (λ h. compare-bodies ys xs rest z h) (eqb x 255) (rw (head-eq-of-cons-eq e) at (tail-eq-of-cons-eq e))
+compare-bodies (y ∷ ys) (x ∷ xs) rest z e =
+    go (λ h. compare-bodies ys xs rest z h) (eqb x 255) (rw (head-eq-of-cons-eq e) at (tail-eq-of-cons-eq e))
   where
     same : y ≡ x
     same = head-eq-of-cons-eq e
@@ -49,11 +53,13 @@ compare-bodies (y ∷ ys) (x ∷ xs) rest z e = go (λ h. compare-bodies ys xs r
     Out : Type 0
     Out = ((c : List ℕ) × (x ∷ xs ≡ (y ∷ ys) ++ c)) ⊎ Longer (x ∷ xs) (y ∷ ys) rest z
 
-    finish : ((c : List ℕ) × (xs ≡ ys ++ c)) ⊎ Longer xs ys rest z → ((c : List ℕ) × (x ∷ xs ≡ (y ∷ ys) ++ c)) ⊎ Longer (x ∷ xs) (y ∷ ys) rest z
+    finish : ((c : List ℕ) × (xs ≡ ys ++ c)) ⊎ Longer xs ys rest z → ((c : List ℕ) × (x ∷ xs ≡ (y ∷ ys) ++ c))
+        ⊎ Longer (x ∷ xs) (y ∷ ys) rest z
     finish (inl r) = inl (r .0, (cc (same, r .1)))
     finish (inr r) = inr (record { first = r .first; more = r .more; whole = cc (same, r .whole); left = r .left })
 
-    go : (stuff ys ++ rest ≡ stuff xs ++ z → ((c : List ℕ) × (xs ≡ ys ++ c)) ⊎ Longer xs ys rest z) → (t : Bool) → behind t (stuff ys) ++ rest ≡ behind t (stuff xs) ++ z → Out
+    go : (stuff ys ++ rest ≡ stuff xs ++ z → ((c : List ℕ) × (xs ≡ ys ++ c)) ⊎ Longer xs ys rest z)
+        → (t : Bool) → behind t (stuff ys) ++ rest ≡ behind t (stuff xs) ++ z → Out
     go k true h = finish (k (tail-eq-of-cons-eq h))
     go k false h = finish (k h)
 
@@ -65,7 +71,8 @@ escaped [] (y ∷ ys) r e = absurd (cons≢nil (sym e))
 escaped (x ∷ xs) [] r e = (stuff xs, sym (tail-eq-of-cons-eq (rw (head-eq-of-cons-eq e) at e)))
 escaped (x ∷ xs) (y ∷ ys) r e = go (eqb x 255) ys (tail-eq-of-cons-eq e) (λ zs f. escaped xs zs r f)
   where
-    go : (t : Bool) (ys : List ℕ) → behind t (stuff xs) ≡ ys ++ 255 ∷ r → ((zs : List ℕ) → stuff xs ≡ zs ++ 255 ∷ r → (r′ : List ℕ) × (r ≡ 85 ∷ r′)) → (r′ : List ℕ) × (r ≡ 85 ∷ r′)
+    go : (t : Bool) (ys : List ℕ) → behind t (stuff xs) ≡ ys ++ 255 ∷ r
+        → ((zs : List ℕ) → stuff xs ≡ zs ++ 255 ∷ r → (r′ : List ℕ) × (r ≡ 85 ∷ r′)) → (r′ : List ℕ) × (r ≡ 85 ∷ r′)
     go true [] f k = let z : _≡_ {A = ℕ} 85 255 = head-eq-of-cons-eq f in absurd (omega arith)
     go true (z ∷ zs) f k = k zs (tail-eq-of-cons-eq f)
     go false ys f k = k ys f

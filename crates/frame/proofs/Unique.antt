@@ -15,7 +15,10 @@ startOf f = f .start
 -- frames that lie apart rise
 apart-rises : (m : ℕ) (l : List Found) → AllFrom m l → Apart l → RisingFrom startOf m l
 apart-rises m [] a b = tt
-apart-rises m (f ∷ l) a b = (a .0, rising-earlier startOf (f .start + 1) (f .end) l (omega (arith, b .0)) (apart-rises (f .end) l (b .1) (b .2)))
+apart-rises m (f ∷ l) a b = (
+  a .0,
+  rising-earlier startOf (f .start + 1) (f .end) l (omega (arith, b .0)) (apart-rises (f .end) l (b .1) (b .2)),
+)
 
 all-from-0 : (l : List Found) → AllFrom 0 l
 all-from-0 [] = tt
@@ -27,4 +30,5 @@ lists-unique limit t l k a b =
     (λ f m. b .complete f (a .sound f m)) (λ f m. a .complete f (b .sound f m))
 
 pub one-list : OneList
-one-list limit small t = (framesOf-lists limit small t, (λ l a. lists-unique limit t l (framesOf limit t) a (framesOf-lists limit small t)))
+one-list limit small t =
+    (framesOf-lists limit small t, (λ l a. lists-unique limit t l (framesOf limit t) a (framesOf-lists limit small t)))

@@ -39,21 +39,25 @@ module _ (b : List ℕ) (i : ℕ) (h : length b ≤ i) where
 -- ---- bytes put, stuffed
 
 -- what is put, and more behind it, is their join put
-pub put-append : (out xs ys : List ℕ) (at : ℕ) {a b : List ℕ} {p q : ℕ} → PutAt out at (stuff xs) p a → PutAt a p (stuff ys) q b
+pub put-append : (out xs ys : List ℕ) (at : ℕ) {a b : List ℕ} {p q : ℕ}
+    → PutAt out at (stuff xs) p a → PutAt a p (stuff ys) q b
     → PutAt out at (stuff (xs ++ ys)) q b
 put-append out xs ys at e f = rw stuff-append (put-join out (stuff xs) (stuff ys) at e f)
 
 -- a header is put by two stores, and a body behind it
-pub put-framed : (out body : List ℕ) {b : List ℕ} {q : ℕ} → PutAt (set (set out 0 255) 1 255) 2 (stuff body) q b → PutAt out 0 (wire body) q b
+pub put-framed : (out body : List ℕ) {b : List ℕ} {q : ℕ}
+    → PutAt (set (set out 0 255) 1 255) 2 (stuff body) q b → PutAt out 0 (wire body) q b
 put-framed out body e = (omega arith, e .1)
 
 -- ---- lengths: of a payload's three parts, and of a frame from its parts
 
-pub parts-length : (first second third : List ℕ) → length (joinedParts first second third) ≡ length first + (length second + length third)
+pub parts-length : (first second third : List ℕ)
+    → length (joinedParts first second third) ≡ length first + (length second + length third)
 parts-length first second third = simp length-append
 
 pub stuffed-length : (first second third : List ℕ)
-    → length (stuff (joinedParts first second third)) ≡ length (stuff first) + (length (stuff second) + length (stuff third))
+    → length (stuff (joinedParts first second third)) ≡ length (stuff first)
+    + (length (stuff second) + length (stuff third))
 stuffed-length first second third = simp (stuff-append, length-append)
 
 pub framed-length : (head payload : List ℕ) (sum : ℕ)

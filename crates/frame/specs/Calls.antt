@@ -54,7 +54,8 @@ unfoldable pub runOf : ℕ → List ℕ → ℕ → State → Reply
 runOf limit [] n r = reply (row 0 (n ∷ [])) r
 runOf limit (x ∷ xs) n r =
     cond (decidesOf (advanceOf limit (r .scan) x .event))
-    (reply (eventRow (advanceOf limit (r .scan) x .event) (n + 1) (r .scan .start) (nextOf limit r x .scan .taken)) (nextOf limit r x))
+    (reply (eventRow (advanceOf limit (r .scan) x .event) (n + 1) (r .scan .start) (nextOf limit r x .scan .taken))
+    (nextOf limit r x))
     (runOf limit xs (n + 1) (nextOf limit r x))
 
 -- bytes given. "Order: 17, then 18"
@@ -74,12 +75,14 @@ endingRow Escape s = row 16 (s .taken ∷ s .start ∷ [])
 
 -- end asked. "Order: 17, then .. 16"
 abbrev pub finishOf : ℕ → State → Reply
-finishOf limit r = cond (inRangeOf limit (r .scan)) (reply (endingRow (r .scan .phase) (r .scan)) r) (reply (row 17 (0 ∷ [])) r)
+finishOf limit r =
+    cond (inRangeOf limit (r .scan)) (reply (endingRow (r .scan .phase) (r .scan)) r) (reply (row 17 (0 ∷ [])) r)
 
 -- "21, 22"; "the wire form, exactly, at the front of the output; the rest of the output stays"
 abbrev pub writeOf : ℕ → ℕ → ℕ → ℕ → List ℕ → List ℕ → Write
 writeOf limit command number flags payload out =
-    cond (ltb limit (length payload + 5)) (outcome (row 21 (0 ∷ [])) out) (placed (wire (bodyOf command number flags payload)) out)
+    cond (ltb limit (length payload + 5)) (outcome (row 21 (0 ∷ [])) out)
+    (placed (wire (bodyOf command number flags payload)) out)
 
 -- the same of what the code returns, and of the output that it leaves
 abbrev pub Writes : Written → List ℕ → Write → Type 0

@@ -13,13 +13,15 @@ use Rattle.frame.specs.Table.{rowOf, endRowOf, writtenRowOf, countOf}
 use Rattle.frame.specs.Rules.{inRangeOf}
 use Rattle.frame.specs.Calls.{reply, freshOf, feedOf, finishOf}
 use Rattle.frame.specs.Lines.{Line, Answers, linesOf, IsOpen}
-use Rattle.frame.specs.Logs.{Call, Entry, logOf, stateAfter, takenIn, stream, handedOut, Accounts, OffersFront, send, joined}
+use Rattle.frame.specs.Logs.{Call, Entry, logOf, stateAfter, takenIn, stream, handedOut, Accounts, OffersFront}
+use Rattle.frame.specs.Logs.{send, joined}
 use Rattle.frame.specs.declared.reader.Answer.{Answer}
 use Rattle.frame.specs.declared.reader.Ending.{Ending}
 use Rattle.frame.specs.declared.reader.Reader.{Reader}
 use Rattle.frame.specs.declared.writer.Written.{Written}
 
--- ---- stuffed-form: "No two neighbouring bytes of a stuffed body are both FF, and it never ends in FF. It is at most twice as long as the body."
+-- ---- stuffed-form: "No two neighbouring bytes of a stuffed body are both FF, and it never ends in FF.
+-- It is at most twice as long as the body."
 pub record StuffedForm (b : List ℕ) : Type 0 where
   pub no-neighbours : (before after : List ℕ) → stuff b ≢ before ++ 255 ∷ 255 ∷ after
   pub no-last : (before : List ℕ) → stuff b ≢ before ++ 255 ∷ []
@@ -30,10 +32,12 @@ pub record StuffedForm (b : List ℕ) : Type 0 where
 abbrev pub StuffedForms : Type 0
 StuffedForms = (b : List ℕ) → StuffedForm b
 
--- ---- why-widest: "With L from 65,280 the wire would read FF FF FF 55, which is also noise FF before a header and length 55xx. Our limit keeps that away."
+-- ---- why-widest: "With L from 65,280 the wire would read FF FF FF 55, which is also noise FF before a header and
+-- length 55xx. Our limit keeps that away."
 pub record WhyWidest : Type 0 where
   pub two-readings : (r : List ℕ) → wire (255 ∷ r) ≡ 255 ∷ wire (85 ∷ r)
-  pub kept-away : (limit : ℕ) → limit ≤ widest → (b : List ℕ) → Good limit b → (r : List ℕ) → wire b ≢ 255 ∷ 255 ∷ 255 ∷ r
+  pub kept-away : (limit : ℕ)
+      → limit ≤ widest → (b : List ℕ) → Good limit b → (r : List ℕ) → wire b ≢ 255 ∷ 255 ∷ 255 ∷ r
 
 -- ---- made-good: what the writer makes of its parts is a good body, and the parts are read back from it
 pub record Made (limit command number flags : ℕ) (payload : List ℕ) : Type 0 where
@@ -45,7 +49,9 @@ pub record Made (limit command number flags : ℕ) (payload : List ℕ) : Type 0
 
 -- of every payload that fits the limit
 abbrev pub MadeGood : Type 0
-MadeGood = (limit command number flags : ℕ) (payload : List ℕ) → length payload + 5 ≤ limit → Made limit command number flags payload
+MadeGood =
+    (limit command number flags : ℕ) (payload : List ℕ)
+    → length payload + 5 ≤ limit → Made limit command number flags payload
 
 -- ---- demand-3: "a single claim about the whole list of calls"
 pub record Demand3 (limit : ℕ) (log : List Entry) : Type 0 where
@@ -57,7 +63,8 @@ pub record Demand3 (limit : ℕ) (log : List Entry) : Type 0 where
 abbrev pub Demand3s : Type 0
 Demand3s = (limit : ℕ) → limit ≤ widest → (calls : List Call) → Demand3 limit (logOf limit (freshOf limit) calls)
 
--- ---- each-line: "Given exactly when": FRAME and the refused frames are the table's lines over the stream, whatever calls took it
+-- ---- each-line: "Given exactly when": FRAME and the refused frames are the table's lines over the stream,
+-- whatever calls took it
 abbrev pub EachLine : Type 0
 EachLine =
     (limit : ℕ) → limit ≤ widest → (calls : List Call)
@@ -71,9 +78,11 @@ NoHeaderLost =
     → ((l : Line) × (l .start ≡ length before) × List·Memᴰ l (linesOf (logOf limit (freshOf limit) calls)))
     ⊎ IsOpen limit (stream (logOf limit (freshOf limit) calls)) (length before)
 
--- ---- end-told: an end asked after any calls is OPEN with the start of the frame that is open in the stream, or CLEAN where none is
+-- ---- end-told: an end asked after any calls is OPEN with the start of the frame that is open in the stream,
+-- or CLEAN where none is
 pub record EndTold (limit : ℕ) (taken : List ℕ) (r : State) : Type 0 where
-  pub left-open : (start : ℕ) → IsOpen limit taken start → finishOf limit r ≡ reply (row 16 (length taken ∷ start ∷ [])) r
+  pub left-open : (start : ℕ)
+      → IsOpen limit taken start → finishOf limit r ≡ reply (row 16 (length taken ∷ start ∷ [])) r
   pub left-clean : ((start : ℕ) → IsOpen limit taken start → ⊥) → finishOf limit r ≡ reply (row 2 (length taken ∷ [])) r
 
 -- after every list of calls of a fresh reader
@@ -84,7 +93,9 @@ EndsTold =
 
 -- ---- one-list: `Lists` and the equation with `framesOf` say the same, since a stream has one such list
 abbrev pub OneList : Type 0
-OneList = (limit : ℕ) → limit ≤ widest → (t : List ℕ) → Lists limit t (framesOf limit t) × ((l : List Found) → Lists limit t l → l ≡ framesOf limit t)
+OneList =
+    (limit : ℕ) → limit ≤ widest → (t : List ℕ) → Lists limit t (framesOf limit t)
+    × ((l : List Found) → Lists limit t l → l ≡ framesOf limit t)
 
 -- ---- within: "never more than were offered", of any reader
 abbrev pub Within : Type 0
@@ -93,27 +104,31 @@ Within = (limit : ℕ) (r : State) (bytes : List ℕ) → countOf (feedOf limit 
 -- ---- progress: where neither STATE nor USED is due, a call that is offered a byte takes one
 abbrev pub Progress : Type 0
 Progress =
-    (limit : ℕ) (r : State) (bytes : List ℕ) → inRangeOf limit (r .scan) ≡ true → r .scan .taken + length bytes ≤ 2 ^ 62 → 1 ≤ length bytes
+    (limit : ℕ) (r : State) (bytes : List ℕ)
+    → inRangeOf limit (r .scan) ≡ true → r .scan .taken + length bytes ≤ 2 ^ 62 → 1 ≤ length bytes
     → 1 ≤ countOf (feedOf limit r bytes .row)
 
 -- ---- empty-call: "An empty call gives MORE and changes nothing."
 abbrev pub EmptyCall : Type 0
 EmptyCall = (limit : ℕ) (r : State) → inRangeOf limit (r .scan) ≡ true → feedOf limit r [] ≡ reply (row 0 (0 ∷ [])) r
 
--- ---- rows-tell: two answers of one enum never have the same number and values, so an equation of rows fixes the answer
+-- ---- rows-tell: two answers of one enum never have the same number and
+-- values, so an equation of rows fixes the answer
 pub record RowsTell : Type 0 where
   pub answers : (a b : Answer) → rowOf a ≡ rowOf b → a ≡ b
   pub endings : (a b : Ending) → endRowOf a ≡ endRowOf b → a ≡ b
   pub writings : (a b : Written) → writtenRowOf a ≡ writtenRowOf b → a ≡ b
 
--- ---- states-told: two readers never have the same state, so an equation of states fixes every field and byte of the reader
+-- ---- states-told: two readers never have the same state,
+-- so an equation of states fixes every field and byte of the reader
 abbrev pub StatesTold : Type 0
 StatesTold = (a b : Reader) → stateOf a ≡ stateOf b → a ≡ b
 
 -- ---- never-state: "no state reached from a fresh one gets it"
 abbrev pub NeverState : Type 0
 NeverState =
-    (limit : ℕ) → limit ≤ widest → (calls : List Call) (e : Entry) → List·Memᴰ e (logOf limit (freshOf limit) calls) → e .row .number ≢ 17
+    (limit : ℕ) → limit ≤ widest → (calls : List Call) (e : Entry)
+    → List·Memᴰ e (logOf limit (freshOf limit) calls) → e .row .number ≢ 17
 
 -- ---- sent-again: "the stream is the front of what was sent, and the whole once all is taken"
 pub record Front (sent : List ℕ) (log : List Entry) : Type 0 where
@@ -124,17 +139,21 @@ pub record Front (sent : List ℕ) (log : List Entry) : Type 0 where
 -- of every list of calls that offers so
 abbrev pub SentAgain : Type 0
 SentAgain =
-    (limit : ℕ) → limit ≤ widest → (calls : List Call) (sent : List ℕ) → OffersFront sent (logOf limit (freshOf limit) calls)
+    (limit : ℕ) → limit ≤ widest → (calls : List Call) (sent : List ℕ)
+    → OffersFront sent (logOf limit (freshOf limit) calls)
     → Front sent (logOf limit (freshOf limit) calls)
 
--- ---- sent-whole: after any calls, a sender that offers each piece until it is taken has all of its bytes taken, up to 2^62 in all
+-- ---- sent-whole: after any calls, a sender that offers each piece until it is taken has all of its bytes taken,
+-- up to 2^62 in all
 abbrev pub SentWhole : Type 0
 SentWhole =
     (limit : ℕ) → limit ≤ widest → (earlier : List Call) (pieces : List (List ℕ))
     → length (stream (logOf limit (freshOf limit) earlier)) + length (joined pieces) ≤ 2 ^ 62
-    → stream (logOf limit (stateAfter limit (freshOf limit) earlier) (send limit (stateAfter limit (freshOf limit) earlier) pieces)) ≡ joined pieces
+    → stream (logOf limit (stateAfter limit (freshOf limit) earlier)
+    (send limit (stateAfter limit (freshOf limit) earlier) pieces)) ≡ joined pieces
 
--- ---- round-trip: of the calls that took a wire form, in whatever pieces, the last that took a byte is answered FRAME; its values are read back
+-- ---- round-trip: of the calls that took a wire form, in whatever pieces, the last that took a byte is answered FRAME;
+-- its values are read back
 pub record ReadBack (start command number flags : ℕ) (payload : List ℕ) (log : List Entry) : Type 0 where
   pub early : List Entry
   pub last : Entry
@@ -142,7 +161,8 @@ pub record ReadBack (start command number flags : ℕ) (payload : List ℕ) (log
   pub parts : log ≡ early ++ last ∷ late
   pub nothing-later : stream late ≡ []
   pub some-taken : 1 ≤ takenIn last
-  pub frame : last .row ≡ row 1 (takenIn last ∷ start ∷ (start + length (wire (bodyOf command number flags payload))) ∷ [])
+  pub frame : last .row ≡ row 1 (takenIn last ∷ start
+      ∷ (start + length (wire (bodyOf command number flags payload))) ∷ [])
   pub body : frontBody (last .after .body) ≡ bodyOf command number flags payload
   pub command-is : commandOf (last .after .body) ≡ command
   pub number-is : numberOf (last .after .body) ≡ number
@@ -152,14 +172,23 @@ pub record ReadBack (start command number flags : ℕ) (payload : List ℕ) (log
 -- after every list of calls of a fresh reader, of every list of calls that takes the wire form
 abbrev pub RoundTrip : Type 0
 RoundTrip =
-    (limit : ℕ) → limit ≤ widest → (command number flags : ℕ) (payload : List ℕ) → length payload + 5 ≤ limit → (earlier later : List Call)
+    (limit : ℕ) → limit ≤ widest → (command number flags : ℕ) (payload : List ℕ) → length payload + 5 ≤ limit
+    → (earlier later : List Call)
     → stream (logOf limit (stateAfter limit (freshOf limit) earlier) later) ≡ wire (bodyOf command number flags payload)
-    → ReadBack (length (stream (logOf limit (freshOf limit) earlier))) command number flags payload (logOf limit (stateAfter limit (freshOf limit) earlier) later)
+    → ReadBack (length (stream (logOf limit (freshOf limit) earlier))) command number flags payload
+    (logOf limit (stateAfter limit (freshOf limit) earlier) later)
 
--- ---- read-anywhere: a wire form anywhere in the bytes taken, with others before and behind it in the same calls, is handed out as a frame
+-- ---- read-anywhere: a wire form anywhere in the bytes taken, with others before and behind it in the same calls,
+-- is handed out as a frame
 abbrev pub ReadAnywhere : Type 0
 ReadAnywhere =
-    (limit : ℕ) → limit ≤ widest → (command number flags : ℕ) (payload : List ℕ) → length payload + 5 ≤ limit → (calls : List Call) (before after : List ℕ)
+    (limit : ℕ) → limit ≤ widest → (command number flags : ℕ) (payload : List ℕ) → length payload + 5 ≤ limit
+    → (calls : List Call) (before after : List ℕ)
     → stream (logOf limit (freshOf limit) calls) ≡ before ++ (wire (bodyOf command number flags payload) ++ after)
-    → List·Memᴰ (record { start = length before; end = length before + length (wire (bodyOf command number flags payload)); body = bodyOf command number flags payload })
+    → List·Memᴰ
+    (record {
+      start = length before;
+      end = length before + length (wire (bodyOf command number flags payload));
+      body = bodyOf command number flags payload;
+    })
     (handedOut (logOf limit (freshOf limit) calls))

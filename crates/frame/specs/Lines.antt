@@ -1,5 +1,5 @@
--- The table over the stream: which bytes FRAME and the refused frames stand for, and an open frame, apart from any reader; and the same as a
--- list of calls tells it.
+-- The table over the stream: which bytes FRAME and the refused frames stand for, and an open frame,
+-- apart from any reader; and the same as a list of calls tells it.
 use Prim.Native.Nat.{ℕ, _+_, _≤_, _<_}
 use mathlib.Core.Path.{_≡_}
 use mathlib.Core.Logic.{_≢_}
@@ -12,27 +12,34 @@ use Rattle.base.specs.Sums.{checksum}
 use Rattle.frame.specs.Frames.{frontBody}
 use Rattle.frame.specs.Logs.{Entry, decided}
 
--- an open frame's body bytes so far, which decide nothing. "Behind a header, a further FF moves the start", so none begins with FF
+-- an open frame's body bytes so far, which decide nothing.
+-- "Behind a header, a further FF moves the start", so none begins with FF
 pub record Unfinished (limit : ℕ) (b : List ℕ) : Type 0 where
   pub some-byte : 1 ≤ length b
   pub first : getD b 0 0 ≢ 255
   pub under : length b < lengthOf b + 2
   pub bounds : 2 ≤ length b → (5 ≤ lengthOf b) × (lengthOf b ≤ limit)
 
--- the raw bytes from a header's first to the deciding one, the table's number for them, and the body that the reader then holds, where it is to hold one
+-- the raw bytes from a header's first to the deciding one, the table's number for them,
+-- and the body that the reader then holds, where it is to hold one
 pub data Decides (limit : ℕ) (raw : List ℕ) (number : ℕ) (body : List ℕ) : Type 0 where
   -- FRAME: "frame complete, sum holds"; "reader holds the body"
   is-frame : (b : List ℕ) → number ≡ 1 → body ≡ b → raw ≡ wire b → Good limit b → Decides limit raw number body
   -- SHORT: "length read, below 5"
-  is-short : (b : List ℕ) → number ≡ 11 → body ≡ [] → raw ≡ wire b → length b ≡ 2 → lengthOf b < 5 → Decides limit raw number body
+  is-short : (b : List ℕ)
+      → number ≡ 11 → body ≡ [] → raw ≡ wire b → length b ≡ 2 → lengthOf b < 5 → Decides limit raw number body
   -- LONG: "length read, above 1,024"; under a limit below 4 the two would overlap, and SHORT comes first
-  is-long : (b : List ℕ) → number ≡ 12 → body ≡ [] → raw ≡ wire b → length b ≡ 2 → getD b 0 0 ≢ 255 → 5 ≤ lengthOf b → limit < lengthOf b → Decides limit raw number body
+  is-long : (b : List ℕ) → number ≡ 12 → body ≡ [] → raw ≡ wire b → length b ≡ 2 → getD b 0 0 ≢ 255 → 5 ≤ lengthOf b
+      → limit < lengthOf b → Decides limit raw number body
   -- STUFF: "FF other than the header's, then neither 55 nor FF, in an open frame"
-  is-stuff : (b : List ℕ) (x : ℕ) → number ≡ 13 → body ≡ [] → raw ≡ wire b ++ 255 ∷ x ∷ [] → Unfinished limit b → x ≢ 85 → x ≢ 255 → Decides limit raw number body
+  is-stuff : (b : List ℕ) (x : ℕ) → number ≡ 13 → body ≡ [] → raw ≡ wire b ++ 255 ∷ x ∷ [] → Unfinished limit b → x ≢ 85
+      → x ≢ 255 → Decides limit raw number body
   -- CUT: "header made in an open frame, not by moving the start"
-  is-cut : (b : List ℕ) → number ≡ 14 → body ≡ [] → raw ≡ wire b ++ 255 ∷ 255 ∷ [] → Unfinished limit b → Decides limit raw number body
+  is-cut : (b : List ℕ) → number ≡ 14 → body ≡ [] → raw ≡ wire b ++ 255 ∷ 255 ∷ [] → Unfinished limit b
+      → Decides limit raw number body
   -- SUM: "frame complete, sum wrong"; "reader holds the body"
-  is-sum : (b : List ℕ) → number ≡ 15 → body ≡ b → raw ≡ wire b → length b ≡ lengthOf b + 2 → 5 ≤ lengthOf b → lengthOf b ≤ limit
+  is-sum : (b : List ℕ) → number ≡ 15 → body ≡ b → raw ≡ wire b → length b ≡ lengthOf b + 2
+      → 5 ≤ lengthOf b → lengthOf b ≤ limit
       → getD b (lengthOf b + 1) 0 ≢ checksum (take (lengthOf b + 1) b) → Decides limit raw number body
 
 -- an answer about a stretch of the stream: its number, start, end and, at FRAME and SUM, the body held
@@ -42,7 +49,8 @@ pub record Line : Type 0 where
   pub end : ℕ
   pub body : List ℕ
 
--- a stretch of the stream that the table answers. "Start is the place of the header's first byte; end is the place behind the deciding byte."
+-- a stretch of the stream that the table answers. "Start is the place of the header's first byte;
+-- end is the place behind the deciding byte."
 pub record IsLine (limit : ℕ) (stream : List ℕ) (l : Line) : Type 0 where
   pub before : List ℕ
   pub raw : List ℕ
@@ -70,7 +78,12 @@ heldUnder number held = cond (eqb number 1 || eqb number 15) (frontBody held) []
 -- a call's answer as a line
 abbrev pub lineOf : Entry → Line
 lineOf e =
-    record { number = e .row .number; start = getD (e .row .values) 1 0; end = getD (e .row .values) 2 0; body = heldUnder (e .row .number) (e .after .body) }
+    record {
+      number = e .row .number;
+      start = getD (e .row .values) 1 0;
+      end = getD (e .row .values) 2 0;
+      body = heldUnder (e .row .number) (e .after .body);
+    }
 
 -- the answers 1 and 11 to 15 of a list of calls, in the order of the calls
 abbrev pub lined : Entry → List Line → List Line

@@ -57,7 +57,8 @@ takenBy ask r = 0
 abbrev pub takenIn : Entry → ℕ
 takenIn e = takenBy (e .call) (e .row)
 
--- "A call takes the first of the bytes offered to it, as many as its answer counts .. The stream is the bytes taken, in the order of the calls"
+-- "A call takes the first of the bytes offered to it, as many as its answer counts ..
+-- The stream is the bytes taken, in the order of the calls"
 unfoldable pub stream : List Entry → List ℕ
 stream [] = []
 stream (e ∷ es) = take (takenIn e) (offered (e .call)) ++ stream es
@@ -66,7 +67,8 @@ stream (e ∷ es) = take (takenIn e) (offered (e .call)) ++ stream es
 abbrev pub handed : Entry → List Found → List Found
 handed e l =
     cond (eqb (e .row .number) 1)
-    (record { start = getD (e .row .values) 1 0; end = getD (e .row .values) 2 0; body = frontBody (e .after .body) } ∷ l)
+    (record { start = getD (e .row .values) 1 0; end = getD (e .row .values) 2 0; body = frontBody (e .after .body) }
+    ∷ l)
     l
 
 -- the FRAME answers, in the order of the calls
@@ -104,7 +106,8 @@ OffersFront left (e ∷ es) = ((r : List ℕ) × (left ≡ offered (e .call) ++ 
 -- a sender that offers bytes and then what is left of them, in n calls, of which the later may be empty
 unfoldable pub offer : ℕ → ℕ → State → List ℕ → List Call
 offer limit zero r bytes = []
-offer limit (suc n) r bytes = give bytes ∷ offer limit n (feedOf limit r bytes .state) (drop (countOf (feedOf limit r bytes .row)) bytes)
+offer limit (suc n) r bytes =
+    give bytes ∷ offer limit n (feedOf limit r bytes .state) (drop (countOf (feedOf limit r bytes .row)) bytes)
 
 -- the same for bytes in pieces, one piece after the other
 unfoldable pub send : ℕ → State → List (List ℕ) → List Call

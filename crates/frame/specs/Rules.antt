@@ -37,7 +37,8 @@ headerOf last taken = record { phase = Header; taken = taken; start = last - 1; 
 
 -- "an FF other than the header's waits for its successor"
 abbrev pub escapeOf : Scan → ℕ → Scan
-escapeOf s taken = record { phase = Escape; taken = taken; start = s .start; have = s .have; length = s .length; sum = s .sum }
+escapeOf s taken =
+    record { phase = Escape; taken = taken; start = s .start; have = s .have; length = s .length; sum = s .sum }
 
 -- ---- one raw byte
 
@@ -57,7 +58,14 @@ storedOf s v e = record { scan = s; put = true; byte = v; event = e }
 abbrev pub grownOf : Scan → ℕ → ℕ → Step
 grownOf s l v =
     storedOf
-    (record { phase = Open; taken = s .taken + 1; start = s .start; have = s .have + 1; length = l; sum = (s .sum + v) % 2 ^ 8 })
+    (record {
+      phase = Open;
+      taken = s .taken + 1;
+      start = s .start;
+      have = s .have + 1;
+      length = l;
+      sum = (s .sum + v) % 2 ^ 8;
+    })
     v Quiet
 
 -- "After FRAME or a refused frame no frame is open": here with the body byte v
@@ -72,8 +80,8 @@ completedOf s v = cond (eqb v (s .sum)) (endedOf s v Frame) (endedOf s v Sum)
 abbrev pub measuredOf : ℕ → Scan → ℕ → ℕ → Step
 measuredOf limit s l v = cond (ltb l 5) (endedOf s v Short) (cond (ltb limit l) (endedOf s v Long) (grownOf s l v))
 
--- a body byte v: the length is read big-endian, and the sum comes behind L + 1 bytes. Where a state from elsewhere names a length above the
--- limit, the sum comes behind limit + 1 bytes; no state reached from a fresh one is there.
+-- a body byte v: the length is read big-endian, and the sum comes behind L + 1 bytes. Where a state from elsewhere
+-- names a length above the limit, the sum comes behind limit + 1 bytes; no state reached from a fresh one is there.
 abbrev pub bodyByteOf : ℕ → Scan → ℕ → Step
 bodyByteOf limit s v =
     cond (eqb (s .have) 0) (grownOf s v v)
@@ -81,7 +89,8 @@ bodyByteOf limit s v =
     (cond (ltb (s .length) (s .have)) (completedOf s v)
     (cond (ltb limit (s .have)) (completedOf s v) (grownOf s (s .length) v))))
 
--- "A raw FF directly behind a raw FF makes a header, always, in each phase". In an open frame, behind an FF that waits, that is CUT.
+-- "A raw FF directly behind a raw FF makes a header, always, in each phase".
+-- In an open frame, behind an FF that waits, that is CUT.
 abbrev pub onFFIn : Phase → Scan → Step
 onFFIn Idle s = silentOf (halfOf (s .taken + 1)) Quiet
 onFFIn Half s = silentOf (headerOf (s .taken) (s .taken + 1)) Quiet

@@ -1,5 +1,6 @@
--- The reader's state in the specification's own terms: where it stands, and all bytes that it keeps for a body. Where the code keeps them is
--- a matter of its contracts, which map its values to these one-to-one (`states-told`). docs/STATES.md has each field's range.
+-- The reader's state in the specification's own terms: where it stands, and all bytes that it keeps for a body.
+-- Where the code keeps them is a matter of its contracts, which map its values to these one-to-one (`states-told`).
+-- docs/STATES.md has each field's range.
 use Prim.Native.Nat.{ℕ}
 use mathlib.Core.Bool.{Bool}
 use mathlib.Core.List.{List}
@@ -18,7 +19,8 @@ pub data Phase : Type 0 where
   Open : Phase  -- a frame is open, and the last raw byte is no FF
   Escape : Phase  -- a frame is open, and an FF other than its header's waits for its successor
 
--- `taken` and `start` are places on the wire, `have` is a place in the body: "places on the wire and places in the body are counted apart"
+-- `taken` and `start` are places on the wire, `have` is a place in the body:
+-- "places on the wire and places in the body are counted apart"
 pub record Scan : Type 0 where
   pub phase : Phase
   pub taken : ℕ

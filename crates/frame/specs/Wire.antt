@@ -54,7 +54,8 @@ unsummed command number flags payload = two (length payload + 5) (command ∷ nu
 
 -- the body that these four values make
 unfoldable pub bodyOf : ℕ → ℕ → ℕ → List ℕ → List ℕ
-bodyOf command number flags payload = unsummed command number flags payload ++ checksum (unsummed command number flags payload) ∷ []
+bodyOf command number flags payload =
+    unsummed command number flags payload ++ checksum (unsummed command number flags payload) ∷ []
 
 -- a payload in three parts, one behind the other
 abbrev pub joinedParts : List ℕ → List ℕ → List ℕ → List ℕ
@@ -64,15 +65,16 @@ joinedParts first second third = first ++ (second ++ third)
 abbrev pub framed : List ℕ → List ℕ → ℕ → List ℕ
 framed head payload sum = wire (head ++ (payload ++ sum ∷ []))
 
--- "Here 5 ≤ L ≤ 1,024 .. Body bytes: L + 2." "A body's length is true if its first two bytes give L and it has L + 2 bytes; its sum holds if its
--- last byte is the sum."
+-- "Here 5 ≤ L ≤ 1,024 .. Body bytes: L + 2." "A body's length is true if its first two bytes give L and it has L + 2
+-- bytes; its sum holds if its last byte is the sum."
 pub record Good (limit : ℕ) (b : List ℕ) : Type 0 where
   pub true-length : length b ≡ lengthOf b + 2
   pub least : 5 ≤ lengthOf b
   pub most : lengthOf b ≤ limit
   pub sum-holds : getD b (lengthOf b + 1) 0 ≡ checksum (take (lengthOf b + 1) b)
 
--- "With L from 65,280 the wire would read FF FF FF 55 .. Our limit keeps that away." The limit that the claims over streams allow
+-- "With L from 65,280 the wire would read FF FF FF 55 ..
+-- Our limit keeps that away." The limit that the claims over streams allow
 abbrev pub widest : ℕ
 widest = 65279
 

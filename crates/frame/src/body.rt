@@ -28,7 +28,8 @@ pub fn flags(body: &[u8]) -> u16
 
 // The payload, a part of the lent body: as many bytes behind the flags as the length gives it and the body has.
 pub fn payload(body: &[u8]) -> &[u8]
-    ensures { λ r. ⌜ (now r ≡ payloadOf (now (body .entry))) × IsPart (body .entry) r (min 6 (length (now (body .entry)))) (lengthOf (now (body .entry)) - 5) ⌝ }
+    ensures { λ r. ⌜ (now r ≡ payloadOf (now (body .entry)))
+        × IsPart (body .entry) r (min 6 (length (now (body .entry)))) (lengthOf (now (body .entry)) - 5) ⌝ }
 {
     let length = base::two_at(body, 0) as usize;
     if length < 5 {

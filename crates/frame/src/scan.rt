@@ -7,7 +7,9 @@ use super::place::behind;
 ghost use mathlib.Core.Path.{_≡_};
 ghost use Prim.Native.Nat.{_<_, _≤_, _^_};
 ghost use Rattle.frame.specs.State.{scanOf, stepOf};
-ghost use Rattle.frame.specs.Rules.{closedOf, headerOf, halfOf, escapeOf, silentOf, cutOf, storedOf, grownOf, endedOf, completedOf, bodyByteOf, onFFOf, outsideOf, onEscapedOf, onOtherOf, advanceOf, inRangeOf, decidesOf, Ready};
+ghost use Rattle.frame.specs.Rules.{closedOf, headerOf, halfOf, escapeOf, silentOf, cutOf, storedOf, grownOf};
+ghost use Rattle.frame.specs.Rules.{endedOf, completedOf, bodyByteOf, onFFOf, outsideOf, onEscapedOf, onOtherOf};
+ghost use Rattle.frame.specs.Rules.{advanceOf, inRangeOf, decidesOf, Ready};
 
 pub enum Phase {
     // No frame is open, and the last raw byte is no FF.

@@ -52,7 +52,8 @@ fn width(v: u8) -> usize
 // What some bytes add to a measure.
 fn measured(from: Measure, bytes: &[u8]) -> Measure
     requires { ⌜ (from .count ≤ 2 ^ 20) × (length (now bytes) ≤ 2 ^ 20) ⌝ }
-    ensures { λ r. ⌜ (r .count ≡ from .count + length (stuff (now (bytes .entry)))) × (r .sum ≡ (from .sum + total (now (bytes .entry))) % 2 ^ 8) ⌝ }
+    ensures { λ r. ⌜ (r .count ≡ from .count + length (stuff (now (bytes .entry))))
+        × (r .sum ≡ (from .sum + total (now (bytes .entry))) % 2 ^ 8) ⌝ }
 {
     let mut count = from.count;
     let mut sum = from.sum;
@@ -68,7 +69,8 @@ fn measured(from: Measure, bytes: &[u8]) -> Measure
 // The length of a frame on the wire, and its sum.
 fn sized(head: [u8; 6], first: &[u8], second: &[u8], third: &[u8]) -> Measure
     requires { ⌜ length (joinedParts (now first) (now second) (now third)) ≤ 2 ^ 17 ⌝ }
-    ensures { λ r. ⌜ Measured head (joinedParts (now (first .entry)) (now (second .entry)) (now (third .entry))) (r .count) (r .sum) ⌝ }
+    ensures { λ r. ⌜ Measured head
+        (joinedParts (now (first .entry)) (now (second .entry)) (now (third .entry))) (r .count) (r .sum) ⌝ }
 {
     let begun = measured(Measure { count: 2, sum: 0 }, &head);
     let unsummed = measured(measured(measured(begun, first), second), third);
@@ -109,7 +111,8 @@ fn put_bytes(out: &mut [u8], at: usize, bytes: &[u8]) -> usize
 // A payload's three parts, stuffed, at a place of the output; the place behind them.
 fn put_parts(out: &mut [u8], at: usize, first: &[u8], second: &[u8], third: &[u8]) -> usize
     requires { ⌜ at + length (stuff (joinedParts (now first) (now second) (now third))) ≤ length (now out) ⌝ }
-    ensures { λ r. ⌜ PutAt (now (out .entry)) at (stuff (joinedParts (now (first .entry)) (now (second .entry)) (now (third .entry)))) r (now (out .exit)) ⌝ }
+    ensures { λ r. ⌜ PutAt (now (out .entry)) at (stuff (joinedParts (now (first .entry)) (now (second .entry))
+        (now (third .entry)))) r (now (out .exit)) ⌝ }
 {
     let behind_first = put_bytes(out, at, first);
     let behind_second = put_bytes(out, behind_first, second);
@@ -126,7 +129,8 @@ fn put_frame(
     sum: u8,
 ) -> usize
     requires { ⌜ length (framed head (joinedParts (now first) (now second) (now third)) sum) ≤ length (now out) ⌝ }
-    ensures { λ r. ⌜ PutAt (now (out .entry)) 0 (framed head (joinedParts (now (first .entry)) (now (second .entry)) (now (third .entry))) sum) r (now (out .exit)) ⌝ }
+    ensures { λ r. ⌜ PutAt (now (out .entry)) 0 (framed head
+        (joinedParts (now (first .entry)) (now (second .entry)) (now (third .entry))) sum) r (now (out .exit)) ⌝ }
 {
     out[0] = 255;
     out[1] = 255;
@@ -147,7 +151,8 @@ fn parts_within(
     out: &mut [u8],
 ) -> Written
     requires { ⌜ limit ≤ 65279 ⌝ }
-    ensures { λ r. ⌜ Writes r (now (out .exit)) (writeOf limit command number flags (joinedParts (now (first .entry)) (now (second .entry)) (now (third .entry))) (now (out .entry))) ⌝ }
+    ensures { λ r. ⌜ Writes r (now (out .exit)) (writeOf limit command number flags
+        (joinedParts (now (first .entry)) (now (second .entry)) (now (third .entry))) (now (out .entry))) ⌝ }
 {
     // Two lengths add up to a usize, three need not; what is past the limit is refused, however long it is.
     let size = base::least(first.len() + second.len(), limit) + third.len();
@@ -174,7 +179,8 @@ fn write_within(
     out: &mut [u8],
 ) -> Written
     requires { ⌜ limit ≤ 65279 ⌝ }
-    ensures { λ r. ⌜ Writes r (now (out .exit)) (writeOf limit command number flags (now (payload .entry)) (now (out .entry))) ⌝ }
+    ensures { λ r. ⌜ Writes r (now (out .exit))
+        (writeOf limit command number flags (now (payload .entry)) (now (out .entry))) ⌝ }
 {
     let none = &payload[..0];
     parts_within(limit, command, number, flags, payload, none, none, out)
@@ -182,7 +188,8 @@ fn write_within(
 
 // A frame written at the front of the output, or refused with the output as it was.
 pub fn write(command: u8, number: u8, flags: u16, payload: &[u8], out: &mut [u8]) -> Written
-    ensures { λ r. ⌜ Writes r (now (out .exit)) (writeOf frameLimit command number flags (now (payload .entry)) (now (out .entry))) ⌝ }
+    ensures { λ r. ⌜ Writes r (now (out .exit))
+        (writeOf frameLimit command number flags (now (payload .entry)) (now (out .entry))) ⌝ }
 {
     write_within(LIMIT, command, number, flags, payload, out)
 }
@@ -197,7 +204,8 @@ pub fn write_parts(
     third: &[u8],
     out: &mut [u8],
 ) -> Written
-    ensures { λ r. ⌜ Writes r (now (out .exit)) (writeOf frameLimit command number flags (joinedParts (now (first .entry)) (now (second .entry)) (now (third .entry))) (now (out .entry))) ⌝ }
+    ensures { λ r. ⌜ Writes r (now (out .exit)) (writeOf frameLimit command number flags
+        (joinedParts (now (first .entry)) (now (second .entry)) (now (third .entry))) (now (out .entry))) ⌝ }
 {
     parts_within(LIMIT, command, number, flags, first, second, third, out)
 }

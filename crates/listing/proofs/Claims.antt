@@ -1,4 +1,5 @@
--- The claims of specs/Claims.antt but those of decimal text (Values) and of every listing (Listed, Whole). Assumes nothing.
+-- The claims of specs/Claims.antt but those of decimal text (Values) and of every listing (Listed, Whole).
+-- Assumes nothing.
 use Prim.Native.Nat.{ℕ, zero, suc, _+_, _*_, _^_, _≤_, _<_}
 use mathlib.Core.Path.{_≡_, refl}
 use Prim.Native.String.{String}
@@ -35,7 +36,8 @@ rows-tell = told-apart linedRowOf linedFrom lined-back
 
 pub within : Within
 within text out =
-    by-test (λ (w : Write). writtenIn (w .row) ≤ length out) (ltb (length out) (length text)) (λ e. omega arith) (λ e. ltb-false (length out) (length text) e)
+    by-test (λ (w : Write). writtenIn (w .row) ≤ length out) (ltb (length out) (length text)) (λ e. omega arith)
+    (λ e. ltb-false (length out) (length text) e)
 
 -- ---- longest
 
@@ -48,7 +50,8 @@ columns-most (n ∷ l) h =
     rw length-append (omega (arith, columns-most l (h .1)))
 
 -- a line is at most so long
-text-most : (word numbers rest : List ℕ) → Below (2 ^ 64) numbers → length (textOf word numbers rest) ≤ length word + 21 * length numbers + length rest
+text-most : (word numbers rest : List ℕ)
+    → Below (2 ^ 64) numbers → length (textOf word numbers rest) ≤ length word + 21 * length numbers + length rest
 text-most word numbers rest h =
     let columns = columns-most numbers h in
     simp length-append (omega arith)
@@ -67,9 +70,11 @@ Short t = length t ≤ 132
 payload-most : (body : List ℕ) → length (payloadOf body) ≤ lengthOf body
 payload-most body = rw length-take (omega arith)
 
-line-short : (r : Row) (body : List ℕ) → Below (2 ^ 64) (placesOf r) → ((i : ℕ) → getD body i 0 < 256) → Short (answerText r body)
+line-short : (r : Row) (body : List ℕ)
+    → Below (2 ^ 64) (placesOf r) → ((i : ℕ) → getD body i 0 < 256) → Short (answerText r body)
 line-short r body h bytes =
-    pick Short 1 (omega (arith, text-most (ascii "frame") (placesOf r ++ partsOf body) (ascii "\n") (h .0, (h .1 .0, parts))))
+    pick Short 1
+    (omega (arith, text-most (ascii "frame") (placesOf r ++ partsOf body) (ascii "\n") (h .0, (h .1 .0, parts))))
     (pick Short 11 (omega (arith, refused "short"))
     (pick Short 12 (omega (arith, refused "long"))
     (pick Short 13 (omega (arith, refused "stuff"))
@@ -81,16 +86,29 @@ line-short r body h bytes =
 
     -- one byte, one byte, two bytes, and a payload under a length of two bytes
     parts : Below (2 ^ 64) (partsOf body)
-    parts = (omega (arith, bytes 2), (omega (arith, bytes 3), (omega (arith, bytes 4, bytes 5), (omega (arith, bytes 0, bytes 1, payload-most body), tt))))
+    parts = (
+      omega (arith, bytes 2),
+      (
+        omega (arith, bytes 3),
+        (omega (arith, bytes 4, bytes 5), (omega (arith, bytes 0, bytes 1, payload-most body), tt)),
+      ),
+    )
 
     refused : (name : String) → length (refusedText name r) ≤ length (ascii name) + 42 + 9
     refused name = text-most (ascii name) (placesOf r) (ascii " - - - -\n") (h .0, (h .1 .0, tt))
 
 last-short : (r : Row) → Below (2 ^ 64) (r .values) → Short (lastOf r)
 last-short r h =
-    by-test Short (eqb (r .number) 2) (λ e. omega (arith, text-most (ascii "clean") (getD (r .values) 0 0 ∷ []) (ascii "\n") (value-below (r .values) 0 h, tt)))
+    by-test Short (eqb (r .number) 2) (λ e. omega
+    (arith, text-most (ascii "clean") (getD (r .values) 0 0 ∷ []) (ascii "\n") (value-below (r .values) 0 h, tt)))
     (λ e. by-test Short (eqb (r .number) 16)
-    (λ f. omega (arith, text-most (ascii "open") (getD (r .values) 1 0 ∷ []) (ascii "\n") (value-below (r .values) 1 h, tt))) (λ f. omega arith))
+    (λ f. omega (
+      arith,
+      text-most (ascii "open") (getD (r .values) 1 0 ∷ []) (ascii "\n") (
+        value-below (r .values) 1 h,
+        tt,
+      ),
+    )) (λ f. omega arith))
 
 pub longest : Longest
 longest = record { lines = line-short; lasts = last-short; heading = omega arith }

@@ -51,7 +51,8 @@ decimal-last n h = digits-last n n h
 -- from 10 on the digits are those of a tenth, and one more
 pub decimal-more : (n : ℕ) → 9 < n → decimalOf n ≡ decimalOf (n / 10) ++ digit (n % 10) ∷ []
 unfolding decimalOf
-decimal-more n h = rw (digits-more n n h, digits-enough n (suc (n / 10)) (n / 10) (tenth n n h (omega arith)) (omega arith))
+decimal-more n h =
+    rw (digits-more n n h, digits-enough n (suc (n / 10)) (n / 10) (tenth n n h (omega arith)) (omega arith))
 
 -- the same of their count
 pub count-last : (n : ℕ) → n ≤ 9 → length (decimalOf n) ≡ 1

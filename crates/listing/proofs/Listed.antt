@@ -14,7 +14,8 @@ use Rattle.base.specs.Rows.{Row, row}
 use Rattle.frame.specs.Rules.{inRangeOf}
 use Rattle.frame.specs.Calls.{Reply, endingRow, freshOf, feedOf, finishOf}
 use Rattle.frame.specs.Logs.{Call, give, ask, Entry, entryOf, logOf, decided}
-use Rattle.frame.specs.Lines.{Line, Decides, is-frame, is-short, is-long, is-stuff, is-cut, is-sum, linesOf, heldUnder, lineOf as lineIn}
+use Rattle.frame.specs.Lines.{Line, Decides, is-frame, is-short, is-long, is-stuff, is-cut, is-sum, linesOf, heldUnder}
+use Rattle.frame.specs.Lines.{lineOf as lineIn}
 use Rattle.frame.specs.State.{Phase, Idle, Half, Header, Open, Escape, Scan, State}
 use Rattle.base.proofs.Tests.{by-test}
 use Rattle.frame.proofs.Lines.{each-line}
@@ -35,7 +36,13 @@ front-payload b h = rw front-length (simp (length-take, length-drop) (omega arit
 
 parts-front : (b : List ℕ) → 5 ≤ lengthOf b → partsOf (frontBody b) ≡ partsOf b
 parts-front b h =
-    rw (front-payload b h, front-at b 2 (omega arith), front-at b 3 (omega arith), front-at b 4 (omega arith), front-at b 5 (omega arith))
+    rw (
+      front-payload b h,
+      front-at b 2 (omega arith),
+      front-at b 3 (omega arith),
+      front-at b 4 (omega arith),
+      front-at b 5 (omega arith),
+    )
 
 -- ---- an answer that decides nothing has no line
 
@@ -49,7 +56,14 @@ other n k f t = go (eqb n k) refl
 
 no-line : (r : Row) (body : List ℕ) → decided (r .number) ≡ false → answerText r body ≡ []
 no-line r body f =
-    rw (other (r .number) 1 f refl, other (r .number) 11 f refl, other (r .number) 12 f refl, other (r .number) 13 f refl, other (r .number) 14 f refl, other (r .number) 15 f refl)
+    rw (
+      other (r .number) 1 f refl,
+      other (r .number) 11 f refl,
+      other (r .number) 12 f refl,
+      other (r .number) 13 f refl,
+      other (r .number) 14 f refl,
+      other (r .number) 15 f refl,
+    )
 
 -- an end asked decides nothing
 ending-undecided : (f : Phase) (s : Scan) → decided (endingRow f s .number) ≡ false
@@ -61,7 +75,8 @@ ending-undecided Escape s = refl
 
 asked-undecided : (limit : ℕ) (r : State) → decided (finishOf limit r .row .number) ≡ false
 asked-undecided limit r =
-    by-test (λ (y : Reply). decided (y .row .number) ≡ false) (inRangeOf limit (r .scan)) (λ e. ending-undecided (r .scan .phase) (r .scan)) (λ e. refl)
+    by-test (λ (y : Reply). decided (y .row .number) ≡ false) (inRangeOf limit (r .scan))
+    (λ e. ending-undecided (r .scan .phase) (r .scan)) (λ e. refl)
 
 -- ---- an answer that decides has the line's text
 
@@ -79,7 +94,8 @@ entry-text e h =
     same-picked (eqb (e .row .number) 1) _ _ _
     (λ t.
     let frame = eqb-true (e .row .number) 1 t in
-    let held : heldUnder (e .row .number) (e .after .body) ≡ frontBody (e .after .body) = ap (λ (n : ℕ). heldUnder n (e .after .body)) frame in
+    let held : heldUnder (e .row .number) (e .after .body) ≡ frontBody (e .after .body) =
+    ap (λ (n : ℕ). heldUnder n (e .after .body)) frame in
     let long : 5 ≤ lengthOf (e .after .body) = rw (held, front-length (e .after .body)) at (h frame) in
     rw (held, parts-front (e .after .body) long))
 
@@ -93,7 +109,8 @@ one-more : (e : Entry) (ls : List Line) (text : List ℕ) → (AllLong ls → te
     → (t : Bool) → decided (e .row .number) ≡ t → AllLong (cond t (lineIn e ∷ ls) ls)
     → answerText (e .row) (e .after .body) ++ text ≡ linesText (cond t (lineIn e ∷ ls) ls)
 unfolding linesText
-one-more e ls text f true d h = rw (entry-text e (h (lineIn e) (List·Memᴰ·head refl)), f (λ l m. h l (List·Memᴰ·tail m)))
+one-more e ls text f true d h =
+    rw (entry-text e (h (lineIn e) (List·Memᴰ·head refl)), f (λ l m. h l (List·Memᴰ·tail m)))
 one-more e ls text f false d h = rw (no-line (e .row) (e .after .body) d) (f h)
 
 none-more : (l : Line) (ls : List Line) (text : List ℕ) → (AllLong ls → text ≡ linesText ls)
@@ -124,4 +141,5 @@ frame-long limit raw body n (is-sum b e f w g h i j) one = absurd (omega arith)
 pub each-listed : EachListed
 each-listed limit small calls =
     listed limit calls (freshOf limit)
-    (λ l m. let line = each-line limit small calls .sound l m in frame-long limit (line .raw) (l .body) (l .number) (line .decides))
+    (λ l m. let line = each-line limit small calls .sound l m in
+    frame-long limit (line .raw) (l .body) (l .number) (line .decides))

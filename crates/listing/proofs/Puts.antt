@@ -73,12 +73,14 @@ module _ (l : List ℕ) (i : ℕ) (h : i < length l) where
   unfolding columnsOf
   columns-left = rw (add-one, drop-cons l i 0)
 
-  pub columns-count : length (columnsOf (drop i l)) ≡ 1 + length (decimalOf (getD l i 0)) + length (columnsOf (drop (i + 1) l))
+  pub columns-count : length (columnsOf (drop i l)) ≡ 1 + length (decimalOf (getD l i 0))
+      + length (columnsOf (drop (i + 1) l))
   columns-count = rw (columns-left, length-append) (omega arith)
 
   -- what is put: the space, the number, and the others behind it
   pub columns-put : (out : List ℕ) (next : ℕ)
-      → sets (sets (set out next 32) (next + 1) (decimalOf (getD l i 0))) (next + 1 + length (decimalOf (getD l i 0))) (columnsOf (drop (i + 1) l))
+      → sets (sets (set out next 32) (next + 1) (decimalOf (getD l i 0))) (next + 1 + length (decimalOf (getD l i 0)))
+      (columnsOf (drop (i + 1) l))
       ≡ sets out next (columnsOf (drop i l))
   columns-put out next = rw (columns-left, add-one next, sets-append)
 

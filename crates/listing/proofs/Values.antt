@@ -1,7 +1,9 @@
--- decimal-text, one-decimal: a number's text says the number, in digits alone, with no 0 before others; no other text does. Assumes nothing.
+-- decimal-text, one-decimal: a number's text says the number, in digits alone,
+-- with no 0 before others; no other text does. Assumes nothing.
 use Prim.Native.Nat.{ℕ, zero, suc, _+_, _*_, _-_, _/_, _%_, _≤_, _<_}
 use mathlib.Core.Path.{_≡_, refl, sym, ap, _∙_}
-use mathlib.Core.List.{List, [], _∷_, _++_, append-nil, append-assoc, List·Memᴰ, List·Memᴰ·head, List·Memᴰ·tail, List·Memᴰ·append-cases, List·Memᴰ·eq-of-singleton}
+use mathlib.Core.List.{List, [], _∷_, _++_, append-nil, append-assoc, List·Memᴰ, List·Memᴰ·head, List·Memᴰ·tail}
+use mathlib.Core.List.{List·Memᴰ·append-cases, List·Memᴰ·eq-of-singleton}
 use mathlib.Core.Logic.{⊎-elim}
 use native.Mathlib.Nat.{div-add-mod', mod-lt}
 use native.Mathlib.Omega.{arith}
@@ -70,7 +72,8 @@ decimal-behind m c h g =
     decimal-more (10 * m + c) (omega arith) ∙ rw (q, r)
 
 -- digits behind the digits of a number that is not 0
-decimals-behind : (m : ℕ) (ds : List ℕ) → 1 ≤ m → ((d : ℕ) → List·Memᴰ d ds → IsDigit d) → decimalOf (valueFrom m ds) ≡ decimalOf m ++ ds
+decimals-behind : (m : ℕ) (ds : List ℕ)
+    → 1 ≤ m → ((d : ℕ) → List·Memᴰ d ds → IsDigit d) → decimalOf (valueFrom m ds) ≡ decimalOf m ++ ds
 unfolding valueFrom
 decimals-behind m [] h g = sym (append-nil (decimalOf m))
 decimals-behind m (d ∷ ds) h g =

@@ -16,29 +16,35 @@ use Rattle.base.proofs.Rising.{RisingFrom, same-members}
 use Rattle.frame.proofs.Sender.{sent-whole}
 use Rattle.frame.proofs.Lines.{each-line, end-told}
 use Rattle.listing.specs.Lines.{headingText, answerText, lastOf}
-use Rattle.listing.specs.Claims.{textsOf, givenText, linesText, listingOf, OnlyGive, WholeListing, OneListing, AnyCuts, SentListing}
+use Rattle.listing.specs.Claims.{textsOf, givenText, linesText, listingOf, OnlyGive, WholeListing, OneListing}
+use Rattle.listing.specs.Claims.{AnyCuts, SentListing}
 use Rattle.listing.proofs.Listed.{each-listed}
 
 -- ---- the listing of calls that give bytes, and the end asked behind them
 
 -- the text of them all is that of the bytes given, and the last line
 texts : (limit : ℕ) (calls : List Call) (r : State) → OnlyGive calls
-    → textsOf (logOf limit r (calls ++ ask ∷ [])) ≡ givenText (logOf limit r calls) ++ lastOf (finishOf limit (stateAfter limit r calls) .row)
+    → textsOf (logOf limit r (calls ++ ask ∷ [])) ≡ givenText (logOf limit r calls)
+    ++ lastOf (finishOf limit (stateAfter limit r calls) .row)
 unfolding logOf stateAfter textsOf givenText
 texts limit [] r h = append-nil (lastOf (finishOf limit r .row))
 texts limit (give bytes ∷ cs) r h =
     let y : Reply = feedOf limit r bytes in
     ap (λ (l : List ℕ). answerText (y .row) (y .state .body) ++ l) (texts limit cs (y .state) h)
-    ∙ sym (append-assoc (answerText (y .row) (y .state .body)) (givenText (logOf limit (y .state) cs)) (lastOf (finishOf limit (stateAfter limit (y .state) cs) .row)))
+    ∙ sym (append-assoc (answerText (y .row) (y .state .body)) (givenText (logOf limit (y .state) cs))
+    (lastOf (finishOf limit (stateAfter limit (y .state) cs) .row)))
 texts limit (ask ∷ cs) r h = absurd h
 
 -- the same with the heading, and with the lines over the stream
-listing-is : (limit : ℕ) → limit ≤ widest → (calls : List Call) → OnlyGive calls → (y : Reply) → finishOf limit (stateAfter limit (freshOf limit) calls) ≡ y
-    → listingOf limit (calls ++ ask ∷ []) ≡ headingText ++ (linesText (linesOf (logOf limit (freshOf limit) calls)) ++ lastOf (y .row))
+listing-is : (limit : ℕ) → limit ≤ widest → (calls : List Call) → OnlyGive calls → (y : Reply)
+    → finishOf limit (stateAfter limit (freshOf limit) calls) ≡ y
+    → listingOf limit (calls ++ ask ∷ []) ≡ headingText
+    ++ (linesText (linesOf (logOf limit (freshOf limit) calls)) ++ lastOf (y .row))
 listing-is limit small calls h y e =
     ap (λ (l : List ℕ). headingText ++ l)
     (texts limit calls (freshOf limit) h
-    ∙ ap (λ (l : List ℕ). l ++ lastOf (finishOf limit (stateAfter limit (freshOf limit) calls) .row)) (each-listed limit small calls)
+    ∙ ap (λ (l : List ℕ). l ++ lastOf (finishOf limit (stateAfter limit (freshOf limit) calls) .row))
+    (each-listed limit small calls)
     ∙ ap (λ (z : Reply). linesText (linesOf (logOf limit (freshOf limit) calls)) ++ lastOf (z .row)) e)
 
 pub whole-listing : WholeListing
@@ -64,7 +70,8 @@ lines-rise m (l ∷ ls) h = (h .0, lines-rise (l .start + 1) ls (h .1))
 
 one-lines : (limit : ℕ) (t : List ℕ) (a b : List Line) → Answers limit t a → Answers limit t b → a ≡ b
 one-lines limit t a b p q =
-    same-members startOf 0 0 a b (lines-rise 0 a (p .rising)) (lines-rise 0 b (q .rising)) (λ l k. q .complete l (p .sound l k)) (λ l k. p .complete l (q .sound l k))
+    same-members startOf 0 0 a b (lines-rise 0 a (p .rising)) (lines-rise 0 b (q .rising))
+    (λ l k. q .complete l (p .sound l k)) (λ l k. p .complete l (q .sound l k))
 
 -- ---- a stream has one listing
 
@@ -77,7 +84,8 @@ pub one-listing : OneListing
 one-listing limit t a b p q =
     let lines : p .lines ≡ q .lines = one-lines limit t (p .lines) (q .lines) (p .answers) (q .answers) in
     tested a b (λ differ.
-    let none : (start : ℕ) → IsOpen limit t start → ⊥ = λ start o. differ (p .left-open start o ∙ rw lines (sym (q .left-open start o))) in
+    let none : (start : ℕ) → IsOpen limit t start → ⊥ =
+    λ start o. differ (p .left-open start o ∙ rw lines (sym (q .left-open start o))) in
     differ (p .left-clean none ∙ rw lines (sym (q .left-clean none))))
 
 -- ---- a sender only gives: calls behind others, bytes until they are taken, all pieces
@@ -90,27 +98,33 @@ only-joined (ask ∷ a) b p q = absurd p
 only-offered : (limit n : ℕ) (r : State) (bytes : List ℕ) → OnlyGive (offer limit n r bytes)
 unfolding offer
 only-offered limit zero r bytes = tt
-only-offered limit (suc n) r bytes = only-offered limit n (feedOf limit r bytes .state) (drop (countOf (feedOf limit r bytes .row)) bytes)
+only-offered limit (suc n) r bytes =
+    only-offered limit n (feedOf limit r bytes .state) (drop (countOf (feedOf limit r bytes .row)) bytes)
 
 only-sent : (limit : ℕ) (pieces : List (List ℕ)) (r : State) → OnlyGive (send limit r pieces)
 unfolding send
 only-sent limit [] r = tt
 only-sent limit (p ∷ ps) r =
     let cs : List Call = offer limit (length p) r p in
-    only-joined cs (send limit (stateAfter limit r cs) ps) (only-offered limit (length p) r p) (only-sent limit ps (stateAfter limit r cs))
+    only-joined cs (send limit (stateAfter limit r cs) ps) (only-offered limit (length p) r p)
+    (only-sent limit ps (stateAfter limit r cs))
 
 -- all of its bytes are taken
-sent-stream : (limit : ℕ) → limit ≤ widest → (pieces : List (List ℕ)) → length (joined pieces) ≤ 2 ^ 62 → stream (logOf limit (freshOf limit) (send limit (freshOf limit) pieces)) ≡ joined pieces
+sent-stream : (limit : ℕ) → limit ≤ widest → (pieces : List (List ℕ)) → length (joined pieces) ≤ 2 ^ 62
+    → stream (logOf limit (freshOf limit) (send limit (freshOf limit) pieces)) ≡ joined pieces
 unfolding logOf stateAfter stream
 sent-stream limit small pieces room = sent-whole limit small [] pieces (omega arith)
 
 pub sent-listing : SentListing
 sent-listing limit small pieces room =
-    rw (sent-stream limit small pieces room) at (whole-listing limit small (send limit (freshOf limit) pieces) (only-sent limit pieces (freshOf limit)))
+    rw (sent-stream limit small pieces room) at (whole-listing limit small (send limit (freshOf limit) pieces)
+    (only-sent limit pieces (freshOf limit)))
 
 pub any-cut : AnyCuts
 any-cut limit small =
     record {
-      calls = λ ps qs p q e. one-listing limit _ _ _ (whole-listing limit small ps p) (rw e (whole-listing limit small qs q));
-      pieces = λ ps qs e room. one-listing limit _ _ _ (sent-listing limit small ps room) (rw e (sent-listing limit small qs (rw e at room)));
+      calls = λ ps qs p q e. one-listing limit _ _ _ (whole-listing limit small ps p)
+          (rw e (whole-listing limit small qs q));
+      pieces = λ ps qs e room. one-listing limit _ _ _ (sent-listing limit small ps room)
+          (rw e (sent-listing limit small qs (rw e at room)));
     }

@@ -49,7 +49,8 @@ RowsTell = (a b : Lined) → linedRowOf a ≡ linedRowOf b → a ≡ b
 abbrev pub Within : Type 0
 Within = (text out : List ℕ) → writtenIn (placed text out .row) ≤ length out
 
--- ---- longest: where places are below 2^64 and a body's values are bytes, no line is longer than 132 bytes, so an output of so many has room for any
+-- ---- longest: where places are below 2^64 and a body's values are bytes, no line is longer than 132 bytes,
+-- so an output of so many has room for any
 
 -- each number of a list is below a bound
 abbrev pub Below : ℕ → List ℕ → Type 0
@@ -58,7 +59,8 @@ Below m (n ∷ l) = (n < m) × Below m l
 
 -- the line of each answer, the last line and the heading
 pub record Longest : Type 0 where
-  pub lines : (r : Row) (body : List ℕ) → Below (2 ^ 64) (placesOf r) → ((i : ℕ) → getD body i 0 < 256) → length (answerText r body) ≤ 132
+  pub lines : (r : Row) (body : List ℕ)
+      → Below (2 ^ 64) (placesOf r) → ((i : ℕ) → getD body i 0 < 256) → length (answerText r body) ≤ 132
   pub lasts : (r : Row) → Below (2 ^ 64) (r .values) → length (lastOf r) ≤ 132
   pub heading : length headingText ≤ 132
 
@@ -90,18 +92,24 @@ paperStream =
 abbrev pub PaperListing : Type 0
 PaperListing =
     listingOf frameLimit (offer frameLimit 3 (freshOf frameLimit) paperStream ++ ask ∷ [])
-    ≡ ascii "kind start end cmd sn flags payload\nframe 1 10 7 1 0 0\ncut 10 17 - - - -\nframe 15 25 7 243 0 0\nclean 25\n"
+    ≡ ascii
+    "kind start end cmd sn flags payload\nframe 1 10 7 1 0 0\ncut 10 17 - - - -\nframe 15 25 7 243 0 0\nclean 25\n"
 
 -- ---- each-kind: a listing for each kind of line that the paper's example lacks
 pub record EachKind : Type 0 where
-  pub short : listingOf frameLimit (give (0xFF ∷ 0xFF ∷ 0x00 ∷ 0x04 ∷ []) ∷ ask ∷ []) ≡ headingText ++ ascii "short 0 4 - - - -\nclean 4\n"
-  pub long : listingOf frameLimit (give (0xFF ∷ 0xFF ∷ 0xFF ∷ 0x55 ∷ 0x00 ∷ []) ∷ ask ∷ []) ≡ headingText ++ ascii "long 1 5 - - - -\nclean 5\n"
-  pub stuff : listingOf frameLimit (give (0xFF ∷ 0xFF ∷ 0x00 ∷ 0x05 ∷ 0x07 ∷ 0xFF ∷ 0x00 ∷ []) ∷ ask ∷ []) ≡ headingText ++ ascii "stuff 0 7 - - - -\nclean 7\n"
-  pub sum : listingOf frameLimit (give (0xFF ∷ 0xFF ∷ 0x00 ∷ 0x05 ∷ 0x07 ∷ 0x01 ∷ 0x00 ∷ 0x00 ∷ 0x0E ∷ []) ∷ ask ∷ []) ≡ headingText ++ ascii "sum 0 9 - - - -\nclean 9\n"
-  pub left-open : listingOf frameLimit (give (0xFF ∷ 0xFF ∷ 0xFF ∷ 0x00 ∷ 0x05 ∷ []) ∷ ask ∷ []) ≡ headingText ++ ascii "open 1\n"
+  pub short : listingOf frameLimit (give (0xFF ∷ 0xFF ∷ 0x00 ∷ 0x04 ∷ []) ∷ ask ∷ []) ≡ headingText
+      ++ ascii "short 0 4 - - - -\nclean 4\n"
+  pub long : listingOf frameLimit (give (0xFF ∷ 0xFF ∷ 0xFF ∷ 0x55 ∷ 0x00 ∷ []) ∷ ask ∷ []) ≡ headingText
+      ++ ascii "long 1 5 - - - -\nclean 5\n"
+  pub stuff : listingOf frameLimit (give (0xFF ∷ 0xFF ∷ 0x00 ∷ 0x05 ∷ 0x07 ∷ 0xFF ∷ 0x00 ∷ []) ∷ ask ∷ []) ≡ headingText
+      ++ ascii "stuff 0 7 - - - -\nclean 7\n"
+  pub sum : listingOf frameLimit (give (0xFF ∷ 0xFF ∷ 0x00 ∷ 0x05 ∷ 0x07 ∷ 0x01 ∷ 0x00 ∷ 0x00 ∷ 0x0E ∷ []) ∷ ask ∷ [])
+      ≡ headingText ++ ascii "sum 0 9 - - - -\nclean 9\n"
+  pub left-open : listingOf frameLimit (give (0xFF ∷ 0xFF ∷ 0xFF ∷ 0x00 ∷ 0x05 ∷ []) ∷ ask ∷ [])
+      ≡ headingText ++ ascii "open 1\n"
 
--- ---- each-listed: of every list of calls of a fresh reader, the lines' text is that of the table's lines over the bytes taken, in order: frame's claim
--- `each-line` says that `linesOf` has them all, each once, nothing else
+-- ---- each-listed: of every list of calls of a fresh reader, the lines' text is that of the table's lines over the
+-- bytes taken, in order: frame's claim `each-line` says that `linesOf` has them all, each once, nothing else
 
 -- the text of the answers to bytes given, which stands between the heading and the last line
 abbrev pub givenIn : Call → Entry → List ℕ
@@ -134,8 +142,10 @@ EachListed =
 pub record IsListing (limit : ℕ) (t text : List ℕ) : Type 0 where
   pub lines : List Line
   pub answers : Answers limit t lines
-  pub left-open : (start : ℕ) → IsOpen limit t start → text ≡ headingText ++ (linesText lines ++ lastOf (row 16 (length t ∷ start ∷ [])))
-  pub left-clean : ((start : ℕ) → IsOpen limit t start → ⊥) → text ≡ headingText ++ (linesText lines ++ lastOf (row 2 (length t ∷ [])))
+  pub left-open : (start : ℕ)
+      → IsOpen limit t start → text ≡ headingText ++ (linesText lines ++ lastOf (row 16 (length t ∷ start ∷ [])))
+  pub left-clean : ((start : ℕ) → IsOpen limit t start → ⊥)
+      → text ≡ headingText ++ (linesText lines ++ lastOf (row 2 (length t ∷ [])))
 
 -- the calls give bytes, and none asks the end
 abbrev pub OnlyGive : List Call → Type 0
@@ -159,12 +169,15 @@ SentListing =
     (limit : ℕ) → limit ≤ widest → (pieces : List (List ℕ)) → length (joined pieces) ≤ 2 ^ 62
     → IsListing limit (joined pieces) (listingOf limit (send limit (freshOf limit) pieces ++ ask ∷ []))
 
--- ---- any-cut: the same bytes have the same listing, however they are cut: into calls that took them, or into pieces that are sent
+-- ---- any-cut: the same bytes have the same listing, however they are cut:
+-- into calls that took them, or into pieces that are sent
 pub record AnyCut (limit : ℕ) : Type 0 where
-  pub calls : (ps qs : List Call) → OnlyGive ps → OnlyGive qs → stream (logOf limit (freshOf limit) ps) ≡ stream (logOf limit (freshOf limit) qs)
+  pub calls : (ps qs : List Call)
+      → OnlyGive ps → OnlyGive qs → stream (logOf limit (freshOf limit) ps) ≡ stream (logOf limit (freshOf limit) qs)
       → listingOf limit (ps ++ ask ∷ []) ≡ listingOf limit (qs ++ ask ∷ [])
   pub pieces : (ps qs : List (List ℕ)) → joined ps ≡ joined qs → length (joined ps) ≤ 2 ^ 62
-      → listingOf limit (send limit (freshOf limit) ps ++ ask ∷ []) ≡ listingOf limit (send limit (freshOf limit) qs ++ ask ∷ [])
+      → listingOf limit (send limit (freshOf limit) ps ++ ask ∷ [])
+      ≡ listingOf limit (send limit (freshOf limit) qs ++ ask ∷ [])
 
 -- of every limit
 abbrev pub AnyCuts : Type 0

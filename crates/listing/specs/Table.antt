@@ -12,6 +12,7 @@ abbrev pub linedRowOf : Lined → Row
 linedRowOf (lined.Wrote count) = row 0 (count ∷ [])
 linedRowOf lined.Room = row 22 (0 ∷ [])
 
--- a call that answers r put the text at the front of an output, or answered ROOM; the output is `after` now, and was `out`
+-- a call that answers r put the text at the front of an output, or answered ROOM;
+-- the output is `after` now, and was `out`
 abbrev pub Puts : Lined → List ℕ → List ℕ → List ℕ → Type 0
 Puts r after text out = outcome (linedRowOf r) after ≡ placed text out

@@ -21,7 +21,8 @@ pub fn heading(out: &mut [u8]) -> Lined
 
 // The line of a frame.
 fn frame_line(start: WirePlace, end: WirePlace, body: &[u8], out: &mut [u8]) -> Lined
-    ensures { λ r. ⌜ Puts r (now (out .exit)) (textOf (ascii "frame") ((start .0 ∷ end .0 ∷ []) ++ partsOf (now (body .entry))) (ascii "\n")) (now (out .entry)) ⌝ }
+    ensures { λ r. ⌜ Puts r (now (out .exit)) (textOf (ascii "frame")
+        ((start .0 ∷ end .0 ∷ []) ++ partsOf (now (body .entry))) (ascii "\n")) (now (out .entry)) ⌝ }
 {
     let numbers = [
         start.0,
@@ -37,7 +38,8 @@ fn frame_line(start: WirePlace, end: WirePlace, body: &[u8], out: &mut [u8]) -> 
 // The line of a refused frame.
 fn refused_line(name: &[u8], start: WirePlace, end: WirePlace, out: &mut [u8]) -> Lined
     requires { ⌜ length (now name) ≤ 64 ⌝ }
-    ensures { λ r. ⌜ Puts r (now (out .exit)) (textOf (now (name .entry)) (start .0 ∷ end .0 ∷ []) (ascii " - - - -\n")) (now (out .entry)) ⌝ }
+    ensures { λ r. ⌜ Puts r (now (out .exit))
+        (textOf (now (name .entry)) (start .0 ∷ end .0 ∷ []) (ascii " - - - -\n")) (now (out .entry)) ⌝ }
 {
     put_line(name, &[start.0, end.0], b" - - - -\n", out)
 }
@@ -50,7 +52,8 @@ fn decided_line(
     body: &[u8],
     out: &mut [u8],
 ) -> Lined
-    ensures { λ r. ⌜ Puts r (now (out .exit)) (answerText (decidedRow verdict 0 (start .0) (end .0)) (now (body .entry))) (now (out .entry)) ⌝ }
+    ensures { λ r. ⌜ Puts r (now (out .exit))
+        (answerText (decidedRow verdict 0 (start .0) (end .0)) (now (body .entry))) (now (out .entry)) ⌝ }
 {
     match verdict {
         Verdict::Frame => frame_line(start, end, body, out),
@@ -62,8 +65,8 @@ fn decided_line(
     }
 }
 
-// The line of what the reader said, and of the body that it holds; MORE, STATE and USED have none. Of another body than the one held the
-// contract still says what is listed; paper 01 leaves that free.
+// The line of what the reader said, and of the body that it holds; MORE, STATE and USED have none.
+// Of another body than the one held the contract still says what is listed; paper 01 leaves that free.
 pub fn line(said: Answer, body: &[u8], out: &mut [u8]) -> Lined
     ensures { λ r. ⌜ Puts r (now (out .exit)) (answerText (rowOf said) (now (body .entry))) (now (out .entry)) ⌝ }
 {

@@ -73,7 +73,8 @@ fn put_bytes(out: &mut [u8], at: usize, bytes: &[u8]) -> usize
 // A line at the front of the output, or refused with the output as it was.
 pub(crate) fn put_line(word: &[u8], numbers: &[u64], rest: &[u8], out: &mut [u8]) -> Lined
     requires { ⌜ (length (now word) ≤ 64) × (length (now numbers) ≤ 16) × (length (now rest) ≤ 64) ⌝ }
-    ensures { λ r. ⌜ Puts r (now (out .exit)) (textOf (now (word .entry)) (now (numbers .entry)) (now (rest .entry))) (now (out .entry)) ⌝ }
+    ensures { λ r. ⌜ Puts r (now (out .exit))
+        (textOf (now (word .entry)) (now (numbers .entry)) (now (rest .entry))) (now (out .entry)) ⌝ }
 {
     let size = word.len() + columns_width(numbers) + rest.len();
     if out.len() < size {

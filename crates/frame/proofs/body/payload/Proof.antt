@@ -13,7 +13,8 @@ use Rattle.frame.proofs.body.payload.Statement.{statement}
 use Rattle.frame.proofs.body.payload.Tie as tie
 
 -- the part behind the flags is the payload
-lies : {body r : RefT (List ℕ)} {size : ℕ} → size ≡ lengthOf (now body) - 5 → IsPart body r (min 6 (length (now body))) size
+lies : {body r : RefT (List ℕ)} {size : ℕ}
+    → size ≡ lengthOf (now body) - 5 → IsPart body r (min 6 (length (now body))) size
     → (now r ≡ payloadOf (now body)) × IsPart body r (min 6 (length (now body))) (lengthOf (now body) - 5)
 lies {body} e p = (p .bytes ∙ rw (drop-min, e), rw e at p)
 

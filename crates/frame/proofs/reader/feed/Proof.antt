@@ -32,14 +32,20 @@ sub-if2 c = omega (arith, room (c .before))
 returns-2 : tie.Need-returns-2
 returns-2 c =
     let args = c .before .before .before .before .before .before .args in
-    let over : 2 ^ 62 < args .reader .scan .taken .0 + length (args .bytes .now) = omega (arith, room (c .before .before)) in
+    let over : 2 ^ 62 < args .reader .scan .taken .0 + length (args .bytes .now) =
+    omega (arith, room (c .before .before)) in
     simp (ranged (c .before .before), lt-leb _ _ over)
 
 run-requires : tie.Need-run-requires
 run-requires c κs = omega (arith, room (c .before .before))
 
 returns-3 : tie.Need-returns-3
-returns-3 c = simp (c .run .ensures, ranged (c .before .before .before), le-leb _ _ (run-requires (c .before) (c .run .lifetimes) .room))
+returns-3 c =
+    simp (
+      c .run .ensures,
+      ranged (c .before .before .before),
+      le-leb _ _ (run-requires (c .before) (c .run .lifetimes) .room),
+    )
 
 pub feed-spec : {M : Type 1} → statement M
 feed-spec = tie.close (tie.spec

@@ -11,7 +11,8 @@ use Rattle.frame.proofs.reader.run.Tie as tie
 
 -- the bytes before the i-th decided nothing
 abbrev Inv-loop : tie.InvT-loop
-Inv-loop bytes scan₀ body₀ i₀ scan body i = At frameLimit bytes (record { scan = scanOf scan₀; body = body₀ }) i (record { scan = scanOf scan; body = body })
+Inv-loop bytes scan₀ body₀ i₀ scan body i =
+    At frameLimit bytes (record { scan = scanOf scan₀; body = body₀ }) i (record { scan = scanOf scan; body = body })
 
 abbrev μ-loop : tie.MeasureT-loop
 μ-loop bytes scan₀ body₀ i₀ scan body i = length bytes - i
@@ -21,14 +22,16 @@ loop-again c =
     let event = c .before in
     let step = event .before .before .before .before in
     let loop = step .before .before .before .before .loop in
-    run-on (loop .inv) (omega arith) (step .advance .ensures) (event .before .before .store .ensures) (sym (event .decides .ensures) ∙ c .if2 .left)
+    run-on (loop .inv) (omega arith) (step .advance .ensures) (event .before .before .store .ensures)
+    (sym (event .decides .ensures) ∙ c .if2 .left)
 
 returns-2 : tie.Need-returns-2 Inv-loop μ-loop
 returns-2 c =
     let event = c .before .before .before in
     let step = event .before .before .before .before in
     let loop = step .before .before .before .before .loop in
-    let stop = run-stop (loop .inv) (omega arith) (step .advance .ensures) (event .before .before .store .ensures) (sym (event .decides .ensures) ∙ c .before .before .if2 .taken) in
+    let stop = run-stop (loop .inv) (omega arith) (step .advance .ensures) (event .before .before .store .ensures)
+    (sym (event .decides .ensures) ∙ c .before .before .if2 .taken) in
     sym (stop ∙ simp (c .answered .ensures))
 
 pub run-spec : {M : Type 1} → statement M

@@ -1,4 +1,5 @@
--- `scan::body_byte` goes by the bytes that are there: none, one, or more. Each return has what the call there ensures, and the tests on the way.
+-- `scan::body_byte` goes by the bytes that are there: none, one, or more.
+-- Each return has what the call there ensures, and the tests on the way.
 use borrow.Author.Needs.{needs}
 use Rattle.base.proofs.Tests.{tests}
 use Rattle.frame.proofs.scan.body_byte.Statement.{statement}

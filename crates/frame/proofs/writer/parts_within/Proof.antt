@@ -1,4 +1,5 @@
--- `parts_within` meets its contract: what it measures is the frame's wire form, so it refuses and writes as the definition says.
+-- `parts_within` meets its contract: what it measures is the frame's wire form,
+-- so it refuses and writes as the definition says.
 use Prim.Native.Nat.{ℕ, _+_, _%_, _≤_, _<_}
 use mathlib.Core.Path.{_≡_, ap, _∙_}
 use mathlib.Core.List.{List, [], _∷_, _++_}
@@ -26,7 +27,8 @@ module _ (c : tie.Start) where
   abbrev payload : List ℕ
   payload = joinedParts (c .args .first .now) (c .args .second .now) (c .args .third .now)
 
-  payload-length : length payload ≡ length (c .args .first .now) + (length (c .args .second .now) + length (c .args .third .now))
+  payload-length : length payload ≡ length (c .args .first .now)
+      + (length (c .args .second .now) + length (c .args .third .now))
   payload-length = parts-length (c .args .first .now) (c .args .second .now) (c .args .third .now)
 
   abbrev out : List ℕ
@@ -47,12 +49,20 @@ module _ (c : tie.Start) where
   no-room : length payload + 5 ≤ limit → length out < length (wire body) → outcome (row 22 (0 ∷ [])) out ≡ asked
   no-room h g = rw (le-ltb limit (length payload + 5) h, lt-ltb (length out) (length (wire body)) g)
 
-  done : length payload + 5 ≤ limit → length (wire body) ≤ length out → outcome (row 0 ((0 + length (wire body)) ∷ [])) (sets out 0 (wire body)) ≡ asked
-  done h g = rw (le-ltb limit (length payload + 5) h, le-ltb (length out) (length (wire body)) g, sets-front (wire body) out g, zero-add)
+  done : length payload + 5 ≤ limit → length (wire body) ≤ length out
+      → outcome (row 0 ((0 + length (wire body)) ∷ [])) (sets out 0 (wire body)) ≡ asked
+  done h g =
+      rw (
+        le-ltb limit (length payload + 5) h,
+        le-ltb (length out) (length (wire body)) g,
+        sets-front (wire body) out g,
+        zero-add,
+      )
 
 -- ---- what is sized: the head, the payload and their sum are the frame's body, and the count is that of its wire form
 
-body-parts : (command number flags size : ℕ) (payload head : List ℕ) (sum : ℕ) → size ≡ length payload → head ≡ two (size + 5) (command ∷ number ∷ two flags [])
+body-parts : (command number flags size : ℕ) (payload head : List ℕ) (sum : ℕ)
+    → size ≡ length payload → head ≡ two (size + 5) (command ∷ number ∷ two flags [])
     → sum ≡ (total head + total payload) % 256 → head ++ (payload ++ sum ∷ []) ≡ bodyOf command number flags payload
 unfolding bodyOf
 body-parts command number flags size payload head sum h e f = rw (f, ← total-append, e, h)
@@ -76,7 +86,9 @@ module _ (c : tie.After-sized) where
   head = c .before .head-of .result
 
   whole : head ++ (payload (start within) ++ c .sized .result .sum ∷ []) ≡ body (start within)
-  whole = body-parts _ _ _ _ (payload (start within)) head (c .sized .result .sum) (size within) (c .before .head-of .ensures) (c .sized .ensures .sum-is)
+  whole =
+      body-parts _ _ _ _ (payload (start within)) head (c .sized .result .sum) (size within)
+      (c .before .head-of .ensures) (c .sized .ensures .sum-is)
 
   count : c .sized .result .count ≡ length (wire (body (start within)))
   count = c .sized .ensures .count-is ∙ ap (λ (b : List ℕ). length (wire b)) whole

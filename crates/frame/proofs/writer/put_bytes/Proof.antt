@@ -52,7 +52,8 @@ same-length c = c .before .loop .inv .1
 
 returns : tie.Need-returns Inv-loop μ-loop
 returns c =
-    let none = stuff-none (c .before .before .before .before .args .bytes .now) (c .before .loop .i) (c .loop-test .left) in
+    let none =
+    stuff-none (c .before .before .before .before .args .bytes .now) (c .before .loop .i) (c .loop-test .left) in
     (omega (arith, ap length none), rw none at (c .before .loop .inv .3))
 
 pub put-bytes-spec : {M : Type 1} → statement M

@@ -15,7 +15,8 @@ module _ (s : tie.Start) where
   payload = joinedParts (s .args .first .now) (s .args .second .now) (s .args .third .now)
 
   -- the room that the parts need
-  room : 2 + length (stuff (s .args .t2)) + length (stuff payload) + length (stuff (s .args .sum ∷ [])) ≤ length (s .args .out .now)
+  room : 2 + length (stuff (s .args .t2)) + length (stuff payload)
+      + length (stuff (s .args .sum ∷ [])) ≤ length (s .args .out .now)
   room = omega (arith, framed-length (s .args .t2) payload (s .args .sum))
 
 -- each call, and the function's start, as seen from the one behind it
@@ -53,7 +54,8 @@ returns c =
     let sum = c .before .before in
     let h = head (parts sum) in
     let s = start h in
-    let behind = put-append _ (payload s) (s .args .sum ∷ []) _ (parts sum .put-parts .ensures) (sum .put-byte .ensures) in
+    let behind =
+    put-append _ (payload s) (s .args .sum ∷ []) _ (parts sum .put-parts .ensures) (sum .put-byte .ensures) in
     put-framed (s .args .out .now) _ (put-append _ (s .args .t2) _ 2 (h .put-bytes .ensures) behind)
 
 pub put-frame-spec : {M : Type 1} → statement M

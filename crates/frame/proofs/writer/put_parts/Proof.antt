@@ -10,7 +10,8 @@ use Rattle.frame.proofs.writer.put_parts.Tie as tie
 
 -- the room that the parts need
 module _ (s : tie.Start) where
-  room : s .args .at + (length (stuff (s .args .first .now)) + (length (stuff (s .args .second .now)) + length (stuff (s .args .third .now)))) ≤ length (s .args .out .now)
+  room : s .args .at + (length (stuff (s .args .first .now))
+      + (length (stuff (s .args .second .now)) + length (stuff (s .args .third .now)))) ≤ length (s .args .out .now)
   room = omega (arith, stuffed-length (s .args .first .now) (s .args .second .now) (s .args .third .now))
 
 -- each call, and the function's start, as seen from the one behind it
@@ -33,7 +34,8 @@ returns : tie.Need-returns
 returns c =
     let third = c .before .before in
     let args = start (first (second third)) .args in
-    let rest = put-append _ (args .second .now) (args .third .now) _ (second third .put-bytes2 .ensures) (third .put-bytes3 .ensures) in
+    let rest = put-append _ (args .second .now) (args .third .now) _ (second third .put-bytes2 .ensures)
+    (third .put-bytes3 .ensures) in
     put-append _ (args .first .now) _ _ (first (second third) .put-bytes .ensures) rest
 
 pub put-parts-spec : {M : Type 1} → statement M

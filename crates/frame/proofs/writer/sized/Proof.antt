@@ -27,7 +27,15 @@ module _ (c : tie.Start) where
   -- no count on the way is past these
   small : (length first + (length second + length third) ≤ 2 ^ 17)
       × (length (stuff head) + length (stuff first) + length (stuff second) + length (stuff third) ≤ 2 ^ 19)
-  small = omega (arith, parts-length first second third, stuff-bound head, stuff-bound first, stuff-bound second, stuff-bound third)
+  small =
+      omega (
+        arith,
+        parts-length first second third,
+        stuff-bound head,
+        stuff-bound first,
+        stuff-bound second,
+        stuff-bound third,
+      )
 
 measured-requires-2 : tie.Need-measured-requires-2
 measured-requires-2 c κs = omega (arith, small (c .before .before .before .before .before))
@@ -39,15 +47,25 @@ measured-requires-4 : tie.Need-measured-requires-4
 measured-requires-4 c κs = omega (arith, small (c .before .before .before .before .before .before .before))
 
 add-t14 : tie.Need-add-t14
-add-t14 c = omega (arith, small (c .before .before .before .before .before .before .before .before .before .before), stuff-bound (c .before .before .measured4 .result .sum ∷ []))
+add-t14 c =
+    omega (
+      arith,
+      small (c .before .before .before .before .before .before .before .before .before .before),
+      stuff-bound (c .before .before .measured4 .result .sum ∷ []),
+    )
 
 returns : tie.Need-returns
 returns c =
     let m = c .before .before in
     let s = m .before .before .before .before .before .before .before .before in
-    let payload = sum-append (first s) _ _ (m .before .before .measured2 .ensures .1) (sum-append (second s) (third s) _ (m .before .measured3 .ensures .1) (m .measured4 .ensures .1)) in
+    let payload = sum-append (first s) _ _ (m .before .before .measured2 .ensures .1)
+    (sum-append (second s) (third s) _ (m .before .measured3 .ensures .1) (m .measured4 .ensures .1)) in
     let sum = m .measured4 .result .sum in
-    omega (arith, framed-length (head s) (joinedParts (first s) (second s) (third s)) sum, stuffed-length (first s) (second s) (third s))
+    omega (
+      arith,
+      framed-length (head s) (joinedParts (first s) (second s) (third s)) sum,
+      stuffed-length (first s) (second s) (third s),
+    )
 
 pub sized-spec : {M : Type 1} → statement M
 sized-spec =

@@ -8,13 +8,15 @@ use Rattle.frame.specs.Calls.{writeOf}
 use Rattle.frame.proofs.writer.write_within.Statement.{statement}
 use Rattle.frame.proofs.writer.write_within.Tie as tie
 
-alone : (limit command number flags : ℕ) (payload out : List ℕ) {w : Write} → w ≡ writeOf limit command number flags (payload ++ []) out → w ≡ writeOf limit command number flags payload out
+alone : (limit command number flags : ℕ) (payload out : List ℕ) {w : Write}
+    → w ≡ writeOf limit command number flags (payload ++ []) out → w ≡ writeOf limit command number flags payload out
 alone limit command number flags payload out e = cc (append-nil payload)
 
 returns : tie.Need-returns
 returns c =
     let args = c .before .before .before .before .before .before .before .args in
-    alone (args .limit) (args .command) (args .number) (args .flags) (args .payload .now) (args .out .now) (c .before .before .parts-within .ensures)
+    alone (args .limit) (args .command) (args .number) (args .flags) (args .payload .now) (args .out .now)
+    (c .before .before .parts-within .ensures)
 
 pub write-within-spec : {M : Type 1} → statement M
 write-within-spec =

@@ -1,4 +1,5 @@
--- `list::live::feed_all` is safe and ends: no call counts more than was offered, and each turn takes a byte or returns. Assumes nothing.
+-- `list::live::feed_all` is safe and ends: no call counts more than was offered, and each turn takes a byte or returns.
+-- Assumes nothing.
 use Prim.Native.Nat.{ℕ, _+_, _-_, _≤_}
 use mathlib.Core.Path.{_≡_, ap, _∙_}
 use mathlib.Core.List.{List}
@@ -14,7 +15,8 @@ use Rattle.list.proofs.live.feed_all.Statement.{statement}
 use Rattle.list.proofs.live.feed_all.Tie as tie
 
 abbrev Inv-loop : tie.InvT-loop
-Inv-loop bytes out₀ next₀ at₀ used₀ out next at used = (at ≤ length bytes) × (used ≤ length out) × (length out ≡ length out₀)
+Inv-loop bytes out₀ next₀ at₀ used₀ out next at used =
+    (at ≤ length bytes) × (used ≤ length out) × (length out ≡ length out₀)
 
 abbrev μ-loop : tie.MeasureT-loop
 μ-loop bytes out₀ next₀ at₀ used₀ out next at used = length bytes - at
@@ -31,7 +33,12 @@ module _ (c : tie.After-count Inv-loop μ-loop) where
   taken =
       let left = take (length bytes - at) (drop at bytes) in
       let told = c .count .ensures ∙ ap (λ (y : Reply). countOf (y .row)) (c .before .before .feed .ensures) in
-      omega (arith, told, within frameLimit (stateOf (c .before .before .before .before .before .loop .next)) left, length-take (length bytes - at) (drop at bytes))
+      omega (
+        arith,
+        told,
+        within frameLimit (stateOf (c .before .before .before .before .before .loop .next)) left,
+        length-take (length bytes - at) (drop at bytes),
+      )
 
 add-at : tie.Need-add-at Inv-loop μ-loop
 add-at c = omega (arith, taken (c .before))

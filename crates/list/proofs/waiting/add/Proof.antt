@@ -18,7 +18,12 @@ returns c =
     let behind = drop (args .used) (args .out .now) in
     let left = take (length (args .out .now) - args .used) behind in
     let told = ap (λ (w : Write). writtenIn (w .row)) (line .line .ensures) in
-    omega (arith, told, within (answerText (rowOf (args .answer)) (args .body .now)) left, length-take (length (args .out .now) - args .used) behind)
+    omega (
+      arith,
+      told,
+      within (answerText (rowOf (args .answer)) (args .body .now)) left,
+      length-take (length (args .out .now) - args .used) behind,
+    )
 
 pub add-spec : {M : Type 1} → statement M
 add-spec =

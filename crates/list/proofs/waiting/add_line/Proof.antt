@@ -8,7 +8,8 @@ use Rattle.list.proofs.waiting.add_line.Tie as tie
 
 -- the line's end is in the buffer
 fits : (c : tie.After-known-told)
-    → c .before .before .before .before .before .before .before .before .before .args .used + c .before .count .given .0 .0
+    → c .before .before .before .before .before .before .before .before .before .args .used
+    + c .before .count .given .0 .0
     ≤ length (c .before .before .before .before .before .before .before .before .before .args .out .now)
 fits c = rw (c .before .count .given .1) at (c .before .before .before .before .before .add .ensures)
 
@@ -24,6 +25,7 @@ add-line-spec =
     (tie.spec
     (λ c κs. search needs) (λ c. search needs)
     add-t10
-    (λ c. search needs) (λ c κs. search needs) (λ c. search needs) (λ c. search needs) (λ c κs. search needs) (λ c. search needs)
+    (λ c. search needs) (λ c κs. search needs) (λ c. search needs) (λ c. search needs)
+    (λ c κs. search needs) (λ c. search needs)
     returns-2
     (λ c. search needs) (λ c. search needs))

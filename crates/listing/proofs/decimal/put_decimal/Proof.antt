@@ -1,4 +1,5 @@
--- `put_decimal` meets its contract. The loop's invariant: the digits of the rest, put before those that were put, complete what was asked.
+-- `put_decimal` meets its contract. The loop's invariant: the digits of the rest,
+-- put before those that were put, complete what was asked.
 use Prim.Native.Nat.{_+_, _/_, _<_}
 use mathlib.Core.Path.{_≡_, refl, _∙_}
 use native.Mathlib.Nat.{div-lt-self}
@@ -14,7 +15,8 @@ use Rattle.listing.proofs.decimal.put_decimal.Tie as tie
 
 abbrev Inv-loop : tie.InvT-loop
 Inv-loop out₀ at n end rest₀ i₀ out rest i =
-    (i < length out₀) × (i + 1 ≡ at + length (decimalOf rest)) × (length out ≡ length out₀) × (sets out at (decimalOf rest) ≡ sets out₀ at (decimalOf n))
+    (i < length out₀) × (i + 1 ≡ at + length (decimalOf rest)) × (length out ≡ length out₀)
+    × (sets out at (decimalOf rest) ≡ sets out₀ at (decimalOf n))
 
 abbrev μ-loop : tie.MeasureT-loop
 μ-loop out₀ at n end rest₀ i₀ out rest i = rest
@@ -54,8 +56,12 @@ loop-again : tie.Need-loop-again Inv-loop μ-loop
 loop-again c =
     let loop = c .before .loop in
     let more = count-more (loop .rest) (c .loop-test .taken) in
-    let least = count-least (loop .rest / 10) in
-    (omega arith, omega arith, rw length-set (loop .inv .2), digits-back _ _ (loop .rest) _ (loop .inv .1) (c .loop-test .taken) ∙ loop .inv .3)
+    let least = count-least (loop .rest / 10) in (
+      omega arith,
+      omega arith,
+      rw length-set (loop .inv .2),
+      digits-back _ _ (loop .rest) _ (loop .inv .1) (c .loop-test .taken) ∙ loop .inv .3,
+    )
 
 cast-out-2 : tie.Need-cast-out-2 Inv-loop μ-loop
 cast-out-2 c = omega arith

@@ -1,4 +1,5 @@
--- `width` meets its contract. The loop's invariant: the digits counted and those of the rest are one more than the number's.
+-- `width` meets its contract. The loop's invariant:
+-- the digits counted and those of the rest are one more than the number's.
 use Prim.Native.Nat.{_+_, _≤_}
 use mathlib.Core.Path.{_≡_}
 use native.Mathlib.Nat.{div-lt-self}
@@ -10,7 +11,8 @@ use Rattle.listing.proofs.decimal.width.Statement.{statement}
 use Rattle.listing.proofs.decimal.width.Tie as tie
 
 abbrev Inv-loop : tie.InvT-loop
-Inv-loop n rest₀ count₀ rest count = (count + length (decimalOf rest) ≡ length (decimalOf n) + 1) × (length (decimalOf n) ≤ 20)
+Inv-loop n rest₀ count₀ rest count =
+    (count + length (decimalOf rest) ≡ length (decimalOf n) + 1) × (length (decimalOf n) ≤ 20)
 
 abbrev μ-loop : tie.MeasureT-loop
 μ-loop n rest₀ count₀ rest count = rest

@@ -26,13 +26,15 @@ returns c =
     let number = flags .before in
     let command = number .before in
     let args = command .before .before .before .args in
-    same-line (args .out .now) (args .body .now) (args .start .0) (args .end .0) (c .before .before .put-line .ensures) (command .command .ensures) (number .number .ensures)
+    same-line (args .out .now) (args .body .now) (args .start .0) (args .end .0) (c .before .before .put-line .ensures)
+    (command .command .ensures) (number .number .ensures)
     (flags .flags .ensures) (ap length (payload .payload .ensures .0))
 
 pub frame-line-spec : {M : Type 1} → statement M
 frame-line-spec =
     tie.close
     (tie.spec
-    (λ c κs. search needs) (λ c. search needs) (λ c κs. search needs) (λ c. search needs) (λ c κs. search needs) (λ c. search needs) (λ c κs. search needs)
+    (λ c κs. search needs) (λ c. search needs) (λ c κs. search needs) (λ c. search needs) (λ c κs. search needs)
+    (λ c. search needs) (λ c κs. search needs)
     (λ c. search needs) (λ c. search needs) (λ c. search needs) (λ c κs. search needs) (λ c. search needs)
     returns)

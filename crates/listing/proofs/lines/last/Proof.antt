@@ -5,10 +5,14 @@ use Rattle.listing.proofs.lines.last.Statement.{statement}
 use Rattle.listing.proofs.lines.last.Tie as tie
 
 returns : tie.Need-returns
-returns c = rw (c .before .before .before .before .before .before .before .before .said .given .1) (c .before .before .put-line .ensures)
+returns c =
+    rw (c .before .before .before .before .before .before .before .before .said .given .1)
+    (c .before .before .put-line .ensures)
 
 returns-2 : tie.Need-returns-2
-returns-2 c = rw (c .before .before .before .before .before .before .before .before .said2 .given .1) (c .before .before .put-line2 .ensures)
+returns-2 c =
+    rw (c .before .before .before .before .before .before .before .before .said2 .given .1)
+    (c .before .before .put-line2 .ensures)
 
 returns-3 : tie.Need-returns-3
 returns-3 c = rw (c .enum-told .given .1) (nothing-put (c .before .before .before .args .out .now))

@@ -8,8 +8,10 @@ pub line-spec : {M : Type 1} → statement M
 line-spec =
     tie.close
     (tie.spec
-    (λ c. search needs) (λ c κs. search needs) (λ c. search needs) (λ c. search needs) (λ c. search needs) (λ c. search needs)
-    (λ c. let call = c .before .before in rw (call .before .before .before .said .given .1) (call .decided-line .ensures))
+    (λ c. search needs) (λ c κs. search needs) (λ c. search needs) (λ c. search needs)
+    (λ c. search needs) (λ c. search needs)
+    (λ c. let call = c .before .before in rw (call .before .before .before .said .given .1)
+    (call .decided-line .ensures))
     (λ c. rw (c .enum-told .given .1) (nothing-put (c .before .before .before .before .args .out .now)))
     (λ c. rw (c .enum-told2 .given .1) (nothing-put (c .before .before .before .before .args .out .now)))
     λ c. rw (c .enum-told3 .given .1) (nothing-put (c .before .before .before .before .args .out .now)))

@@ -43,12 +43,14 @@ loop-less c = omega arith
 loop-again : tie.Need-loop-again Inv-loop μ-loop
 loop-again c =
     let loop = c .before .before .before .loop in
-    let left = columns-count (c .before .before .before .before .before .args .numbers .now) (loop .i) (c .before .before .loop-test .taken) in
+    let left = columns-count (c .before .before .before .before .before .args .numbers .now) (loop .i)
+    (c .before .before .loop-test .taken) in
     (omega arith, omega arith, omega arith)
 
 returns : tie.Need-returns Inv-loop μ-loop
 returns c =
-    let none = ap length (columns-none (c .before .before .before .args .numbers .now) (c .before .loop .i) (c .loop-test .left)) in
+    let none = ap length (columns-none (c .before .before .before .args .numbers .now)
+    (c .before .loop .i) (c .loop-test .left)) in
     (omega arith, omega arith)
 
 pub columns-width-spec : {M : Type 1} → statement M

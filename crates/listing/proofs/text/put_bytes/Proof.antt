@@ -1,4 +1,5 @@
--- `put_bytes` meets its contract. The loop's invariant: what is left, put behind what was put, completes what was asked.
+-- `put_bytes` meets its contract. The loop's invariant:
+-- what is left, put behind what was put, completes what was asked.
 use Prim.Native.Nat.{_+_, _-_, _≤_}
 use mathlib.Core.Path.{_≡_, refl, sym, _∙_}
 use native.Mathlib.Omega.{arith}
@@ -36,8 +37,11 @@ loop-less c = omega arith
 loop-again : tie.Need-loop-again Inv-loop μ-loop
 loop-again c =
     let loop = c .before .before .loop in
-    let start = c .before .before .before .args in
-    (omega arith, rw length-set (loop .inv .1), put-next (start .bytes .now) (loop .out) (start .at) (loop .i) (c .before .loop-test .taken) ∙ loop .inv .2)
+    let start = c .before .before .before .args in (
+      omega arith,
+      rw length-set (loop .inv .1),
+      put-next (start .bytes .now) (loop .out) (start .at) (loop .i) (c .before .loop-test .taken) ∙ loop .inv .2,
+    )
 
 add-result : tie.Need-add-result Inv-loop μ-loop
 add-result c = omega arith
@@ -48,8 +52,10 @@ same-length c = c .before .loop .inv .1
 returns : tie.Need-returns Inv-loop μ-loop
 returns c =
     let loop = c .before .loop in
-    let start = c .before .before .args in
-    (omega arith, sym (put-none (start .bytes .now) (loop .out) (start .at) (loop .i) (c .loop-test .left)) ∙ loop .inv .2)
+    let start = c .before .before .args in (
+      omega arith,
+      sym (put-none (start .bytes .now) (loop .out) (start .at) (loop .i) (c .loop-test .left)) ∙ loop .inv .2,
+    )
 
 pub put-bytes-spec : {M : Type 1} → statement M
 put-bytes-spec =

@@ -39,7 +39,8 @@ shared-slice-read-put-decimal c = omega arith
 put-decimal-requires : tie.Need-put-decimal-requires Inv-loop μ-loop
 put-decimal-requires c κs =
     let loop = c .before .before .before .loop in
-    let left = columns-count (c .before .before .before .before .before .before .args .numbers .now) (loop .i) (c .before .before .loop-test .taken) in
+    let left = columns-count (c .before .before .before .before .before .before .args .numbers .now) (loop .i)
+    (c .before .before .loop-test .taken) in
     rw length-set (omega arith)
 
 add-i : tie.Need-add-i Inv-loop μ-loop
@@ -54,8 +55,12 @@ loop-again c =
     let loop = c .before .before .before .before .before .before .loop in
     let inside = c .before .before .before .before .before .loop-test .taken in
     let put = c .before .before .put-decimal .ensures in
-    let left = columns-count numbers (loop .i) inside in
-    (omega arith, c .before .before .put-decimal .kept .0 ∙ rw length-set (loop .inv .1), omega arith, rw (put .0, put .1) (columns-put numbers (loop .i) inside (loop .out) (loop .next) ∙ loop .inv .3))
+    let left = columns-count numbers (loop .i) inside in (
+      omega arith,
+      c .before .before .put-decimal .kept .0 ∙ rw length-set (loop .inv .1),
+      omega arith,
+      rw (put .0, put .1) (columns-put numbers (loop .i) inside (loop .out) (loop .next) ∙ loop .inv .3),
+    )
 
 same-length : tie.Need-same-length Inv-loop μ-loop
 same-length c = c .before .loop .inv .1

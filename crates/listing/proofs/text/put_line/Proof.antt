@@ -1,4 +1,5 @@
--- `put_line` meets its contract: what it measures is the text's length, and what it puts, one part behind the other, is the text.
+-- `put_line` meets its contract: what it measures is the text's length,
+-- and what it puts, one part behind the other, is the text.
 use Prim.Native.Nat.{ℕ, _+_, _≤_}
 use mathlib.Core.Path.{_≡_}
 use mathlib.Core.List.{List, _++_}
@@ -17,7 +18,8 @@ module _ (c : tie.Start) where
   abbrev text : List ℕ
   text = textOf (c .args .word .now) (c .args .numbers .now) (c .args .rest .now)
 
-  text-length : length text ≡ length (c .args .word .now) + (length (columnsOf (c .args .numbers .now)) + length (c .args .rest .now))
+  text-length : length text ≡ length (c .args .word .now)
+      + (length (columnsOf (c .args .numbers .now)) + length (c .args .rest .now))
   text-length = simp length-append
 
 returns : tie.Need-returns
@@ -33,7 +35,8 @@ returns-2 c =
     let word = behind .before .before .before .before .put-bytes .ensures in
     let s = behind .before .before .before .before .before .before .before .before .before .before .before .before in
     let columns = columnsOf (s .args .numbers .now) in
-    let whole = put-join (s .args .out .now) (s .args .word .now) (columns ++ s .args .rest .now) 0 word (put-join _ columns (s .args .rest .now) _ numbers last) in
+    let whole = put-join (s .args .out .now) (s .args .word .now) (columns ++ s .args .rest .now) 0 word
+    (put-join _ columns (s .args .rest .now) _ numbers last) in
     let fits : length (text s) ≤ length (s .args .out .now) = omega (arith, text-length s) in
     rw (whole .0, zero-add, whole .1) (fitting (text s) (s .args .out .now) fits)
 
