@@ -1,5 +1,5 @@
 -- What each call answers and leaves: a command offered, a tick, an answer that arrived. `first` is the first number and `most` the most
--- repeats that a command gets; the contracts state 1 and 3.
+-- repeats that a command gets; the contracts state `firstNumber` and `mostRepeats`.
 use Prim.Native.Nat.{ℕ, _+_}
 use mathlib.Core.Bool.{Bool, true, cond, _&&_}
 use lib.Dec.{ltb, leb}

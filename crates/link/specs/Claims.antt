@@ -10,7 +10,7 @@ use Rattle.base.specs.Keys.{among}
 use Rattle.message.specs.Commands.{kindOf, isListed, fromBox}
 use Rattle.message.specs.Answers.{dueFor}
 use Rattle.message.specs.declared.replies.Due.the-variants.{Nothing}
-use Rattle.link.specs.Sending.{mayWait, numberAt}
+use Rattle.link.specs.Sending.{firstNumber, mostRepeats, mayWait, numberAt}
 use Rattle.link.specs.Clock.{elapsedOf, isDue}
 use Rattle.link.specs.Table.{nothingRow, againRow, acceptanceRowOf, retryRowOf, arrivalRowOf}
 use Rattle.link.specs.Calls.{freshOf, inRange, offerOf, tickOf}
@@ -86,7 +86,7 @@ pub record Refused (first most : ℕ) (l : Link) (c : Call) : Type 0 where
 abbrev pub RefusedUnchanged : Type 0
 RefusedUnchanged = (first most : ℕ) (l : Link) (c : Call) → Refused first most l c
 
--- ---- link-history: every list of calls of a link that began fresh, for every first number up to 255 and any most repeats; paper 01's are 1 and 3
+-- ---- link-history: every list of calls of a link that began fresh, for every first number up to 255 and any most repeats; paper 01's are `firstNumber` and `mostRepeats`
 abbrev pub LinkHistory : Type 0
 LinkHistory = (first most : ℕ) → first ≤ 255 → (calls : List Call) → History first most (logOf first most (freshOf first) calls)
 
@@ -112,9 +112,9 @@ workedRows =
 
 -- the one is what the other is answered; and the numbers go round at 255
 pub record WorkedRun : Type 0 where
-  pub rows : rowsIn (logOf 1 3 (freshOf 1) workedCalls) ≡ workedRows
-  pub last : numberAt 1 254 ≡ 255
-  pub round : numberAt 1 255 ≡ 1
+  pub rows : rowsIn (logOf firstNumber mostRepeats (freshOf firstNumber) workedCalls) ≡ workedRows
+  pub last : numberAt firstNumber 254 ≡ 255
+  pub round : numberAt firstNumber 255 ≡ 1
 
 -- ---- example-11: "Clock 4,294,967,200, then 104: elapsed 200, due; 103: not due."
 pub record Example11 : Type 0 where
@@ -122,5 +122,5 @@ pub record Example11 : Type 0 where
   pub due : isDue 104 4294967200 ≡ true
   pub not-due : isDue 103 4294967200 ≡ false
   -- the same of a fresh link that is offered a report at the first clock, and then ticked
-  pub again : tickOf 1 3 (offerOf 1 3 (freshOf 1) 0x05 4294967200 .link) 104 .row ≡ againRow 0x05 1
-  pub nothing : tickOf 1 3 (offerOf 1 3 (freshOf 1) 0x05 4294967200 .link) 103 .row ≡ nothingRow
+  pub again : tickOf firstNumber mostRepeats (offerOf firstNumber mostRepeats (freshOf firstNumber) 0x05 4294967200 .link) 104 .row ≡ againRow 0x05 1
+  pub nothing : tickOf firstNumber mostRepeats (offerOf firstNumber mostRepeats (freshOf firstNumber) 0x05 4294967200 .link) 103 .row ≡ nothingRow

@@ -4,7 +4,7 @@ use super::state::Wait;
 use super::state::idle;
 use super::state::in_range;
 ghost use mathlib.Core.Path.{_≡_};
-ghost use Rattle.link.specs.Sending.{fitsOf};
+ghost use Rattle.link.specs.Sending.{firstNumber, mostRepeats, fitsOf};
 ghost use Rattle.link.specs.Calls.{arriveOf, arrivedOf};
 
 // What the caller is told of an answer that arrived.
@@ -34,7 +34,7 @@ fn fits(command: u8, number: u8, waiting: u8, under: u8) -> bool
 
 // An answer of the module arrived, with its command and number.
 pub fn arrive(link: Link, command: u8, number: u8) -> Arrived
-    ensures { λ r. ⌜ arrivedOf r ≡ arriveOf 1 3 link command number ⌝ }
+    ensures { λ r. ⌜ arrivedOf r ≡ arriveOf firstNumber mostRepeats link command number ⌝ }
 {
     if !in_range(link) {
         return Arrived {

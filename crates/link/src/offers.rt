@@ -5,6 +5,7 @@ use super::state::following;
 use super::state::in_range;
 use super::state::may_wait;
 ghost use mathlib.Core.Path.{_≡_};
+ghost use Rattle.link.specs.Sending.{firstNumber, mostRepeats};
 ghost use Rattle.link.specs.Table.{acceptanceRowOf};
 ghost use Rattle.link.specs.Calls.{reply, acceptOf, offerOf, offeredOf};
 
@@ -34,7 +35,7 @@ fn refused(answer: Acceptance, link: Link) -> Offered
 
 // An idle link takes the command under its next number.
 fn accept(next: u8, command: u8, clock: u32) -> Offered
-    ensures { λ r. ⌜ offeredOf r ≡ acceptOf 1 next command clock ⌝ }
+    ensures { λ r. ⌜ offeredOf r ≡ acceptOf firstNumber next command clock ⌝ }
 {
     Offered {
         answer: Acceptance::Accepted { number: next },
@@ -52,7 +53,7 @@ fn accept(next: u8, command: u8, clock: u32) -> Offered
 
 // Offers a command at a reading of the clock. Where it is accepted, the caller sends it under the number returned, and keeps the payload.
 pub fn offer(link: Link, command: u8, clock: u32) -> Offered
-    ensures { λ r. ⌜ offeredOf r ≡ offerOf 1 3 link command clock ⌝ }
+    ensures { λ r. ⌜ offeredOf r ≡ offerOf firstNumber mostRepeats link command clock ⌝ }
 {
     if !in_range(link) {
         return refused(Acceptance::State, link);

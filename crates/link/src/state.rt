@@ -2,7 +2,7 @@
 use super::FIRST_NUMBER;
 use super::MAX_REPEATS;
 ghost use mathlib.Core.Path.{_≡_};
-ghost use Rattle.link.specs.Sending.{mayWait, followingOf};
+ghost use Rattle.link.specs.Sending.{firstNumber, mostRepeats, mayWait, followingOf};
 ghost use Rattle.link.specs.Calls.{freshOf, inRange, idleOf};
 
 // A link, for a box's life.
@@ -25,7 +25,7 @@ pub enum Wait {
 impl Link {
     // A fresh link.
     pub fn new() -> Self
-        ensures { λ r. ⌜ r ≡ freshOf 1 ⌝ }
+        ensures { λ r. ⌜ r ≡ freshOf firstNumber ⌝ }
     {
         Link {
             next: FIRST_NUMBER,
@@ -46,7 +46,7 @@ pub(crate) fn may_wait(command: u8) -> bool
 
 // The sequence number after another.
 pub(crate) fn following(number: u8) -> u8
-    ensures { λ r. ⌜ r ≡ followingOf 1 number ⌝ }
+    ensures { λ r. ⌜ r ≡ followingOf firstNumber number ⌝ }
 {
     if number == 255 {
         return FIRST_NUMBER;
@@ -66,7 +66,7 @@ pub(crate) fn idle(link: Link) -> Link
 
 // Whether each field is in its range.
 pub(crate) fn in_range(link: Link) -> bool
-    ensures { λ r. ⌜ r ≡ inRange 1 3 link ⌝ }
+    ensures { λ r. ⌜ r ≡ inRange firstNumber mostRepeats link ⌝ }
 {
     if link.next < FIRST_NUMBER {
         return false;

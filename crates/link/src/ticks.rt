@@ -6,6 +6,7 @@ use super::state::Wait;
 use super::state::idle;
 use super::state::in_range;
 ghost use mathlib.Core.Path.{_≡_};
+ghost use Rattle.link.specs.Sending.{firstNumber, mostRepeats};
 ghost use Rattle.link.specs.Table.{retryRowOf};
 ghost use Rattle.link.specs.Calls.{reply, retryOf, tickOf, tickedOf};
 
@@ -28,7 +29,7 @@ pub struct Ticked {
 
 // A due tick of a command that was sent again so many times.
 fn due(link: Link, command: u8, number: u8, repeats: u8, clock: u32) -> Ticked
-    ensures { λ r. ⌜ tickedOf r ≡ retryOf 3 link command number repeats clock ⌝ }
+    ensures { λ r. ⌜ tickedOf r ≡ retryOf mostRepeats link command number repeats clock ⌝ }
 {
     if repeats < MAX_REPEATS {
         return Ticked {
@@ -52,7 +53,7 @@ fn due(link: Link, command: u8, number: u8, repeats: u8, clock: u32) -> Ticked
 
 // A tick of a link that is given and returned by value; a box that holds its link in one place calls `tick`.
 pub fn tick_by_value(link: Link, clock: u32) -> Ticked
-    ensures { λ r. ⌜ tickedOf r ≡ tickOf 1 3 link clock ⌝ }
+    ensures { λ r. ⌜ tickedOf r ≡ tickOf firstNumber mostRepeats link clock ⌝ }
 {
     if !in_range(link) {
         return Ticked {
@@ -85,7 +86,7 @@ pub fn tick_by_value(link: Link, clock: u32) -> Ticked
 
 // A tick that alters the link in its own place, for a box that holds one link for its life.
 pub fn tick(link: &mut Link, clock: u32) -> Retry
-    ensures { λ r. ⌜ reply (retryRowOf r) (now (link .exit)) ≡ tickOf 1 3 (now (link .entry)) clock ⌝ }
+    ensures { λ r. ⌜ reply (retryRowOf r) (now (link .exit)) ≡ tickOf firstNumber mostRepeats (now (link .entry)) clock ⌝ }
 {
     let ticked = tick_by_value(*link, clock);
     *link = ticked.link;

@@ -41,6 +41,7 @@ use denote.Triple.Spec.{Meets, tripleOf}
 use denote.Triple.Table.{entered, cited}
 use denote.Triple.Walked.{says, Stays, stay-ref, stay-none, walkOf, goes-none, goes-ref, Walks, ends-at, walked, walk-meets}
 use denote.Exit.{yes}
+use Rattle.link.specs.Sending.{firstNumber, mostRepeats}
 use Rattle.link.specs.Calls.{tickOf, tickedOf}
 use Rattle.link.specs.declared.state.Link.{Link}
 use Rattle.link.specs.declared.ticks.Retry.{Retry}
@@ -86,8 +87,8 @@ module _ {M : Type 1} (𝓤 : URA M) (H : Heap 𝓤) (A : Atoms 𝓤) (mem : Mem
   TickByValue = tripleOf 𝓤 H A tick-by-value.signature (tick-by-value.spec 𝓤 H A mem run)
 
   -- of its `ensured`, the clause alone: it has no `&mut`, so what is said of last values is dropped
-  ticked-of : (h : Link) (n : ℕ) (r : Ticked) → ent 𝓤 (ensured 𝓤 H A tick-by-value.ended (tick-by-value.clauses 𝓤 H A mem run) tt (h, (n, tt)) tt r) (fact 𝓤 (tickedOf r ≡ tickOf 1 3 h n))
-  ticked-of h n r = exE 𝓤 _ (λ ws. snd∗ 𝓤 (sem 𝓤 H A (lasts tick-by-value.ended tt (h, (n, tt)) ws)) (fact 𝓤 (tickedOf r ≡ tickOf 1 3 h n)))
+  ticked-of : (h : Link) (n : ℕ) (r : Ticked) → ent 𝓤 (ensured 𝓤 H A tick-by-value.ended (tick-by-value.clauses 𝓤 H A mem run) tt (h, (n, tt)) tt r) (fact 𝓤 (tickedOf r ≡ tickOf firstNumber mostRepeats h n))
+  ticked-of h n r = exE 𝓤 _ (λ ws. snd∗ 𝓤 (sem 𝓤 H A (lasts tick-by-value.ended tt (h, (n, tt)) ws)) (fact 𝓤 (tickedOf r ≡ tickOf firstNumber mostRepeats h n)))
 
 module _ {M : Type 1} (𝓤 : URA M) (H : Heap 𝓤) (A : Atoms 𝓤) (W : Given 𝓤 H A) (at-mem : Memory → SProp 𝓤) (run : Routine → Fun 𝓤) (κ : Lft) (q : Share) (b o : ℕ) (γ : GName) (h : Link) (n : ℕ) (fits : n < 2 ^ 32) where
   abbrev x : Arg
@@ -100,7 +101,7 @@ module _ {M : Type 1} (𝓤 : URA M) (H : Heap 𝓤) (A : Atoms 𝓤) (W : Given
   Post = walkOf 𝓤 H A tick.ended stayed (tick.clauses 𝓤 H A at-mem run) .post (((κ, tt), (q, tt), tt, x, at), tt)
 
   -- what stands at the exit: the answer is returned, and the reference's last value is the link
-  exits : (r : Ticked) (v : Val) → Is T.the-row r (v ∷ []) → tickedOf r ≡ tickOf 1 3 h n
+  exits : (r : Ticked) (v : Val) → Is T.the-row r (v ∷ []) → tickedOf r ≡ tickOf firstNumber mostRepeats h n
       → ent 𝓤 (sep 𝓤 (A .obs γ (L.the-row .coded .code (r .link))) (sep 𝓤 (A .bor κ (Body (mem L.the-row) b o γ)) (A .lft κ q))) (Post (answer-val (r .answer)))
   exits r v is e =
       qed W (‵ (fobs γ (L.the-row .coded .code (r .link))) ∷ ‵ (fbor κ (Body (mem L.the-row) b o γ)) ∷ ‵ (flft κ q) ∷ []) ∵
@@ -132,7 +133,7 @@ module _ {M : Type 1} (𝓤 : URA M) (H : Heap 𝓤) (A : Atoms 𝓤) (W : Given
         use0 W (raw (TickByValue 𝓤 H A at-mem run .pre to-by-value)) (goes-by-value p) $
         calls-at ! fm (TickByValue 𝓤 H A at-mem run) known to-by-value (and-then ! (load ! (from ! (stop !)) (look ! 5 refl)) (and-then ! (load ! (from ! (stop !)) (look ! 9 refl)) (no-more !))) (λ v.
         use1 W (later (some (λ (r : Ticked). (‵ ftrue ⊛ ‵ (T.the-row .own r (v ∷ []))) ⊛ raw (ensured 𝓤 H A tick-by-value.ended (tick-by-value.clauses 𝓤 H A at-mem run) tt (h, (n, tt)) tt r)))) (id⊢ 𝓤 _) $ await ! tt $ pick ! (λ r.
-        split ! $ move ! (1 ∷ []) $ use1 W (raw (fact 𝓤 (tickedOf r ≡ tickOf 1 3 h n))) (ticked-of 𝓤 H A at-mem run h n r) $ heard ! (tickedOf r ≡ tickOf 1 3 h n) (λ e. split ! $ drop ! $
+        split ! $ move ! (1 ∷ []) $ use1 W (raw (fact 𝓤 (tickedOf r ≡ tickOf firstNumber mostRepeats h n))) (ticked-of 𝓤 H A at-mem run h n r) $ heard ! (tickedOf r ≡ tickOf firstNumber mostRepeats h n) (λ e. split ! $ drop ! $
         facts ! T.the-row (Is T.the-row) (shows 𝓤 H A T.the-row) r (v ∷ []) (λ is.
         land ! (from ! (stop !)) (init ! 6 refl (LL.lawful T.the-type T′.the-laws 𝓤 H A W .typed r _ is .0)) $ rewrite ! 6 (λ (u : Val). ‵ (fat fullShare T′.mir l₃ 0 u)) (ap only (LL.tells T.the-type T′.the-laws r _ is)) refl $
         -- [the link's cell; the open borrow; obs; auth; _4; …; _3; …; _2; …; _1; …; room for _0; …]

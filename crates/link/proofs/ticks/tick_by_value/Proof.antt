@@ -2,13 +2,14 @@
 use borrow.Author.Needs.{needs}
 use mathlib.Core.Path.{_≡_}
 use mathlib.Core.Bool.{true}
+use Rattle.link.specs.Sending.{firstNumber, mostRepeats}
 use Rattle.link.specs.Calls.{inRange}
 use Rattle.base.proofs.Tests.{past, caught}
 use Rattle.link.proofs.ticks.tick_by_value.Statement.{statement}
 use Rattle.link.proofs.ticks.tick_by_value.Tie as tie
 
 -- past the guard the link is in range
-ranged : (c : tie.Else1) → inRange 1 3 (c .before .before .args .link) ≡ true
+ranged : (c : tie.Else1) → inRange firstNumber mostRepeats (c .before .before .args .link) ≡ true
 ranged c = past (c .before .in-range .ensures) (c .if1 .left)
 
 pub tick-by-value-spec : {M : Type 1} → statement M

@@ -41,6 +41,7 @@ use denote.Triple.Spec.{Meets, tripleOf}
 use denote.Triple.Table.{entered, cited}
 use denote.Triple.Walked.{says, Stays, stay-none, walkOf, goes-none, Walks, ends-at, walked, walk-meets}
 use denote.Exit.{yes}
+use Rattle.link.specs.Sending.{firstNumber, mostRepeats}
 use Rattle.link.specs.Table.{retryRowOf}
 use Rattle.link.specs.Calls.{reply, tickOf, tickedOf}
 use Rattle.link.specs.declared.state.Link.{Link}
@@ -109,7 +110,7 @@ module _ {M : Type 1} (𝓤 : URA M) (H : Heap 𝓤) (A : Atoms 𝓤) (W : Given
   abbrev Post : Val → SProp 𝓤
   Post = walkOf 𝓤 H A in-place.ended stayed (in-place.clauses 𝓤 H A at-mem run) .post ((tt, tt, tt, x, at), tt)
 
-  exits : (r : Ticked) (v : Val) → Is T.the-row r (v ∷ []) → tickedOf r ≡ tickOf 1 3 h n → ent 𝓤 (emp 𝓤) (Post v)
+  exits : (r : Ticked) (v : Val) → Is T.the-row r (v ∷ []) → tickedOf r ≡ tickOf firstNumber mostRepeats h n → ent 𝓤 (emp 𝓤) (Post v)
   exits r v is e =
       qed W [] ∵ suffices ! _ (ends-at 𝓤 H A in-place.ended stayed (in-place.clauses 𝓤 H A at-mem run) W ((tt, tt, tt, x, at), tt) v r (tt, (tt, tt)) (tt, (tt, tt))) $ says ! e $
       owned ! T.the-row (Is T.the-row) (LL.makes T.the-type T′.the-plain 𝓤 H A) r _ is $ nothing ! $ owned ! u32 (Is u32) (uint-makes 𝓤 H A W w32) n _ (refl, fits) $ fjoin ! $
@@ -144,8 +145,8 @@ module _ {M : Type 1} (𝓤 : URA M) (H : Heap 𝓤) (A : Atoms 𝓤) (W : Given
         calls-at ! fm (Tick 𝓤 H A at-mem run) known (to-tick l₃ ν γ) (and-then ! (load ! (from ! (stop !)) (look ! 4 refl)) (and-then ! (load ! (from ! (stop !)) (look ! 9 refl)) (no-more !))) (λ w.
         use1 W (later (some (λ (a : Retry). ((‵ (flft (ν ∷ []) fullShare) ⊛ ‵ ftrue) ⊛ ‵ (R.the-row .own a (w ∷ []))) ⊛ raw (ensured 𝓤 H A tick.ended (tick.clauses 𝓤 H A at-mem run) (ν ∷ [], tt) (lent l₃ γ, (n, tt)) tt a)))) (id⊢ 𝓤 _) $ await ! tt $ pick ! (λ a.
         -- what `tick` ensures, at some last link
-        split ! $ move ! (1 ∷ []) $ use1 W (some (λ (zs : Link × (Unit {0} × Unit {0})). ‵ (lasts tick.ended (ν ∷ [], tt) (lent l₃ γ, (n, tt)) zs) ⊛ raw (fact 𝓤 (reply (retryRowOf a) (zs .0) ≡ tickOf 1 3 h n)))) (id⊢ 𝓤 _) $ pick ! (λ zs.
-        split ! $ move ! (1 ∷ []) $ heard ! (reply (retryRowOf a) (zs .0) ≡ tickOf 1 3 h n) (λ e. fsplit ! $
+        split ! $ move ! (1 ∷ []) $ use1 W (some (λ (zs : Link × (Unit {0} × Unit {0})). ‵ (lasts tick.ended (ν ∷ [], tt) (lent l₃ γ, (n, tt)) zs) ⊛ raw (fact 𝓤 (reply (retryRowOf a) (zs .0) ≡ tickOf firstNumber mostRepeats h n)))) (id⊢ 𝓤 _) $ pick ! (λ zs.
+        split ! $ move ! (1 ∷ []) $ heard ! (reply (retryRowOf a) (zs .0) ≡ tickOf firstNumber mostRepeats h n) (λ e. fsplit ! $
         move ! (2 ∷ []) $ split ! $ move ! (1 ∷ []) $ facts ! R.the-row (Is R.the-row) (shows 𝓤 H A R.the-row) a (w ∷ []) (λ is.
         -- the lifetime is ended, and the local comes back at that link
         split ! $ lft-end ! tt $ move ! (0 ∷ 4 ∷ 2 ∷ []) $ use3 W (later (‵ (mem L.the-row .lies (zs .0) l₃ 0))) (ref-back 𝓤 H A W L.the-row (ν ∷ []) γ (zs .0) l₃ 0) $ await ! tt $
