@@ -7,3 +7,4 @@ pub mod Rising
 pub mod Keys
 pub mod Sums
 pub mod Numbers
+pub mod Claims

@@ -5,3 +5,4 @@ pub mod Parts
 pub mod Numbers
 pub mod Sums
 pub mod Keys
+pub mod Claims

@@ -1,0 +1,59 @@
+-- The claims of specs/Claims.antt. Assumes nothing.
+use Prim.Native.Nat.{ℕ, _+_, _-_, _≤_}
+use mathlib.Core.Path.{_≡_, refl, _∙_}
+use mathlib.Core.List.{List}
+use native.Mathlib.Nat.{add-assoc}
+use native.Mathlib.Omega.{arith}
+use borrow.Author.Tests.{ltb-true, ltb-false}
+use lib.ListN.{length, getD, drop, length-append, length-drop}
+use lib.Seq.{getD-append-add, getD-append-seam, getD-drop, take-append-seam}
+use lib.Dec.{ltb}
+use Rattle.base.specs.Outcomes.{onto}
+use Rattle.base.specs.Sums.{total}
+use Rattle.base.specs.Claims.{WorkedNumbers, ReadBackBetween, PlacedAlways}
+use Rattle.base.proofs.Tests.{either-way}
+use Rattle.base.proofs.Numbers.{two-behind}
+
+pub worked-numbers : WorkedNumbers
+unfolding total
+worked-numbers =
+    record { two-read = refl; two-at-end = refl; two-written = refl; four-read = refl; four-written = refl; sum = refl }
+
+pub read-back : ReadBackBetween
+read-back f r =
+    record {
+      two-back = λ n. two-behind f refl n r;
+      four-back = λ n. simp (getD-append-add, getD-append-seam, add-assoc) (omega arith);
+      two-fits = λ n h. (omega arith, omega arith);
+      four-fits = λ n h. (omega arith, omega arith, omega arith, omega arith);
+    }
+
+-- bytes at the front of an output that has room for them
+module _ (w out : List ℕ) where
+  behind : (i : ℕ) → length w ≤ i → getD (onto w out) i 0 ≡ getD out i 0
+  behind i h =
+      let e : i ≡ length w + (i - length w) = omega arith in
+      rw e (getD-append-add w (drop (length w) out) (i - length w) 0 ∙ getD-drop (length w) out (i - length w) 0)
+
+  as-long : length w ≤ length out → length (onto w out) ≡ length out
+  as-long h = simp (length-append, length-drop) (omega arith)
+
+pub placed-whole-or-not : PlacedAlways
+placed-whole-or-not w out =
+    either-way (ltb (length out) (length w))
+    (λ s. record {
+      room-row = λ h. rw s;
+      room-out = λ h. rw s;
+      fits-row = λ h. absurd (omega (arith, ltb-true));
+      front = λ h. absurd (omega (arith, ltb-true));
+      stays = λ i h. rw s;
+      same-length = rw s;
+    })
+    (λ s. record {
+      room-row = λ h. absurd (omega (arith, ltb-false));
+      room-out = λ h. absurd (omega (arith, ltb-false));
+      fits-row = λ h. rw s;
+      front = λ h. rw s (take-append-seam w (drop (length w) out));
+      stays = λ i h. rw s (behind w out i h);
+      same-length = rw s (as-long w out (omega (arith, ltb-false)));
+    })
