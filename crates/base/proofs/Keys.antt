@@ -29,15 +29,19 @@ pub among-holds : (P : ℕ → Type 0) (x : ℕ) (ys : List ℕ) → Each P ys �
 unfolding among
 among-holds P x [] h = λ e. absurd (true≢false (sym e))
 among-holds P x (y ∷ ys) h =
-    by-test (λ (t : Bool). t ≡ true → P x) (eqb x y) (λ e _. rw (eqb-true x y e) (h .0)) (λ _. among-holds P x ys (h .1))
+    by-test (λ (t : Bool). t ≡ true → P x) (eqb x y) (λ e _. rw (eqb-true x y e) (h .0))
+    (λ _. among-holds P x ys (h .1))
 
 -- two functions that agree on a list
-pub agree : {A : Type 0} (f g : ℕ → A) (keys : List ℕ) (x : ℕ) → map f keys ≡ map g keys → among x keys ≡ true → f x ≡ g x
+pub agree : {A : Type 0} (f g : ℕ → A) (keys : List ℕ) (x : ℕ)
+    → map f keys ≡ map g keys → among x keys ≡ true → f x ≡ g x
 unfolding among
 agree f g [] x e = λ h. absurd (true≢false (sym h))
-agree f g (k ∷ ks) x e = by-test (λ b. b ≡ true → f x ≡ g x) (eqb x k) (λ i _. rw (eqb-true x k i) (cc)) λ _. agree f g ks x (cc)
+agree f g (k ∷ ks) x e =
+    by-test (λ b. b ≡ true → f x ≡ g x) (eqb x k) (λ i _. rw (eqb-true x k i) (cc)) λ _. agree f g ks x (cc)
 
--- ---- what a `match` on a number tells of it: that it is one of an arm's keys, or lies in a range and is none of some arms' keys
+-- ---- what a `match` on a number tells of it: that it is one of an arm's keys,
+-- or lies in a range and is none of some arms' keys
 
 one-of : (keys : List ℕ) (x : ℕ) → OneOf keys x → among x keys ≡ true
 unfolding among
@@ -53,7 +57,8 @@ range from (suc n) = from ∷ range (suc from) n
 pub ranged : (from n x : ℕ) → (from ≤ x) × (x < from + n) → among x (range from n) ≡ true
 unfolding among
 ranged from zero x h = absurd (omega arith)
-ranged from (suc n) x h = by-test (λ b. b ≡ true) (eqb x from) (λ _. refl) λ e. ranged (suc from) n x (omega (arith, eqb-false x from e))
+ranged from (suc n) x h =
+    by-test (λ b. b ≡ true) (eqb x from) (λ _. refl) λ e. ranged (suc from) n x (omega (arith, eqb-false x from e))
 
 abbrev keyed : List (List ℕ) → ℕ → Bool
 keyed [] x = false
@@ -74,7 +79,8 @@ unkeyed N (keys ∷ arms) x r =
     let rest = unkeyed (N × (OneOf keys x → ⊥)) arms x r in
     (rest .0 .0, rw (off (hasKey keys x) (λ t. rest .0 .1 (hit keys x t)), rest .1))
 
--- both take the value that an arm returns to the one that is looked up. That each of the numbers has it is a test, which `refl` passes
+-- both take the value that an arm returns to the one that is looked up.
+-- That each of the numbers has it is a test, which `refl` passes
 module _ {A : Type 0} (f : ℕ → A) (v : A) where
   pub at-keys : (keys : List ℕ) (x : ℕ) → map f keys ≡ map (λ _. v) keys → OneOf keys x → v ≡ f x
   at-keys keys x e h = sym (agree f (λ _. v) keys x e (one-of keys x h))
@@ -82,5 +88,8 @@ module _ {A : Type 0} (f : ℕ → A) (v : A) where
   abbrev pub Ranged : ℕ → ℕ → List (List ℕ) → Type 0
   Ranged from n arms = map (λ m. cond (keyed arms m) v (f m)) (range from n) ≡ map (λ _. v) (range from n)
 
-  pub in-range : (from n : ℕ) (arms : List (List ℕ)) (x : ℕ) → Ranged from n arms → (from ≤ x) × (x < from + n) → NoneOf Unit arms x → v ≡ f x
-  in-range from n arms x e h r = sym (rw (unkeyed Unit arms x r .1) at (agree (λ m. cond (keyed arms m) v (f m)) (λ _. v) (range from n) x e (ranged from n x h)))
+  pub in-range : (from n : ℕ) (arms : List (List ℕ)) (x : ℕ)
+      → Ranged from n arms → (from ≤ x) × (x < from + n) → NoneOf Unit arms x → v ≡ f x
+  in-range from n arms x e h r =
+      sym (rw (unkeyed Unit arms x r .1) at (agree (λ m. cond (keyed arms m) v (f m)) (λ _. v)
+      (range from n) x e (ranged from n x h)))

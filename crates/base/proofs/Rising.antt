@@ -1,7 +1,8 @@
 -- Two lists in order of place with the same members are the same.
 use Prim.Native.Nat.{ℕ, _+_, _≤_}
 use mathlib.Core.Path.{_≡_, refl, sym, ap, _∙_}
-use mathlib.Core.List.{List, [], _∷_, List·Memᴰ, List·Memᴰ·head, List·Memᴰ·tail, List·Memᴰ·not-nil, List·Memᴰ·cases-cons}
+use mathlib.Core.List.{List, [], _∷_, List·Memᴰ, List·Memᴰ·head, List·Memᴰ·tail, List·Memᴰ·not-nil}
+use mathlib.Core.List.{List·Memᴰ·cases-cons}
 use mathlib.Core.Logic.{_⊎_, inl, inr}
 use native.Mathlib.Omega.{arith}
 
@@ -19,12 +20,14 @@ behind-first y r x k other = go (List·Memᴰ·cases-cons k)
     go (inr w) = w
 
 -- a list that rises from a place rises from an earlier one
-pub rising-earlier : {A : Type 0} (start : A → ℕ) (m n : ℕ) (l : List A) → m ≤ n → RisingFrom start n l → RisingFrom start m l
+pub rising-earlier : {A : Type 0} (start : A → ℕ) (m n : ℕ) (l : List A)
+    → m ≤ n → RisingFrom start n l → RisingFrom start m l
 rising-earlier start m n [] h p = tt
 rising-earlier start m n (x ∷ xs) h p = (omega (arith, p .0), p .1)
 
 -- each member starts where the first may, or later
-member-from : {A : Type 0} (start : A → ℕ) (m : ℕ) (l : List A) (x : A) → RisingFrom start m l → List·Memᴰ x l → m ≤ start x
+member-from : {A : Type 0} (start : A → ℕ) (m : ℕ) (l : List A) (x : A)
+    → RisingFrom start m l → List·Memᴰ x l → m ≤ start x
 member-from start m [] x h k = absurd (List·Memᴰ·not-nil k)
 member-from start m (y ∷ ys) x h k = go (List·Memᴰ·cases-cons k) (λ w. member-from start (start y + 1) ys x (h .1) w)
   where
@@ -56,4 +59,5 @@ same-members {A} start m n (f ∷ a) (g ∷ b) p q to fro =
         go : (f ≡ g) ⊎ List·Memᴰ f b → (g ≡ f) ⊎ List·Memᴰ g a → f ≡ g
         go (inl e) w = e
         go (inr k) (inl e) = sym e
-        go (inr k) (inr w) = absurd (omega (arith, member-from start (start g + 1) b f (q .1) k, member-from start (start f + 1) a g (p .1) w))
+        go (inr k) (inr w) = absurd (omega
+            (arith, member-from start (start g + 1) b f (q .1) k, member-from start (start f + 1) a g (p .1) w))

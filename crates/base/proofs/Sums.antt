@@ -19,7 +19,8 @@ unfolding total
 checksum-snoc b v = omega (arith, total-append b (v ∷ []))
 
 -- a sum that went on over one list, and then over another, went on over their join
-pub sum-append : (xs ys : List ℕ) (u : ℕ) {v w : ℕ} → v ≡ (u + total xs) % 256 → w ≡ (v + total ys) % 256 → w ≡ (u + total (xs ++ ys)) % 256
+pub sum-append : (xs ys : List ℕ) (u : ℕ) {v w : ℕ}
+    → v ≡ (u + total xs) % 256 → w ≡ (v + total ys) % 256 → w ≡ (u + total (xs ++ ys)) % 256
 sum-append xs ys u e f = rw total-append (omega arith)
 
 -- what is left of a list from i on: its first byte and the rest, or nothing

@@ -1,4 +1,5 @@
--- What the layers share, and a reader of any of them has to believe: rows, outcomes, parts, numbers and sums. Nothing of a protocol.
+-- What the layers share, and a reader of any of them has to believe: rows, outcomes, parts,
+-- numbers and sums. Nothing of a protocol.
 pub mod Rows
 pub mod Outcomes
 pub mod Parts

@@ -5,7 +5,8 @@ use mathlib.Core.List.{List}
 use lib.ListN.{take, drop}
 use denote.Ref.{RefT, now}
 
--- the part has these bytes, and lies among the caller's at their place: in the same block of memory, `start` bytes behind their first
+-- the part has these bytes, and lies among the caller's at their place:
+-- in the same block of memory, `start` bytes behind their first
 pub record IsPart (whole part : RefT (List ℕ)) (start size : ℕ) : Type 0 where
   pub bytes : now part ≡ take size (drop start (now whole))
   pub block : part .ptr .0 ≡ whole .ptr .0

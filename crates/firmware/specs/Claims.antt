@@ -28,7 +28,8 @@ codeFor g = codeOf (answered g .row)
 abbrev pub wireFor : Given → List ℕ
 wireFor g = wire (bodyOf (g .command) (g .number) (g .flags) (g .payload))
 
--- ---- counts-below: no count is above 2,054, which is 2 and twice the 1,026 bytes of the longest body; so none reaches 65,536
+-- ---- counts-below: no count is above 2,054, which is 2 and twice the 1,026 bytes of the longest body;
+-- so none reaches 65,536
 abbrev pub CountsBelow : Type 0
 CountsBelow = (g : Given) → countIn (answered g .row) ≤ 2054
 
@@ -41,8 +42,8 @@ pub record CodeTells : Type 0 where
 abbrev pub RefusalUnchanged : Type 0
 RefusalUnchanged = (g : Given) → refused ≤ codeFor g → answered g .out ≡ g .out
 
--- ---- code-when: the table's "Given exactly when" of 21 and 22, and the count otherwise, in the numbers that C gets. The three cases are all there
--- are and, by counts-below, their numbers differ, so each comes only then
+-- ---- code-when: the table's "Given exactly when" of 21 and 22, and the count otherwise, in the numbers that C gets.
+-- The three cases are all there are and, by counts-below, their numbers differ, so each comes only then
 pub record CodeWhen (g : Given) : Type 0 where
   pub payload : 1019 < length (g .payload) → codeFor g ≡ 65557
   pub room : length (g .payload) ≤ 1019 → length (g .out) < length (wireFor g) → codeFor g ≡ 65558

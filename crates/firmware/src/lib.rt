@@ -7,7 +7,8 @@ ghost use Rattle.firmware.specs.Code.{returned, returnedOf};
 // What a refusal's number is added to; no count reaches it.
 const REFUSED: u32 = 65_536;
 
-// A frame written at the front of the output, or refused with the output as it was. In C each slice is a pointer and a length.
+// A frame written at the front of the output, or refused with the output as it was.
+// In C each slice is a pointer and a length.
 #[no_mangle]
 pub extern "C" fn trogonreed_write_frame(
     command: u8,
@@ -16,7 +17,8 @@ pub extern "C" fn trogonreed_write_frame(
     payload: &[u8],
     out: &mut [u8],
 ) -> u32
-    ensures { λ r. ⌜ returned r (now (out .exit)) ≡ returnedOf (writeOf 1024 command number flags (now (payload .entry)) (now (out .entry))) ⌝ }
+    ensures { λ r. ⌜ returned r (now (out .exit))
+        ≡ returnedOf (writeOf 1024 command number flags (now (payload .entry)) (now (out .entry))) ⌝ }
 {
     let written = frame::write(command, number, flags, payload, out);
     match written {

@@ -9,17 +9,28 @@ use Rattle.link.specs.Claims.{WaitFound}
 
 -- one entry more before it
 one-before : (e : Entry) {es : List Entry} → OpenWait es → OpenWait (e ∷ es)
-one-before e o = record { before = e ∷ o .before; acceptance = o .acceptance; during = o .during; parts = ap (λ l. e ∷ l) (o .parts); accepts = o .accepts; goes-on = o .goes-on }
+one-before e o =
+    record {
+      before = e ∷ o .before;
+      acceptance = o .acceptance;
+      during = o .during;
+      parts = ap (λ l. e ∷ l) (o .parts);
+      accepts = o .accepts;
+      goes-on = o .goes-on;
+    }
 
--- a command that waited before entries waits after them, since none ends its wait, or one of them accepted the one that does
+-- a command that waited before entries waits after them, since none ends its wait,
+-- or one of them accepted the one that does
 abbrev Found : Bool → List Entry → Type 0
 Found t es = ((t ≡ true) × (noneEnds es ≡ true)) ⊎ OpenWait es
 
 -- so with one entry more, which accepts, ends, or does neither
-found-at : (e : Entry) (es : List Entry) (t a d : Bool) → accepted e ≡ a → ended e ≡ d → Found (cond a true (cond d false t)) es → Found t (e ∷ es)
+found-at : (e : Entry) (es : List Entry) (t a d : Bool)
+    → accepted e ≡ a → ended e ≡ d → Found (cond a true (cond d false t)) es → Found t (e ∷ es)
 unfolding noneEnds
 found-at e es t a d p q (inr o) = inr (one-before e o)
-found-at e es t true d p q (inl n) = inr (record { before = []; acceptance = e; during = es; parts = refl; accepts = p; goes-on = n .1 })
+found-at e es t true d p q (inl n) =
+    inr (record { before = []; acceptance = e; during = es; parts = refl; accepts = p; goes-on = n .1 })
 found-at e es t false true p q (inl n) = absurd (true≢false (sym (n .0)))
 found-at e es t false false p q (inl n) = inl (n .0, rw q (n .1))
 

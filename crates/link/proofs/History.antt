@@ -22,21 +22,26 @@ module _ (first most : ℕ) (log : List Entry) (f : Follows first most 0 Idle lo
 
   -- what waits after an acceptance, until its wait ends
   accepted-at :
-      (before : List Entry) (a : Entry) (during rest : List Entry) → log ≡ before ++ (a ∷ (during ++ rest)) → accepted a ≡ true → noneEnds during ≡ true
-      → Waited first most (0 + length (givenOut before) + 1) (commandIn (a .call)) (numberIn a) (clockIn (a .call)) 0 during rest
+      (before : List Entry) (a : Entry) (during rest : List Entry)
+      → log ≡ before ++ (a ∷ (during ++ rest)) → accepted a ≡ true → noneEnds during ≡ true
+      → Waited first most (0 + length (givenOut before) + 1) (commandIn (a .call)) (numberIn a)
+      (clockIn (a .call)) 0 during rest
   accepted-at before a during rest e p q =
       let b = at before _ e .follows in
       waited first most _ _ _ _ _ during rest (simp p at (b .0 .holds)) (simp p at (b .1)) q
 
   -- what an entry leaves waiting
-  left : (before : List Entry) (e : Entry) (after : List Entry) → (p : log ≡ before ++ (e ∷ after)) → e .returned .wait ≡ waitAfter e (at before (e ∷ after) p .wait)
+  left : (before : List Entry) (e : Entry) (after : List Entry)
+      → (p : log ≡ before ++ (e ∷ after)) → e .returned .wait ≡ waitAfter e (at before (e ∷ after) p .wait)
   left before e after p = ap (λ l. l .wait) (at before (e ∷ after) p .follows .0 .returned)
 
   -- no more ticks are due than repeats are allowed, while the wait goes on
   ended-by :
-      (before : List Entry) (a : Entry) (during rest : List Entry) → log ≡ before ++ (a ∷ (during ++ rest)) → accepted a ≡ true
+      (before : List Entry) (a : Entry) (during rest : List Entry)
+      → log ≡ before ++ (a ∷ (during ++ rest)) → accepted a ≡ true
       → most < dueTicks (clockIn (a .call)) during → (t : Bool) → noneEnds during ≡ t → t ≡ false
-  ended-by before a during rest e p d true q = let w = accepted-at before a during rest e p q in absurd (omega (arith, w .few, w .each))
+  ended-by before a during rest e p d true q =
+      let w = accepted-at before a during rest e p q in absurd (omega (arith, w .few, w .each))
   ended-by before a during rest e p d false q = refl
 
   history : History first most log
@@ -44,14 +49,24 @@ module _ (first most : ℕ) (log : List Entry) (f : Follows first most 0 Idle lo
       record {
         numbers = numbered first most 0 Idle log f;
         idle = λ before e after p q. let b = at before _ p in rw (b .idle q, zero-add) at (b .follows .0 .row);
-        waiting = λ before a during e after p q n. rw zero-add at (accepted-at before a during (e ∷ after) p q n .follows .0 .row);
+        waiting = λ before a during e after p q n. rw zero-add at (accepted-at before a during
+            (e ∷ after) p q n .follows .0 .row);
         waits = λ before a during after p q n.
-            let w = accepted-at before a during after p q n in record { few = omega (arith, w .few); each = w .each; alone = w .alone };
+            let w = accepted-at before a during after p q n in record {
+              few = omega (arith, w .few);
+              each = w .each;
+              alone = w .alone;
+            };
         ends = λ before a during after p q d. ended-by before a during after p q d (noneEnds during) refl;
         begun = λ before e after p a. simp a at (left before e after p);
         resent = λ before a during e after p q n r.
             let only = only-repeated (e .call) (e .row) r in
-            simp (only .0, only .1, r, zero-add) at (ap (λ l. l .wait) (accepted-at before a during (e ∷ after) p q n .follows .0 .returned));
+            simp (
+              only .0,
+              only .1,
+              r,
+              zero-add,
+            ) at (ap (λ l. l .wait) (accepted-at before a during (e ∷ after) p q n .follows .0 .returned));
         freed = λ before e after p d. simp (not-accepted (e .call) (e .row) d, d) at (left before e after p);
         unchanged = λ before e after p. at before _ p .follows .0 .unchanged;
         never-state = λ before e after p. at before _ p .follows .0 .never;
@@ -60,4 +75,5 @@ module _ (first most : ℕ) (log : List Entry) (f : Follows first most 0 Idle lo
 -- a fresh link is idle and has given out no number
 pub link-history : LinkHistory
 link-history first most small calls =
-    history first most _ (followed first most small calls 0 Idle (ap (λ (n : ℕ). linkOf n Idle) (sym (number-first first))) tt)
+    history first most _ (followed first most small calls 0 Idle
+    (ap (λ (n : ℕ). linkOf n Idle) (sym (number-first first))) tt)

@@ -12,7 +12,8 @@ use Rattle.base.proofs.Tests.{by-test, both}
 use Rattle.link.specs.Sending.{mayWait, numberAt, fitsOf}
 use Rattle.link.specs.Clock.{isDue}
 use Rattle.link.specs.Calls.{Reply, reply, linkOf, inRange, retryOf}
-use Rattle.link.specs.Logs.{Call, offering, ticking, answering, callOf, Entry, acceptedIn, repeatedIn, endedIn, commandIn, clockIn, dueIn, accepted, repeated, ended, numberIn}
+use Rattle.link.specs.Logs.{Call, offering, ticking, answering, callOf, Entry, acceptedIn, repeatedIn, endedIn}
+use Rattle.link.specs.Logs.{commandIn, clockIn, dueIn, accepted, repeated, ended, numberIn}
 use Rattle.link.specs.History.{idleRow, waitingRow}
 use Rattle.link.specs.declared.state.Link.{Link}
 use Rattle.link.specs.declared.state.Wait.{Wait}
@@ -21,7 +22,8 @@ use Rattle.link.proofs.Numbers.{number-next}
 
 -- the entry of a call
 abbrev pub entryOf : ℕ → ℕ → Link → Call → Entry
-entryOf first most l c = record { call = c; row = callOf first most l c .row; given = l; returned = callOf first most l c .link }
+entryOf first most l c =
+    record { call = c; row = callOf first most l c .row; given = l; returned = callOf first most l c .link }
 
 -- ---- what an entry's call and answer leave
 
@@ -33,7 +35,9 @@ goesOn e (Waiting command number sent repeats) =
 
 -- what waits after any entry
 abbrev pub waitAfter : Entry → Wait → Wait
-waitAfter e w = cond (accepted e) (Waiting (commandIn (e .call)) (numberIn e) (clockIn (e .call)) 0) (cond (ended e) Idle (goesOn e w))
+waitAfter e w =
+    cond (accepted e) (Waiting (commandIn (e .call)) (numberIn e) (clockIn (e .call)) 0)
+    (cond (ended e) Idle (goesOn e w))
 
 -- how many numbers are given out after it
 abbrev pub countAfter : Entry → ℕ → ℕ
@@ -42,7 +46,8 @@ countAfter e k = cond (accepted e) (k + 1) k
 -- what repeats neither accepts nor ends
 pub only-repeated : (c : Call) (r : Row) → repeatedIn c r ≡ true → (acceptedIn c r ≡ false) × (endedIn c r ≡ false)
 only-repeated (offering command clock) r e = absurd (true≢false (sym e))
-only-repeated (ticking clock) r e = let h = both (eqb (r .number) 0) e in (refl, simp (h .0, eqb-true (getD (r .values) 0 0) 1 (h .1)))
+only-repeated (ticking clock) r e =
+    let h = both (eqb (r .number) 0) e in (refl, simp (h .0, eqb-true (getD (r .values) 0 0) 1 (h .1)))
 only-repeated (answering command number) r e = absurd (true≢false (sym e))
 
 -- what ends a wait accepts nothing
@@ -58,10 +63,12 @@ abbrev pub rowIn : ℕ → ℕ → ℕ → Wait → Call → Row
 rowIn first most k Idle c = idleRow first k c
 rowIn first most k (Waiting command number sent repeats) c = waitingRow most command number sent repeats c
 
--- an idle link gives out the k-th number; while a command waits none is given out, and a due tick repeats or ends the wait
+-- an idle link gives out the k-th number;
+-- while a command waits none is given out, and a due tick repeats or ends the wait
 abbrev pub Told : ℕ → ℕ → Entry → Wait → Type 0
 Told first k e Idle = accepted e ≡ true → numberIn e ≡ numberAt first k
-Told first k e (Waiting command number sent repeats) = (accepted e ≡ false) × (ended e ≡ false → dueIn (e .call) sent ≡ repeated e)
+Told first k e (Waiting command number sent repeats) =
+    (accepted e ≡ false) × (ended e ≡ false → dueIn (e .call) sent ≡ repeated e)
 
 -- the ranges of what waits
 abbrev pub Ranges : ℕ → ℕ → Wait → Type 0
@@ -101,15 +108,32 @@ module _ (first most k : ℕ) (small : first ≤ 255) where
 
   -- a refused call, or a tick with nothing to do
   quiet : (w : Wait) {c : Call} {r : Row} → Ranges first most w → r ≡ rowIn first most k w c → r .number ≢ 17
-      → acceptedIn c r ≡ false → endedIn c r ≡ false → repeatedIn c r ≡ false → Undue c w → Moves w c (reply r (standing w))
+      → acceptedIn c r ≡ false → endedIn c r ≡ false → repeatedIn c r ≡ false → Undue c w
+      → Moves w c (reply r (standing w))
   quiet Idle h e n a d p u =
-      record { row = e; told = λ q. absurd (true≢false (sym q ∙ a)); returned = simp (a, d); holds = simp (a, d) tt; unchanged = λ _. refl; never = n }
+      record {
+        row = e;
+        told = λ q. absurd (true≢false (sym q ∙ a));
+        returned = simp (a, d);
+        holds = simp (a, d) tt;
+        unchanged = λ _. refl;
+        never = n;
+      }
   quiet (Waiting command number sent repeats) h e n a d p u =
-      record { row = e; told = (a, λ _. u ∙ sym p); returned = simp (a, d, p); holds = simp (a, d, p) h; unchanged = λ _. refl; never = n }
+      record {
+        row = e;
+        told = (a, λ _. u ∙ sym p);
+        returned = simp (a, d, p);
+        holds = simp (a, d, p) h;
+        unchanged = λ _. refl;
+        never = n;
+      }
 
   -- the end of a wait
-  ends : {waiting under sent repeats : ℕ} {c : Call} {r : Row} → r ≡ waitingRow most waiting under sent repeats c → r .number ≢ 17
-      → acceptedIn c r ≡ false → endedIn c r ≡ true → repeatedIn c r ≡ false → Moves (Waiting waiting under sent repeats) c (reply r (standing Idle))
+  ends : {waiting under sent repeats : ℕ} {c : Call} {r : Row}
+      → r ≡ waitingRow most waiting under sent repeats c → r .number ≢ 17
+      → acceptedIn c r ≡ false → endedIn c r ≡ true → repeatedIn c r ≡ false
+      → Moves (Waiting waiting under sent repeats) c (reply r (standing Idle))
   ends e n a d p =
       record {
         row = e;
@@ -121,8 +145,10 @@ module _ (first most k : ℕ) (small : first ≤ 255) where
       }
 
   -- a due tick repeats or gives up
-  due : (waiting under sent repeats clock : ℕ) → Ranges first most (Waiting waiting under sent repeats) → isDue clock sent ≡ true
-      → Moves (Waiting waiting under sent repeats) (ticking clock) (retryOf most (standing (Waiting waiting under sent repeats)) waiting under repeats clock)
+  due : (waiting under sent repeats clock : ℕ)
+      → Ranges first most (Waiting waiting under sent repeats) → isDue clock sent ≡ true
+      → Moves (Waiting waiting under sent repeats) (ticking clock)
+      (retryOf most (standing (Waiting waiting under sent repeats)) waiting under repeats clock)
   due waiting under sent repeats clock h d =
       by-test (Moves (Waiting waiting under sent repeats) (ticking clock)) (ltb repeats most)
       (λ s. record {
@@ -136,7 +162,8 @@ module _ (first most k : ℕ) (small : first ≤ 255) where
       (λ s. ends (rw (d, s)) (omega arith) refl refl refl)
 
   -- each call, the test passed
-  moved-in : (w : Wait) (c : Call) → Ranges first most w → inRange first most (standing w) ≡ true → Moves w c (callOf first most (standing w) c)
+  moved-in : (w : Wait) (c : Call)
+      → Ranges first most w → inRange first most (standing w) ≡ true → Moves w c (callOf first most (standing w) c)
   moved-in Idle (offering command clock) h i =
       rw i (by-test (Moves Idle (offering command clock)) (mayWait command)
       (λ s. record {
@@ -167,5 +194,6 @@ module _ (first most k : ℕ) (small : first ≤ 255) where
       (λ s. quiet w h (rw s) (omega arith) refl refl refl refl))
 
   -- each call, of a link that stands so
-  pub moved : (w : Wait) (c : Call) {l : Link} → l ≡ standing w → Ranges first most w → Moved first most k w (entryOf first most l c)
+  pub moved : (w : Wait) (c : Call) {l : Link}
+      → l ≡ standing w → Ranges first most w → Moved first most k w (entryOf first most l c)
   moved w c e h = rw e (moved-in w c h (in-range w h))

@@ -1,4 +1,5 @@
--- A refused call leaves the link as it was, whatever the link; STATE is answered just where a field is out of its range. Assumes nothing.
+-- A refused call leaves the link as it was, whatever the link;
+-- STATE is answered just where a field is out of its range. Assumes nothing.
 use Prim.Native.Nat.{ℕ}
 use mathlib.Core.Path.{_≡_, refl}
 use mathlib.Core.Logic.{_≢_}
@@ -25,20 +26,26 @@ module _ (first most : ℕ) (l : Link) where
   taken Idle command clock = (λ n. absurd (n refl), omega arith)
   taken (Waiting waiting under sent repeats) command clock = (λ _. refl, omega arith)
 
-  offered : (command clock : ℕ) → Fair (cond (mayWait command) (offerIn (l .wait) first l command clock) (reply unsentRow l))
-  offered command clock = by-test Fair (mayWait command) (λ _. taken (l .wait) command clock) λ _. (λ _. refl, omega arith)
+  offered : (command clock : ℕ)
+      → Fair (cond (mayWait command) (offerIn (l .wait) first l command clock) (reply unsentRow l))
+  offered command clock =
+      by-test Fair (mayWait command) (λ _. taken (l .wait) command clock) λ _. (λ _. refl, omega arith)
 
   retried : (command number repeats clock : ℕ) → Fair (retryOf most l command number repeats clock)
-  retried command number repeats clock = by-test Fair (ltb repeats most) (λ _. (λ n. absurd (n refl), omega arith)) λ _. (λ n. absurd (n refl), omega arith)
+  retried command number repeats clock =
+      by-test Fair (ltb repeats most) (λ _. (λ n. absurd (n refl), omega arith))
+      λ _. (λ n. absurd (n refl), omega arith)
 
   ticked : (w : Wait) (clock : ℕ) → Fair (tickIn w most l clock)
   ticked Idle clock = (λ _. refl, omega arith)
-  ticked (Waiting command number sent repeats) clock = by-test Fair (isDue clock sent) (λ _. retried command number repeats clock) λ _. (λ _. refl, omega arith)
+  ticked (Waiting command number sent repeats) clock =
+      by-test Fair (isDue clock sent) (λ _. retried command number repeats clock) λ _. (λ _. refl, omega arith)
 
   arrived : (w : Wait) (command number : ℕ) → Fair (arriveIn w l command number)
   arrived Idle command number = (λ _. refl, omega arith)
   arrived (Waiting waiting under sent repeats) command number =
-      by-test Fair (fitsOf command number waiting under) (λ _. (λ n. absurd (n refl), omega arith)) λ _. (λ _. refl, omega arith)
+      by-test Fair (fitsOf command number waiting under) (λ _. (λ n. absurd (n refl), omega arith))
+      λ _. (λ _. refl, omega arith)
 
   -- what the test for 17 makes of it
   abbrev Guarded : Bool → Reply → Type 0
@@ -54,4 +61,5 @@ module _ (first most : ℕ) (l : Link) where
   each (answering command number) = guarded (inRange first most l) _ (arrived (l .wait) command number)
 
 pub refused-unchanged : RefusedUnchanged
-refused-unchanged first most l c = let g = each first most l c in record { unchanged = g .0; state-out = g .1; out-state = g .2 }
+refused-unchanged first most l c =
+    let g = each first most l c in record { unchanged = g .0; state-out = g .1; out-state = g .2 }

@@ -14,7 +14,9 @@ use Rattle.link.specs.declared.arrivals.Arrival.{Arrival}
 use Rattle.link.specs.declared.arrivals.Arrival.the-variants as arrival
 
 abbrev acceptanceFrom : Row → Acceptance
-acceptanceFrom r = under r 0 (acceptance.Accepted (value r 0)) (under r 17 acceptance.State (under r 42 acceptance.Unsent acceptance.Busy))
+acceptanceFrom r =
+    under r 0 (acceptance.Accepted (value r 0))
+    (under r 17 acceptance.State (under r 42 acceptance.Unsent acceptance.Busy))
 
 acceptance-back : (a : Acceptance) → acceptanceFrom (acceptanceRowOf a) ≡ a
 acceptance-back (acceptance.Accepted n) = refl
@@ -25,7 +27,8 @@ acceptance-back acceptance.Busy = refl
 abbrev retryFrom : Row → Retry
 retryFrom r =
     under r 17 retry.State
-    (cond (eqb (value r 0) 1) (retry.Again (value r 1) (value r 2)) (cond (eqb (value r 0) 2) (retry.GivenUp (value r 1) (value r 2)) retry.Nothing))
+    (cond (eqb (value r 0) 1) (retry.Again (value r 1) (value r 2))
+    (cond (eqb (value r 0) 2) (retry.GivenUp (value r 1) (value r 2)) retry.Nothing))
 
 retry-back : (a : Retry) → retryFrom (retryRowOf a) ≡ a
 retry-back retry.Nothing = refl

@@ -1,4 +1,5 @@
--- What may wait, what only the box sends, and what the module answers: each list looked up in the tables of the messages. Assumes nothing.
+-- What may wait, what only the box sends, and what the module answers:
+-- each list looked up in the tables of the messages. Assumes nothing.
 use Prim.Native.Nat.{_+_}
 use mathlib.Core.Path.{_≡_, refl, sym}
 use mathlib.Core.Bool.{Bool, true, false, _&&_, _||_}

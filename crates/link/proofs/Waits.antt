@@ -1,4 +1,5 @@
--- Logs, entry by entry: the numbers given out, what stands after a part of a log, and what waits after an acceptance. Assumes nothing.
+-- Logs, entry by entry: the numbers given out, what stands after a part of a log, and what waits after an acceptance.
+-- Assumes nothing.
 use Prim.Native.Nat.{ℕ, suc, _+_, _≤_}
 use mathlib.Core.Path.{_≡_, refl, sym, ap, _∙_}
 use mathlib.Core.Bool.{Bool, true, false, cond, true≢false}
@@ -10,14 +11,16 @@ use lib.ListN.{length}
 use Rattle.base.proofs.Tests.{by-test}
 use Rattle.link.specs.Sending.{numberAt}
 use Rattle.link.specs.Calls.{linkOf}
-use Rattle.link.specs.Logs.{Call, Entry, logOf, accepted, repeated, ended, numberIn, givenOut, numbersFrom, waitsAfter, noneEnds, repeatsIn, lastSent, dueTicks}
+use Rattle.link.specs.Logs.{Call, Entry, logOf, accepted, repeated, ended, numberIn, givenOut, numbersFrom}
+use Rattle.link.specs.Logs.{waitsAfter, noneEnds, repeatsIn, lastSent, dueTicks}
 use Rattle.link.specs.declared.state.Link.{Link}
 use Rattle.link.specs.declared.state.Wait.{Wait}
 use Rattle.link.specs.declared.state.Wait.the-variants.{Idle, Waiting}
 use Rattle.link.proofs.Moves.{waitAfter, countAfter, Told, Ranges, Moved, moved}
 
 -- one more or not, counted before or after
-one-more : {A : Type 0} (size : A → ℕ) (t : Bool) (k : ℕ) (x y : A) → size y ≡ suc (size x) → cond t (k + 1) k + size x ≡ k + size (cond t y x)
+one-more : {A : Type 0} (size : A → ℕ) (t : Bool) (k : ℕ) (x y : A)
+    → size y ≡ suc (size x) → cond t (k + 1) k + size x ≡ k + size (cond t y x)
 one-more size true k x y e = omega arith
 one-more size false k x y e = refl
 
@@ -40,11 +43,13 @@ module _ (first most : ℕ) where
   Follows k w (e ∷ es) = Moved first most k w e × Follows (countAfter e k) (waitAfter e w) es
 
   -- every log goes so
-  pub followed : first ≤ 255 → (calls : List Call) (k : ℕ) (w : Wait) {l : Link} → l ≡ linkOf (numberAt first k) w → Ranges first most w
+  pub followed : first ≤ 255 → (calls : List Call) (k : ℕ) (w : Wait) {l : Link}
+      → l ≡ linkOf (numberAt first k) w → Ranges first most w
       → Follows k w (logOf first most l calls)
   unfolding logOf
   followed small [] k w e h = tt
-  followed small (c ∷ calls) k w e h = let m = moved first most k small w c e h in (m, followed small calls _ _ (m .returned) (m .holds))
+  followed small (c ∷ calls) k w e h =
+      let m = moved first most k small w c e h in (m, followed small calls _ _ (m .returned) (m .holds))
 
   -- ---- the numbers given out
 
@@ -54,7 +59,8 @@ module _ (first most : ℕ) where
   in-turn k (Waiting command number sent repeats) e t a = absurd (true≢false (sym a ∙ t .0))
 
   -- those of a log come in order
-  pub numbered : (k : ℕ) (w : Wait) (es : List Entry) → Follows k w es → givenOut es ≡ numbersFrom first k (length (givenOut es))
+  pub numbered : (k : ℕ) (w : Wait) (es : List Entry)
+      → Follows k w es → givenOut es ≡ numbersFrom first k (length (givenOut es))
   unfolding givenOut numbersFrom
   numbered k w [] f = refl
   numbered k w (e ∷ es) f =
@@ -72,7 +78,8 @@ module _ (first most : ℕ) where
     pub follows : Follows (k + length (givenOut before)) wait rest
 
   -- every part of a log leaves such a standing
-  pub stands : (k : ℕ) (w : Wait) (t : Bool) (before rest : List Entry) → (t ≡ false → w ≡ Idle) → Follows k w (before ++ rest) → Standing k t before rest
+  pub stands : (k : ℕ) (w : Wait) (t : Bool) (before rest : List Entry)
+      → (t ≡ false → w ≡ Idle) → Follows k w (before ++ rest) → Standing k t before rest
   unfolding givenOut waitsAfter
   stands k w t [] rest i f = record { wait = w; idle = i; follows = rw add-zero f }
   stands k w t (e ∷ before) rest i f =
@@ -90,13 +97,22 @@ module _ (first most : ℕ) where
     pub follows : Follows k (Waiting command number (lastSent sent during) (repeats + repeatsIn during)) rest
 
   -- they leave so much
-  pub waited : (k command number sent repeats : ℕ) (during rest : List Entry) → Ranges first most (Waiting command number sent repeats)
-      → Follows k (Waiting command number sent repeats) (during ++ rest) → noneEnds during ≡ true → Waited k command number sent repeats during rest
+  pub waited : (k command number sent repeats : ℕ) (during rest : List Entry)
+      → Ranges first most (Waiting command number sent repeats)
+      → Follows k (Waiting command number sent repeats) (during ++ rest) → noneEnds during ≡ true
+      → Waited k command number sent repeats during rest
   unfolding givenOut noneEnds repeatsIn lastSent dueTicks
-  waited k command number sent repeats [] rest h f q = record { few = omega (arith, h .1); each = refl; alone = refl; follows = rw add-zero f }
+  waited k command number sent repeats [] rest h f q =
+      record { few = omega (arith, h .1); each = refl; alone = refl; follows = rw add-zero f }
   waited k command number sent repeats (e ∷ during) rest h f q =
       let a : accepted e ≡ false = f .0 .told .0 in
       let n = none-ends (ended e) q in
-      let i = waited k command number _ _ during rest (simp (a, n .0) at (f .0 .holds)) (simp (a, n .0) at (f .1)) (n .1) in
+      let i =
+      waited k command number _ _ during rest (simp (a, n .0) at (f .0 .holds)) (simp (a, n .0) at (f .1)) (n .1) in
       let count = one-more (λ (m : ℕ). m) (repeated e) repeats (repeatsIn during) (suc (repeatsIn during)) refl in
-      record { few = rw count at (i .few); each = rw (f .0 .told .1 (n .0), i .each); alone = rw a (i .alone); follows = rw count at (i .follows) }
+      record {
+        few = rw count at (i .few);
+        each = rw (f .0 .told .1 (n .0), i .each);
+        alone = rw a (i .alone);
+        follows = rw count at (i .follows);
+      }

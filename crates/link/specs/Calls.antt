@@ -1,12 +1,13 @@
--- What each call answers and leaves: a command offered, a tick, an answer that arrived. `first` is the first number and `most` the most
--- repeats that a command gets; the contracts state `firstNumber` and `mostRepeats`.
+-- What each call answers and leaves: a command offered, a tick, an answer that arrived. `first` is the first number and
+-- `most` the most repeats that a command gets; the contracts state `firstNumber` and `mostRepeats`.
 use Prim.Native.Nat.{ℕ, _+_}
 use mathlib.Core.Bool.{Bool, true, cond, _&&_}
 use lib.Dec.{ltb, leb}
 use Rattle.base.specs.Rows.{Row}
 use Rattle.link.specs.Sending.{mayWait, followingOf, fitsOf}
 use Rattle.link.specs.Clock.{isDue}
-use Rattle.link.specs.Table.{stateRow, busyRow, unsentRow, strayRow, acceptedRow, nothingRow, againRow, givenUpRow, answeredRow, acceptanceRowOf, retryRowOf, arrivalRowOf}
+use Rattle.link.specs.Table.{stateRow, busyRow, unsentRow, strayRow, acceptedRow, nothingRow, againRow}
+use Rattle.link.specs.Table.{givenUpRow, answeredRow, acceptanceRowOf, retryRowOf, arrivalRowOf}
 use Rattle.link.specs.declared.state.Link.{Link}
 use Rattle.link.specs.declared.state.Wait.{Wait}
 use Rattle.link.specs.declared.state.Wait.the-variants.{Idle, Waiting}
@@ -52,13 +53,15 @@ abbrev pub waitInRange : ℕ → ℕ → Wait → Bool
 waitInRange first most Idle = true
 waitInRange first most (Waiting command number sent repeats) = leb first number && (leb repeats most && mayWait command)
 
--- docs/STATES.md: the ranges of a link. One in range that no link that began fresh reaches is answered by the same equations
+-- docs/STATES.md: the ranges of a link.
+-- One in range that no link that began fresh reaches is answered by the same equations
 abbrev pub inRange : ℕ → ℕ → Link → Bool
 inRange first most l = leb first (l .next) && waitInRange first most (l .wait)
 
 -- "an accepted command uses one" number, the next; it is sent at this clock, and has not been repeated
 abbrev pub acceptOf : ℕ → ℕ → ℕ → ℕ → Reply
-acceptOf first next command clock = reply (acceptedRow next) (linkOf (followingOf first next) (Waiting command next clock 0))
+acceptOf first next command clock =
+    reply (acceptedRow next) (linkOf (followingOf first next) (Waiting command next clock 0))
 
 -- a command that may wait, offered to a link in range: BUSY where "a command waits already"
 abbrev pub offerIn : Wait → ℕ → Link → ℕ → ℕ → Reply
@@ -89,7 +92,8 @@ tickIn (Waiting command number sent repeats) most l clock =
 abbrev pub tickOf : ℕ → ℕ → Link → ℕ → Reply
 tickOf first most l clock = cond (inRange first most l) (tickIn (l .wait) most l clock) (reply stateRow l)
 
--- an answer that arrived at a link in range: the one that fits "makes the link idle and returns the waiting command and number"
+-- an answer that arrived at a link in range:
+-- the one that fits "makes the link idle and returns the waiting command and number"
 abbrev pub arriveIn : Wait → Link → ℕ → ℕ → Reply
 arriveIn Idle l command number = reply strayRow l
 arriveIn (Waiting waiting under sent repeats) l command number =
@@ -97,4 +101,5 @@ arriveIn (Waiting waiting under sent repeats) l command number =
 
 -- an answer that arrived: "17, 43"
 abbrev pub arriveOf : ℕ → ℕ → Link → ℕ → ℕ → Reply
-arriveOf first most l command number = cond (inRange first most l) (arriveIn (l .wait) l command number) (reply stateRow l)
+arriveOf first most l command number =
+    cond (inRange first most l) (arriveIn (l .wait) l command number) (reply stateRow l)

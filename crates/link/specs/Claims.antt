@@ -21,7 +21,8 @@ use Rattle.link.specs.declared.offers.Acceptance.{Acceptance}
 use Rattle.link.specs.declared.ticks.Retry.{Retry}
 use Rattle.link.specs.declared.arrivals.Arrival.{Arrival}
 
--- ---- rows-tell: two answers of one enum never have the same number and values, so an equation of rows fixes the answer
+-- ---- rows-tell: two answers of one enum never have the same number and
+-- values, so an equation of rows fixes the answer
 pub record RowsTell : Type 0 where
   pub acceptances : (a b : Acceptance) → acceptanceRowOf a ≡ acceptanceRowOf b → a ≡ b
   pub retries : (a b : Retry) → retryRowOf a ≡ retryRowOf b → a ≡ b
@@ -40,7 +41,8 @@ pub record BoxCommand (command : ℕ) : Type 0 where
 abbrev pub BoxCommands : Type 0
 BoxCommands = (command : ℕ) → BoxCommand command
 
--- ---- module-answers: the answer to what may wait is listed, is none that only the box sends, and without a fault gets no answer from the box
+-- ---- module-answers: the answer to what may wait is listed, is none that only the box sends,
+-- and without a fault gets no answer from the box
 pub record ModuleAnswer (command : ℕ) : Type 0 where
   pub listed : isListed (kindOf (command + 1)) ≡ true
   pub not-box : fromBox (command + 1) ≡ false
@@ -70,13 +72,15 @@ ElapsedTimes = (clock since : ℕ) → clock < 2 ^ 32 → since < 2 ^ 32 → Ela
 
 -- ---- due-ahead: a clock that went on by less than 2^32 is due just from 200 to below 2^31, over a wrap too
 abbrev pub DueAhead : Type 0
-DueAhead = (sent by : ℕ) → sent < 2 ^ 32 → by < 2 ^ 32 → isDue ((sent + by) % 2 ^ 32) sent ≡ (leb 200 by && ltb by (2 ^ 31))
+DueAhead =
+    (sent by : ℕ) → sent < 2 ^ 32 → by < 2 ^ 32 → isDue ((sent + by) % 2 ^ 32) sent ≡ (leb 200 by && ltb by (2 ^ 31))
 
 -- ---- never-behind: "so a clock up to 2^31 behind the last sending is never due"
 abbrev pub NeverBehind : Type 0
 NeverBehind = (sent by : ℕ) → sent < 2 ^ 32 → by ≤ 2 ^ 31 → isDue ((sent + 2 ^ 32 - by) % 2 ^ 32) sent ≡ false
 
--- ---- refused-unchanged: of every link, in range or not, and every call: "link unchanged", "state unchanged"; STATE just where a field is out of range
+-- ---- refused-unchanged: of every link, in range or not, and every call: "link unchanged", "state unchanged";
+-- STATE just where a field is out of range
 pub record Refused (first most : ℕ) (l : Link) (c : Call) : Type 0 where
   pub unchanged : callOf first most l c .row .number ≢ 0 → callOf first most l c .link ≡ l
   pub state-out : callOf first most l c .row .number ≡ 17 → inRange first most l ≡ false
@@ -86,11 +90,14 @@ pub record Refused (first most : ℕ) (l : Link) (c : Call) : Type 0 where
 abbrev pub RefusedUnchanged : Type 0
 RefusedUnchanged = (first most : ℕ) (l : Link) (c : Call) → Refused first most l c
 
--- ---- link-history: every list of calls of a link that began fresh, for every first number up to 255 and any most repeats; paper 01's are `firstNumber` and `mostRepeats`
+-- ---- link-history: every list of calls of a link that began fresh, for every first number up to 255 and any most
+-- repeats; paper 01's are `firstNumber` and `mostRepeats`
 abbrev pub LinkHistory : Type 0
-LinkHistory = (first most : ℕ) → first ≤ 255 → (calls : List Call) → History first most (logOf first most (freshOf first) calls)
+LinkHistory =
+    (first most : ℕ) → first ≤ 255 → (calls : List Call) → History first most (logOf first most (freshOf first) calls)
 
--- ---- wait-found: where a command waits after a log, its acceptance is there; so `idle` and `waiting` of a history speak of every entry
+-- ---- wait-found: where a command waits after a log, its acceptance is there;
+-- so `idle` and `waiting` of a history speak of every entry
 abbrev pub WaitFound : Type 0
 WaitFound = (log : List Entry) → waitsAfter false log ≡ true → OpenWait log
 
@@ -99,7 +106,8 @@ WaitFound = (log : List Entry) → waitsAfter false log ≡ true → OpenWait lo
 -- a report, refused offers, answers that do not fit; three repeats and the end; an onboarding, and the answer that fits
 abbrev pub workedCalls : List Call
 workedCalls =
-    answering 0x06 1 ∷ offering 0x07 0 ∷ offering 0x05 0 ∷ offering 0x09 0 ∷ offering 0x07 0 ∷ answering 0x06 2 ∷ answering 0x05 1
+    answering 0x06 1 ∷ offering 0x07 0 ∷ offering 0x05 0 ∷ offering 0x09 0 ∷ offering 0x07 0
+    ∷ answering 0x06 2 ∷ answering 0x05 1
     ∷ ticking 199 ∷ ticking 200 ∷ ticking 399 ∷ ticking 400 ∷ ticking 600 ∷ ticking 800 ∷ ticking 1000
     ∷ answering 0x06 1 ∷ offering 0x09 1000 ∷ answering 0x0A 2 ∷ []
 
@@ -107,7 +115,8 @@ workedCalls =
 abbrev pub workedRows : List Row
 workedRows =
     row 43 [] ∷ row 42 [] ∷ row 0 (1 ∷ []) ∷ row 41 [] ∷ row 42 [] ∷ row 43 [] ∷ row 43 []
-    ∷ row 0 [] ∷ row 0 (1 ∷ 0x05 ∷ 1 ∷ []) ∷ row 0 [] ∷ row 0 (1 ∷ 0x05 ∷ 1 ∷ []) ∷ row 0 (1 ∷ 0x05 ∷ 1 ∷ []) ∷ row 0 (2 ∷ 0x05 ∷ 1 ∷ []) ∷ row 0 []
+    ∷ row 0 [] ∷ row 0 (1 ∷ 0x05 ∷ 1 ∷ []) ∷ row 0 [] ∷ row 0 (1 ∷ 0x05 ∷ 1 ∷ []) ∷ row 0 (1 ∷ 0x05 ∷ 1 ∷ [])
+    ∷ row 0 (2 ∷ 0x05 ∷ 1 ∷ []) ∷ row 0 []
     ∷ row 43 [] ∷ row 0 (2 ∷ []) ∷ row 0 (0x09 ∷ 2 ∷ []) ∷ []
 
 -- the one is what the other is answered; and the numbers go round at 255
@@ -122,5 +131,7 @@ pub record Example11 : Type 0 where
   pub due : isDue 104 4294967200 ≡ true
   pub not-due : isDue 103 4294967200 ≡ false
   -- the same of a fresh link that is offered a report at the first clock, and then ticked
-  pub again : tickOf firstNumber mostRepeats (offerOf firstNumber mostRepeats (freshOf firstNumber) 0x05 4294967200 .link) 104 .row ≡ againRow 0x05 1
-  pub nothing : tickOf firstNumber mostRepeats (offerOf firstNumber mostRepeats (freshOf firstNumber) 0x05 4294967200 .link) 103 .row ≡ nothingRow
+  pub again : tickOf firstNumber mostRepeats (offerOf firstNumber mostRepeats
+      (freshOf firstNumber) 0x05 4294967200 .link) 104 .row ≡ againRow 0x05 1
+  pub nothing : tickOf firstNumber mostRepeats (offerOf firstNumber mostRepeats
+      (freshOf firstNumber) 0x05 4294967200 .link) 103 .row ≡ nothingRow

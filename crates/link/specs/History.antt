@@ -9,8 +9,11 @@ use lib.Dec.{eqb, ltb}
 use Rattle.base.specs.Rows.{Row}
 use Rattle.link.specs.Sending.{mayWait, numberAt}
 use Rattle.link.specs.Clock.{isDue}
-use Rattle.link.specs.Table.{busyRow, unsentRow, strayRow, acceptedRow, nothingRow, againRow, givenUpRow, answeredRow}
-use Rattle.link.specs.Logs.{Call, offering, ticking, answering, Entry, commandIn, clockIn, accepted, repeated, ended, numberIn, givenOut, numbersFrom, waitsAfter, noneEnds, repeatsIn, lastSent, dueTicks}
+use Rattle.link.specs.Table.{busyRow, unsentRow, strayRow, acceptedRow, nothingRow, againRow, givenUpRow}
+use Rattle.link.specs.Table.{answeredRow}
+use Rattle.link.specs.Logs.{Call, offering, ticking, answering, Entry, commandIn, clockIn, accepted, repeated}
+use Rattle.link.specs.Logs.{ended, numberIn, givenOut, numbersFrom, waitsAfter, noneEnds, repeatsIn, lastSent}
+use Rattle.link.specs.Logs.{dueTicks}
 use Rattle.link.specs.declared.state.Wait.the-variants.{Idle, Waiting}
 
 -- ---- what each entry's answer must be
@@ -21,7 +24,8 @@ idleRow first k (offering command clock) = cond (mayWait command) (acceptedRow (
 idleRow first k (ticking clock) = nothingRow
 idleRow first k (answering command number) = strayRow
 
--- while a command waits, under a number, last sent at a clock, with so many repeats: what paper 01 says of it, spelled out
+-- while a command waits, under a number, last sent at a clock, with so many repeats: what paper 01 says of it,
+-- spelled out
 abbrev pub waitingRow : ℕ → ℕ → ℕ → ℕ → ℕ → Call → Row
 waitingRow most waiting under sent repeats (offering command clock) = cond (mayWait command) busyRow unsentRow
 waitingRow most waiting under sent repeats (ticking clock) =
@@ -32,7 +36,8 @@ waitingRow most waiting under sent repeats (answering command number) =
 -- of an acceptance and entries after it, none of which ends its wait
 pub record Waits (most : ℕ) (a : Entry) (during : List Entry) : Type 0 where
   pub few : repeatsIn during ≤ most  -- "at most 3 repeats after the first sending"
-  pub each : dueTicks (clockIn (a .call)) during ≡ repeatsIn during  -- as many as due ticks; that each is at one, `waiting` says
+  -- as many as due ticks; that each is at one, `waiting` says
+  pub each : dueTicks (clockIn (a .call)) during ≡ repeatsIn during
   pub alone : givenOut during ≡ []  -- "One command waits at a time"
 
 -- a command that waits after a log: its acceptance, and the entries after that, none of which ends its wait
@@ -52,9 +57,11 @@ pub record History (first most : ℕ) (log : List Entry) : Type 0 where
   pub idle : (before : List Entry) (e : Entry) (after : List Entry) → log ≡ before ++ (e ∷ after)
       → waitsAfter false before ≡ false → e .row ≡ idleRow first (length (givenOut before)) (e .call)
   -- the answers after an acceptance a, until its wait ends
-  pub waiting : (before : List Entry) (a : Entry) (during : List Entry) (e : Entry) (after : List Entry) → log ≡ before ++ (a ∷ (during ++ (e ∷ after)))
+  pub waiting : (before : List Entry) (a : Entry) (during : List Entry) (e : Entry) (after : List Entry)
+      → log ≡ before ++ (a ∷ (during ++ (e ∷ after)))
       → accepted a ≡ true → noneEnds during ≡ true
-      → e .row ≡ waitingRow most (commandIn (a .call)) (numberIn a) (lastSent (clockIn (a .call)) during) (repeatsIn during) (e .call)
+      → e .row ≡ waitingRow most (commandIn (a .call)) (numberIn a) (lastSent (clockIn (a .call)) during)
+      (repeatsIn during) (e .call)
   -- what is counted there
   pub waits : (before : List Entry) (a : Entry) (during after : List Entry) → log ≡ before ++ (a ∷ (during ++ after))
       → accepted a ≡ true → noneEnds during ≡ true → Waits most a during
@@ -65,13 +72,16 @@ pub record History (first most : ℕ) (log : List Entry) : Type 0 where
   pub begun : (before : List Entry) (e : Entry) (after : List Entry) → log ≡ before ++ (e ∷ after)
       → accepted e ≡ true → e .returned .wait ≡ Waiting (commandIn (e .call)) (numberIn e) (clockIn (e .call)) 0
   -- "sends again and restarts the time": one repeat more, sent at the tick's clock
-  pub resent : (before : List Entry) (a : Entry) (during : List Entry) (e : Entry) (after : List Entry) → log ≡ before ++ (a ∷ (during ++ (e ∷ after)))
+  pub resent : (before : List Entry) (a : Entry) (during : List Entry) (e : Entry) (after : List Entry)
+      → log ≡ before ++ (a ∷ (during ++ (e ∷ after)))
       → accepted a ≡ true → noneEnds during ≡ true → repeated e ≡ true
       → e .returned .wait ≡ Waiting (commandIn (a .call)) (numberIn a) (clockIn (e .call)) (repeatsIn during + 1)
   -- "gives up and the link is idle", "it makes the link idle"
-  pub freed : (before : List Entry) (e : Entry) (after : List Entry) → log ≡ before ++ (e ∷ after) → ended e ≡ true → e .returned .wait ≡ Idle
+  pub freed : (before : List Entry) (e : Entry) (after : List Entry)
+      → log ≡ before ++ (e ∷ after) → ended e ≡ true → e .returned .wait ≡ Idle
   -- "Another tick changes nothing", and no refused call does
   pub unchanged : (before : List Entry) (e : Entry) (after : List Entry) → log ≡ before ++ (e ∷ after)
       → (accepted e || (repeated e || ended e)) ≡ false → e .returned ≡ e .given
   -- STATE: "no state reached from a fresh one gets it"
-  pub never-state : (before : List Entry) (e : Entry) (after : List Entry) → log ≡ before ++ (e ∷ after) → e .row .number ≢ 17
+  pub never-state : (before : List Entry) (e : Entry) (after : List Entry)
+      → log ≡ before ++ (e ∷ after) → e .row .number ≢ 17

@@ -35,7 +35,8 @@ pub record Entry : Type 0 where
 unfoldable pub logOf : ℕ → ℕ → Link → List Call → List Entry
 logOf first most l [] = []
 logOf first most l (c ∷ cs) =
-    record { call = c; row = callOf first most l c .row; given = l; returned = callOf first most l c .link } ∷ logOf first most (callOf first most l c .link) cs
+    record { call = c; row = callOf first most l c .row; given = l; returned = callOf first most l c .link }
+    ∷ logOf first most (callOf first most l c .link) cs
 
 -- what the calls were answered
 unfoldable pub rowsIn : List Entry → List Row
@@ -135,4 +136,5 @@ lastSent sent (e ∷ es) = lastSent (sentAfter sent e) es
 -- how many ticks of one wait were due, each after the last sending before it
 unfoldable pub dueTicks : ℕ → List Entry → ℕ
 dueTicks sent [] = 0
-dueTicks sent (e ∷ es) = cond (dueIn (e .call) sent) (suc (dueTicks (sentAfter sent e) es)) (dueTicks (sentAfter sent e) es)
+dueTicks sent (e ∷ es) =
+    cond (dueIn (e .call) sent) (suc (dueTicks (sentAfter sent e) es)) (dueTicks (sentAfter sent e) es)

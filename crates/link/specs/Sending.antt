@@ -9,19 +9,21 @@ use Rattle.base.specs.Keys.{among}
 abbrev pub waitCommands : List ℕ
 waitCommands = 0x05 ∷ 0x09 ∷ 0x0B ∷ 0x13 ∷ 0x15 ∷ 0x17 ∷ 0x1B ∷ 0x27 ∷ 0x29 ∷ []
 
--- whether a command is one of them; every other is UNSENT, "command not one the box may send", also one that answers the module, as 02
+-- whether a command is one of them; every other is UNSENT,
+-- "command not one the box may send", also one that answers the module, as 02
 abbrev pub mayWait : ℕ → Bool
 mayWait command = among command waitCommands
 
--- paper 01's first number, and its most repeats of a command after the first sending. The definitions take them as `first` and `most`; every
--- contract states these two
+-- paper 01's first number, and its most repeats of a command after the first sending.
+-- The definitions take them as `first` and `most`; every contract states these two
 abbrev pub firstNumber : ℕ
 firstNumber = 1
 
 abbrev pub mostRepeats : ℕ
 mostRepeats = 3
 
--- "Numbers run 1 to 255 and then 1 again (000)": the k-th number given out; k counts from 0, and `first` is the first number
+-- "Numbers run 1 to 255 and then 1 again (000)": the k-th number given out;
+-- k counts from 0, and `first` is the first number
 abbrev pub numberAt : ℕ → ℕ → ℕ
 numberAt first k = first + k % (256 - first)
 

@@ -1,5 +1,5 @@
--- The number and the values of each answer. Refusals have the numbers of paper 01's table; what is no refusal has no number there and stands
--- under 0 (not MORE).
+-- The number and the values of each answer. Refusals have the numbers of paper 01's table;
+-- what is no refusal has no number there and stands under 0 (not MORE).
 use Prim.Native.Nat.{ℕ}
 use mathlib.Core.List.{[], _∷_}
 use Rattle.base.specs.Rows.{Row, row}

@@ -1,4 +1,5 @@
-// The clock: a 32-bit count of milliseconds that wraps. No reading is compared with another here, only elapsed times with bounds.
+// The clock: a 32-bit count of milliseconds that wraps.
+// No reading is compared with another here, only elapsed times with bounds.
 use super::HALF_CLOCK;
 use super::TIMEOUT_MS;
 ghost use mathlib.Core.Path.{_≡_};

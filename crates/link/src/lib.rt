@@ -1,4 +1,5 @@
-// The sending rules of the serial link: one command waits at a time, under a sequence number, and is sent again when its time is up.
+// The sending rules of the serial link: one command waits at a time,
+// under a sequence number, and is sent again when its time is up.
 mod arrivals;
 mod clock;
 mod offers;

@@ -51,7 +51,8 @@ fn accept(next: u8, command: u8, clock: u32) -> Offered
     }
 }
 
-// Offers a command at a reading of the clock. Where it is accepted, the caller sends it under the number returned, and keeps the payload.
+// Offers a command at a reading of the clock. Where it is accepted,
+// the caller sends it under the number returned, and keeps the payload.
 pub fn offer(link: Link, command: u8, clock: u32) -> Offered
     ensures { λ r. ⌜ offeredOf r ≡ offerOf firstNumber mostRepeats link command clock ⌝ }
 {

@@ -86,7 +86,8 @@ pub fn tick_by_value(link: Link, clock: u32) -> Ticked
 
 // A tick that alters the link in its own place, for a box that holds one link for its life.
 pub fn tick(link: &mut Link, clock: u32) -> Retry
-    ensures { λ r. ⌜ reply (retryRowOf r) (now (link .exit)) ≡ tickOf firstNumber mostRepeats (now (link .entry)) clock ⌝ }
+    ensures { λ r. ⌜ reply (retryRowOf r) (now (link .exit))
+        ≡ tickOf firstNumber mostRepeats (now (link .entry)) clock ⌝ }
 {
     let ticked = tick_by_value(*link, clock);
     *link = ticked.link;

@@ -10,7 +10,8 @@ use Rattle.firmware.proofs.trogonreed_write_frame.Statement.{statement}
 use Rattle.firmware.proofs.trogonreed_write_frame.Tie as tie
 
 returns : tie.Need-returns
-returns c = ap returnedOf (rw (c .before .written .given .1) at (c .before .before .before .before .before .write .ensures))
+returns c =
+    ap returnedOf (rw (c .before .written .given .1) at (c .before .before .before .before .before .write .ensures))
 
 returns-2 : tie.Need-returns-2
 returns-2 c = ap returnedOf (rw (c .enum-told .given .1) at (c .before .before .before .before .write .ensures))
@@ -23,8 +24,15 @@ cast-result : tie.Need-cast-result
 cast-result c =
     let w = c .before .before .before .before .before in
     let args = w .before .before .before .before .args in
-    let given : Given = record { command = args .command; number = args .number; flags = args .flags; payload = args .payload .now; out = args .out .now } in
-    let count = ap (λ (a : Write). countIn (a .row)) {y = answered given} (rw (c .before .written .given .1) at (w .write .ensures)) in
+    let given : Given = record {
+      command = args .command;
+      number = args .number;
+      flags = args .flags;
+      payload = args .payload .now;
+      out = args .out .now;
+    } in
+    let count = ap (λ (a : Write). countIn (a .row)) {y =
+    answered given} (rw (c .before .written .given .1) at (w .write .ensures)) in
     record { fits = omega (arith, counts-below given, count) }
 
 pub trogonreed-write-frame-spec : {M : Type 1} → statement M

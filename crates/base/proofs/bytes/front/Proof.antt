@@ -1,4 +1,5 @@
--- `bytes::front` meets its contract; the prover finds all of it. The file stands here so that a wrong order of bytes is refused here.
+-- `bytes::front` meets its contract; the prover finds all of it.
+-- The file stands here so that a wrong order of bytes is refused here.
 use borrow.Author.Needs.{needs}
 use Rattle.base.proofs.bytes.front.Statement.{statement}
 use Rattle.base.proofs.bytes.front.Tie as tie
@@ -7,5 +8,6 @@ pub front-spec : {M : Type 1} → statement M
 front-spec =
     tie.close
     (tie.spec
-    (λ c κs. search needs) (λ c. search needs) (λ c. search needs) (λ c κs. search needs) (λ c. search needs) (λ c. search needs)
+    (λ c κs. search needs) (λ c. search needs) (λ c. search needs) (λ c κs. search needs)
+    (λ c. search needs) (λ c. search needs)
     λ c. search needs)

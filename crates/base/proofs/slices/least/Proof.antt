@@ -1,4 +1,5 @@
--- `slices::least` meets its contract; the prover finds all of it. The file stands here so that a wrong test is refused here.
+-- `slices::least` meets its contract; the prover finds all of it.
+-- The file stands here so that a wrong test is refused here.
 use borrow.Author.Needs.{needs}
 use Rattle.base.proofs.slices.least.Statement.{statement}
 use Rattle.base.proofs.slices.least.Tie as tie

@@ -19,7 +19,8 @@ returns c =
     let count = c .before .least2 in
     let args = c .before .before .before .before .args in
     record {
-      bytes = cut (args .bytes .now) (args .start) (from .result) (args .size) (from .result + count .result) (from .ensures) (omega arith);
+      bytes = cut (args .bytes .now) (args .start) (from .result) (args .size) (from .result + count .result)
+          (from .ensures) (omega arith);
       block = refl;
       offset = omega arith;
     }
@@ -28,5 +29,6 @@ pub part-spec : {M : Type 1} → statement M
 part-spec =
     tie.close
     (tie.spec
-    (λ c κs. search needs) (λ c. search needs) (λ c κs. search needs) (λ c. search needs) (λ c. search needs) (λ c. search needs) (λ c. search needs)
+    (λ c κs. search needs) (λ c. search needs) (λ c κs. search needs) (λ c. search needs) (λ c. search needs)
+    (λ c. search needs) (λ c. search needs)
     returns)

@@ -12,7 +12,8 @@ returns : tie.Need-returns
 returns c =
     let args = c .before .before .args in
     let b = args .bytes .now in
-    c .part .ensures .bytes ∙ rw drop-min (take-all (length b) (drop (args .start) b) (omega (arith, length-drop (args .start) b)))
+    c .part .ensures .bytes
+    ∙ rw drop-min (take-all (length b) (drop (args .start) b) (omega (arith, length-drop (args .start) b)))
 
 pub rest-spec : {M : Type 1} → statement M
 rest-spec = tie.close (tie.spec (λ c κs. search needs) returns)

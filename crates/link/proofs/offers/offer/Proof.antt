@@ -12,7 +12,8 @@ use Rattle.link.proofs.offers.offer.Statement.{statement}
 use Rattle.link.proofs.offers.offer.Tie as tie
 
 -- an idle link in range takes a command that may be sent
-taken : (l : Link) (command clock : ℕ) → inRange firstNumber mostRepeats l ≡ true → mayWait command ≡ true → l .wait ≡ Idle → acceptOf firstNumber (l .next) command clock ≡ offerOf firstNumber mostRepeats l command clock
+taken : (l : Link) (command clock : ℕ) → inRange firstNumber mostRepeats l ≡ true → mayWait command ≡ true
+    → l .wait ≡ Idle → acceptOf firstNumber (l .next) command clock ≡ offerOf firstNumber mostRepeats l command clock
 taken l command clock r s w = simp (r, s) (simp w)
 
 -- past both guards the link is in range, and the command may be sent
@@ -33,10 +34,15 @@ offer-spec =
     (search needs)
     (search needs)
     (λ c. let guard = c .before .before .before in
-    c .refused2 .ensures ∙ simp (past (guard .before .in-range .ensures) (guard .if1 .left), caught (c .before .before .may-wait .ensures) (c .before .if2 .taken)))
+    c .refused2 .ensures ∙ simp (
+      past (guard .before .in-range .ensures) (guard .if1 .left),
+      caught (c .before .before .may-wait .ensures) (c .before .if2 .taken),
+    ))
     (search needs)
     (search needs)
     (search needs)
     (search needs)
-    (λ c. let at = c .before .before .before in c .accept .ensures ∙ taken _ _ _ (ranged at) (sent at) (c .before .enum-told .given .1))
-    λ c. let at = c .before .before .before in c .refused3 .ensures ∙ simp (ranged at, sent at) (simp (c .before .enum-told2 .given .1)))
+    (λ c. let at = c .before .before .before in c .accept .ensures
+    ∙ taken _ _ _ (ranged at) (sent at) (c .before .enum-told .given .1))
+    λ c. let at = c .before .before .before in c .refused3 .ensures
+    ∙ simp (ranged at, sent at) (simp (c .before .enum-told2 .given .1)))

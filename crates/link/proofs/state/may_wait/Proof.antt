@@ -11,4 +11,5 @@ use Rattle.link.proofs.state.may_wait.Tie as tie
 pub may-wait-spec : {M : Type 1} → statement M
 unfolding among
 may-wait-spec =
-    tie.close (tie.spec (λ c. at-keys mayWait _ waitCommands _ refl (c .match .keys1)) λ c. in-range mayWait _ 0 256 (waitCommands ∷ []) _ refl (omega arith) (c .match .rest))
+    tie.close (tie.spec (λ c. at-keys mayWait _ waitCommands _ refl (c .match .keys1))
+    λ c. in-range mayWait _ 0 256 (waitCommands ∷ []) _ refl (omega arith) (c .match .rest))

@@ -19,6 +19,8 @@ tick-by-value-spec =
     (search needs)
     (λ c. simp (caught (c .before .in-range .ensures) (c .if1 .taken)))
     (search needs) (search needs) (search needs) (search needs)
-    (λ c. let at = c .before .before .before .before in simp (ranged (at .before .before)) (simp (at .wait .given .1, c .due .ensures, ← c .before .before .is-due .ensures, c .before .if2 .taken)))
+    (λ c. let at = c .before .before .before .before in simp (ranged (at .before .before))
+    (simp (at .wait .given .1, c .due .ensures, ← c .before .before .is-due .ensures, c .before .if2 .taken)))
     (λ c. simp (ranged (c .before .before)) (simp (c .enum-told .given .1)))
-    λ c. let at = c .before .before .before in simp (ranged (at .before .before)) (simp (at .wait .given .1, ← c .before .is-due .ensures, c .if2 .left)))
+    λ c. let at = c .before .before .before in
+    simp (ranged (at .before .before)) (simp (at .wait .given .1, ← c .before .is-due .ensures, c .if2 .left)))
