@@ -44,9 +44,10 @@ use denote.Triple.Spec.{Meets, tripleOf}
 use denote.Triple.Table.{entered, cited}
 use denote.Triple.Walked.{says, Stays, stay-none, walkOf, goes-none, Walks, ends-at, walked, walk-meets}
 use denote.Exit.{yes}
+use Rattle.base.specs.Outcomes.{reply}
 use Rattle.link.specs.Sending.{firstNumber, mostRepeats}
 use Rattle.link.specs.Table.{retryRowOf}
-use Rattle.link.specs.Calls.{reply, tickOf, tickedOf}
+use Rattle.link.specs.Calls.{tickOf, tickedOf}
 use Rattle.link.specs.declared.state.Link.{Link}
 use Rattle.link.specs.declared.ticks.Retry.{Retry}
 use Rattle.link.specs.declared.ticks.Ticked.{Ticked}
