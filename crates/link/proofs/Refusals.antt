@@ -50,7 +50,8 @@ module _ (first most : ℕ) (l : Link) where
 
   -- what the test for 17 makes of it
   abbrev Guarded : Bool → Reply Link → Type 0
-  Guarded t y = (y .row .number ≢ 0 → y .state ≡ l) × (y .row .number ≡ 17 → t ≡ false) × (t ≡ false → y .row ≡ stateRow)
+  Guarded t y =
+      (y .row .number ≢ 0 → y .state ≡ l) × (y .row .number ≡ 17 → t ≡ false) × (t ≡ false → y .row ≡ stateRow)
 
   guarded : (t : Bool) (y : Reply Link) → Fair y → Guarded t (cond t y (reply stateRow l))
   guarded true y f = (f .0, λ e. absurd (f .1 e), λ e. absurd (true≢false e))
