@@ -1,4 +1,4 @@
--- What a call that writes into a caller's output answers and leaves there.
+-- What a call answers and leaves: a state that it returns, or bytes in a caller's output.
 use Prim.Native.Nat.{ℕ}
 use mathlib.Core.Bool.{cond}
 use mathlib.Core.List.{List, [], _∷_, _++_}
@@ -6,7 +6,16 @@ use lib.ListN.{length, getD, drop}
 use lib.Dec.{ltb}
 use Rattle.base.specs.Rows.{Row, row}
 
--- the call's row, and the output afterwards
+-- a call's row, and the state that it returns
+pub record Reply (S : Type 0) : Type 0 where
+  pub row : Row
+  pub state : S
+
+-- a reply of the two
+abbrev pub reply : {S : Type 0} → Row → S → Reply S
+reply a s = record { row = a; state = s }
+
+-- the row of a call that writes, and the output afterwards
 pub record Write : Type 0 where
   pub row : Row
   pub out : List ℕ

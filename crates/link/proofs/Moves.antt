@@ -8,10 +8,11 @@ use borrow.Author.Tests.{le-leb, eqb-true, ltb-true}
 use lib.ListN.{getD}
 use lib.Dec.{eqb, ltb}
 use Rattle.base.specs.Rows.{Row}
+use Rattle.base.specs.Outcomes.{Reply, reply}
 use Rattle.base.proofs.Tests.{by-test, both}
 use Rattle.link.specs.Sending.{mayWait, numberAt, fitsOf}
 use Rattle.link.specs.Clock.{isDue}
-use Rattle.link.specs.Calls.{Reply, reply, linkOf, inRange, retryOf}
+use Rattle.link.specs.Calls.{linkOf, inRange, retryOf}
 use Rattle.link.specs.Logs.{Call, offering, ticking, answering, callOf, Entry, acceptedIn, repeatedIn, endedIn}
 use Rattle.link.specs.Logs.{commandIn, clockIn, dueIn, accepted, repeated, ended, numberIn}
 use Rattle.link.specs.History.{idleRow, waitingRow}
@@ -23,7 +24,7 @@ use Rattle.link.proofs.Numbers.{number-next}
 -- the entry of a call
 abbrev pub entryOf : ℕ → ℕ → Link → Call → Entry
 entryOf first most l c =
-    record { call = c; row = callOf first most l c .row; given = l; returned = callOf first most l c .link }
+    record { call = c; row = callOf first most l c .row; given = l; returned = callOf first most l c .state }
 
 -- ---- what an entry's call and answer leave
 
@@ -97,8 +98,8 @@ module _ (first most k : ℕ) (small : first ≤ 255) where
   standing w = linkOf (numberAt first k) w
 
   -- of its call and what that replies
-  abbrev Moves : Wait → Call → Reply → Type 0
-  Moves w c y = Moved first most k w (record { call = c; row = y .row; given = standing w; returned = y .link })
+  abbrev Moves : Wait → Call → Reply Link → Type 0
+  Moves w c y = Moved first most k w (record { call = c; row = y .row; given = standing w; returned = y .state })
 
   -- it passes the test for 17
   in-range : (w : Wait) → Ranges first most w → inRange first most (standing w) ≡ true

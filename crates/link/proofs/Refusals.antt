@@ -6,11 +6,12 @@ use mathlib.Core.Logic.{_≢_}
 use mathlib.Core.Bool.{Bool, true, false, cond, true≢false}
 use native.Mathlib.Omega.{arith}
 use lib.Dec.{ltb}
+use Rattle.base.specs.Outcomes.{Reply, reply}
 use Rattle.base.proofs.Tests.{by-test}
 use Rattle.link.specs.Sending.{mayWait, fitsOf}
 use Rattle.link.specs.Clock.{isDue}
 use Rattle.link.specs.Table.{stateRow, unsentRow}
-use Rattle.link.specs.Calls.{Reply, reply, inRange, offerIn, retryOf, tickIn, arriveIn}
+use Rattle.link.specs.Calls.{inRange, offerIn, retryOf, tickIn, arriveIn}
 use Rattle.link.specs.Logs.{Call, offering, ticking, answering, callOf}
 use Rattle.link.specs.Claims.{RefusedUnchanged}
 use Rattle.link.specs.declared.state.Link.{Link}
@@ -19,8 +20,8 @@ use Rattle.link.specs.declared.state.Wait.the-variants.{Idle, Waiting}
 
 module _ (first most : ℕ) (l : Link) where
   -- a reply that is no STATE, and leaves the link where it refuses
-  abbrev Fair : Reply → Type 0
-  Fair y = (y .row .number ≢ 0 → y .link ≡ l) × (y .row .number ≢ 17)
+  abbrev Fair : Reply Link → Type 0
+  Fair y = (y .row .number ≢ 0 → y .state ≡ l) × (y .row .number ≢ 17)
 
   taken : (w : Wait) (command clock : ℕ) → Fair (offerIn w first l command clock)
   taken Idle command clock = (λ n. absurd (n refl), omega arith)
@@ -48,10 +49,11 @@ module _ (first most : ℕ) (l : Link) where
       λ _. (λ _. refl, omega arith)
 
   -- what the test for 17 makes of it
-  abbrev Guarded : Bool → Reply → Type 0
-  Guarded t y = (y .row .number ≢ 0 → y .link ≡ l) × (y .row .number ≡ 17 → t ≡ false) × (t ≡ false → y .row ≡ stateRow)
+  abbrev Guarded : Bool → Reply Link → Type 0
+  Guarded t y =
+      (y .row .number ≢ 0 → y .state ≡ l) × (y .row .number ≡ 17 → t ≡ false) × (t ≡ false → y .row ≡ stateRow)
 
-  guarded : (t : Bool) (y : Reply) → Fair y → Guarded t (cond t y (reply stateRow l))
+  guarded : (t : Bool) (y : Reply Link) → Fair y → Guarded t (cond t y (reply stateRow l))
   guarded true y f = (f .0, λ e. absurd (f .1 e), λ e. absurd (true≢false e))
   guarded false y f = (λ _. refl, λ _. refl, λ _. refl)
 

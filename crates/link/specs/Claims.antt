@@ -82,7 +82,7 @@ NeverBehind = (sent by : ℕ) → sent < 2 ^ 32 → by ≤ 2 ^ 31 → isDue ((se
 -- ---- refused-unchanged: of every link, in range or not, and every call: "link unchanged", "state unchanged";
 -- STATE just where a field is out of range
 pub record Refused (first most : ℕ) (l : Link) (c : Call) : Type 0 where
-  pub unchanged : callOf first most l c .row .number ≢ 0 → callOf first most l c .link ≡ l
+  pub unchanged : callOf first most l c .row .number ≢ 0 → callOf first most l c .state ≡ l
   pub state-out : callOf first most l c .row .number ≡ 17 → inRange first most l ≡ false
   pub out-state : inRange first most l ≡ false → callOf first most l c .row ≡ row 17 (0 ∷ [])
 
@@ -132,6 +132,6 @@ pub record Example11 : Type 0 where
   pub not-due : isDue 103 4294967200 ≡ false
   -- the same of a fresh link that is offered a report at the first clock, and then ticked
   pub again : tickOf firstNumber mostRepeats (offerOf firstNumber mostRepeats
-      (freshOf firstNumber) 0x05 4294967200 .link) 104 .row ≡ againRow 0x05 1
+      (freshOf firstNumber) 0x05 4294967200 .state) 104 .row ≡ againRow 0x05 1
   pub nothing : tickOf firstNumber mostRepeats (offerOf firstNumber mostRepeats
-      (freshOf firstNumber) 0x05 4294967200 .link) 103 .row ≡ nothingRow
+      (freshOf firstNumber) 0x05 4294967200 .state) 103 .row ≡ nothingRow

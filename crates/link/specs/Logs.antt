@@ -5,9 +5,10 @@ use mathlib.Core.List.{List, [], _∷_}
 use lib.ListN.{getD}
 use lib.Dec.{eqb}
 use Rattle.base.specs.Rows.{Row}
+use Rattle.base.specs.Outcomes.{Reply}
 use Rattle.link.specs.Sending.{numberAt}
 use Rattle.link.specs.Clock.{isDue}
-use Rattle.link.specs.Calls.{Reply, offerOf, tickOf, arriveOf}
+use Rattle.link.specs.Calls.{offerOf, tickOf, arriveOf}
 use Rattle.link.specs.declared.state.Link.{Link}
 
 -- ---- the log of a list of calls
@@ -19,7 +20,7 @@ pub data Call : Type 0 where
   answering : ℕ → ℕ → Call  -- an answer's command and number
 
 -- the very definitions that the contracts of the calls state
-abbrev pub callOf : ℕ → ℕ → Link → Call → Reply
+abbrev pub callOf : ℕ → ℕ → Link → Call → Reply Link
 callOf first most l (offering command clock) = offerOf first most l command clock
 callOf first most l (ticking clock) = tickOf first most l clock
 callOf first most l (answering command number) = arriveOf first most l command number
@@ -35,8 +36,8 @@ pub record Entry : Type 0 where
 unfoldable pub logOf : ℕ → ℕ → Link → List Call → List Entry
 logOf first most l [] = []
 logOf first most l (c ∷ cs) =
-    record { call = c; row = callOf first most l c .row; given = l; returned = callOf first most l c .link }
-    ∷ logOf first most (callOf first most l c .link) cs
+    record { call = c; row = callOf first most l c .row; given = l; returned = callOf first most l c .state }
+    ∷ logOf first most (callOf first most l c .state) cs
 
 -- what the calls were answered
 unfoldable pub rowsIn : List Entry → List Row

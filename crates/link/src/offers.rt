@@ -5,9 +5,10 @@ use super::state::following;
 use super::state::in_range;
 use super::state::may_wait;
 ghost use mathlib.Core.Path.{_≡_};
+ghost use Rattle.base.specs.Outcomes.{reply};
 ghost use Rattle.link.specs.Sending.{firstNumber, mostRepeats};
 ghost use Rattle.link.specs.Table.{acceptanceRowOf};
-ghost use Rattle.link.specs.Calls.{reply, acceptOf, offerOf, offeredOf};
+ghost use Rattle.link.specs.Calls.{acceptOf, offerOf, offeredOf};
 
 // What an offer is answered.
 pub enum Acceptance {

@@ -6,9 +6,10 @@ use super::state::Wait;
 use super::state::idle;
 use super::state::in_range;
 ghost use mathlib.Core.Path.{_≡_};
+ghost use Rattle.base.specs.Outcomes.{reply};
 ghost use Rattle.link.specs.Sending.{firstNumber, mostRepeats};
 ghost use Rattle.link.specs.Table.{retryRowOf};
-ghost use Rattle.link.specs.Calls.{reply, retryOf, tickOf, tickedOf};
+ghost use Rattle.link.specs.Calls.{retryOf, tickOf, tickedOf};
 
 // What a tick is answered.
 pub enum Retry {

@@ -1,4 +1,5 @@
--- `links::play::records` is safe and ends. The measure is the number of turns that are left; nothing has to hold from turn to turn. Assumes nothing.
+-- `links::play::records` is safe and ends. The measure is the number of turns that are left;
+-- nothing has to hold from turn to turn. Assumes nothing.
 use borrow.Author.Needs.{needs}
 use Rattle.links.proofs.play.records.Statement.{statement}
 use Rattle.links.proofs.play.records.Tie as tie
@@ -15,4 +16,5 @@ records-spec =
     (tie.spec
     Inv-loop
     μ-loop
-    (search needs) (search needs) (search needs) (search needs) (search needs) (search needs) (search needs) (search needs))
+    (search needs) (search needs) (search needs) (search needs) (search needs) (search needs)
+    (search needs) (search needs))
