@@ -9,7 +9,8 @@ use lib.Dec.{leb}
 use borrow.Author.Tests.{le-leb, leb-true}
 use Rattle.frame.specs.Table.{countOf, eventRow}
 use Rattle.frame.specs.Rules.{advanceOf, decidesOf, inRangeOf}
-use Rattle.frame.specs.Calls.{Reply, nextOf, runOf}
+use Rattle.base.specs.Outcomes.{Reply}
+use Rattle.frame.specs.Calls.{nextOf, runOf}
 use Rattle.frame.specs.declared.scan.Event.{Event}
 use Rattle.frame.specs.declared.scan.Event.the-variants.{Quiet, Decided}
 use Rattle.frame.specs.State.{State}
@@ -20,7 +21,7 @@ pub count-event : (e : Event) (n s p : ℕ) → countOf (eventRow e n s p) ≡ n
 count-event Quiet n s p = refl
 count-event (Decided v) n s p = refl
 
-abbrev Counts : ℕ → ℕ → Reply → Type 0
+abbrev Counts : ℕ → ℕ → Reply State → Type 0
 Counts low high y = (low ≤ countOf (y .row)) × (countOf (y .row) ≤ high)
 
 run-counts : (limit : ℕ) (bs : List ℕ) (n : ℕ) (r : State) → Counts n (n + length bs) (runOf limit bs n r)
@@ -36,8 +37,8 @@ run-counts limit (x ∷ xs) n r =
 pub within : Within
 within limit r bs =
     let run = run-counts limit bs 0 r in
-    by-test (λ (y : Reply). countOf (y .row) ≤ length bs) (inRangeOf limit (r .scan))
-    (λ a. by-test (λ (y : Reply). countOf (y .row) ≤ length bs) (leb (r .scan .taken + length bs) (2 ^ 62))
+    by-test (λ (y : Reply State). countOf (y .row) ≤ length bs) (inRangeOf limit (r .scan))
+    (λ a. by-test (λ (y : Reply State). countOf (y .row) ≤ length bs) (leb (r .scan .taken + length bs) (2 ^ 62))
     (λ b. omega (arith, run .1)) (λ b. omega arith))
     (λ a. omega arith)
 
@@ -47,7 +48,8 @@ some-run limit x xs r =
     let e : Event = advanceOf limit (r .scan) x .event in
     let c = count-event e (0 + 1) (r .scan .start) (nextOf limit r x .scan .taken) in
     let rest = run-counts limit xs (0 + 1) (nextOf limit r x) in
-    by-test (λ (y : Reply). 1 ≤ countOf (y .row)) (decidesOf e) (λ d. omega (arith, c)) (λ d. omega (arith, rest .0))
+    by-test (λ (y : Reply State). 1 ≤ countOf (y .row)) (decidesOf e) (λ d. omega (arith, c))
+    (λ d. omega (arith, rest .0))
 
 pub progress : Progress
 progress limit r [] a b h = absurd (omega arith)

@@ -10,7 +10,8 @@ use lib.Dec.{leb}
 use Rattle.base.specs.Rows.{Row}
 use Rattle.frame.specs.Table.{codeOf, eventRow}
 use Rattle.frame.specs.Rules.{advanceOf, decidesOf, inRangeOf}
-use Rattle.frame.specs.Calls.{Reply, reply, nextOf, endingRow, runOf}
+use Rattle.base.specs.Outcomes.{Reply, reply}
+use Rattle.frame.specs.Calls.{nextOf, endingRow, runOf}
 use Rattle.frame.specs.Logs.{Call, give, ask, callOf, entryOf, logOf, stateAfter, offered, takenBy, stream}
 use Rattle.frame.specs.Logs.{decided}
 use Rattle.frame.specs.Lines.{Line, lined, linesOf, heldUnder}
@@ -69,7 +70,7 @@ module _ (limit : ℕ) where
   -- ---- calls, of any reader
 
   -- a call c took k of the bytes bs, after n others
-  record Took (c : Call) (r : State) (n : ℕ) (bs : List ℕ) (y : Reply) : Type 0 where
+  record Took (c : Call) (r : State) (n : ℕ) (bs : List ℕ) (y : Reply State) : Type 0 where
     k : ℕ
     counts : takenBy c (y .row) ≡ n + k
     reader : y .state ≡ afterAll limit r (take k bs)
@@ -140,7 +141,7 @@ module _ (limit : ℕ) where
   unfolding logOf stateAfter stream linesOf afterAll saidAll
   folded [] r = record { lines = refl; reader = refl }
   folded (c ∷ cs) r =
-      let y : Reply = callOf limit r c in
+      let y : Reply State = callOf limit r c in
       let w : Took c r 0 (offered c) y = took-call r c in
       let rest : Folded (y .state) cs = folded cs (y .state) in
       let s : List ℕ = stream (logOf limit (y .state) cs) in

@@ -9,7 +9,8 @@ use lib.Seq.{take-at, drop-at}
 use lib.Dec.{eqb}
 use Rattle.frame.specs.Wire.{unstuff}
 use Rattle.base.specs.Rows.{Row, row}
-use Rattle.frame.specs.Calls.{reply, endingRow, freshOf}
+use Rattle.base.specs.Outcomes.{reply}
+use Rattle.frame.specs.Calls.{endingRow, freshOf}
 use Rattle.frame.specs.Logs.{logOf, stateAfter, stream}
 use Rattle.frame.specs.Lines.{Decides, is-frame, is-short, is-long, is-stuff, is-cut, is-sum, Line, IsLine, Opens}
 use Rattle.frame.specs.Lines.{at-header, in-body, at-ff, IsOpen}

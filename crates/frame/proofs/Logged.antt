@@ -15,7 +15,8 @@ use Rattle.frame.specs.Frames.{Found, frontBody, framesFrom}
 use Rattle.base.specs.Rows.{Row, row}
 use Rattle.frame.specs.Table.{codeOf, eventRow}
 use Rattle.frame.specs.Rules.{advanceOf, decidesOf, inRangeOf}
-use Rattle.frame.specs.Calls.{Reply, reply, nextOf, endingRow, runOf, feedOf, finishOf}
+use Rattle.base.specs.Outcomes.{Reply, reply}
+use Rattle.frame.specs.Calls.{nextOf, endingRow, runOf, feedOf, finishOf}
 use Rattle.frame.specs.Logs.{Call, give, ask, callOf, Entry, entryOf, logOf, stateAfter, offered, takenBy}
 use Rattle.frame.specs.Logs.{takenIn, stream, handed, handedOut, decided, Account, Accounts}
 use Rattle.frame.specs.State.{Phase, Idle, Half, Header, Open, Escape, State}
@@ -32,7 +33,7 @@ taken r = r .scan .taken
 -- ---- the bytes of a call
 
 -- a call took k of the bytes bs, after n others, by its last event
-record Took (limit : ℕ) (r : State) (n : ℕ) (bs : List ℕ) (y : Reply) : Type 0 where
+record Took (limit : ℕ) (r : State) (n : ℕ) (bs : List ℕ) (y : Reply State) : Type 0 where
   k : ℕ
   event : Event
   start : ℕ
@@ -105,7 +106,7 @@ took limit small (x ∷ xs) n r i =
 -- ---- one call
 
 -- what a call of a reader that the calls can reach gives
-pub record Called (limit : ℕ) (r : State) (c : Call) (y : Reply) : Type 0 where
+pub record Called (limit : ℕ) (r : State) (c : Call) (y : Reply State) : Type 0 where
   pub holds : Inv limit (y .state)
   pub most : taken (y .state) ≤ 2 ^ 62
   pub place : taken (y .state) ≡ taken r + takenBy c (y .row)
@@ -119,7 +120,7 @@ pub record Called (limit : ℕ) (r : State) (c : Call) (y : Reply) : Type 0 wher
 not-asked : {A : Type 0} {bs : List ℕ} → give bs ≡ ask → A
 not-asked e = let z : _≡_ {A = ℕ} 0 1 = cc in absurd (omega arith)
 
-with-row : (limit : ℕ) (r : State) (c : Call) (y : Reply) (a : Row)
+with-row : (limit : ℕ) (r : State) (c : Call) (y : Reply State) (a : Row)
     → y .row ≡ a → Called limit r c (reply a (y .state)) → Called limit r c y
 with-row limit r c y a e h = rw (← e) at h
 
@@ -299,7 +300,7 @@ module _ (limit : ℕ) (small : limit ≤ 65279) where
         shapes = λ e m. absurd (List·Memᴰ·not-nil m);
       }
   logged (c ∷ cs) r i most =
-      let y : Reply = callOf limit r c in
+      let y : Reply State = callOf limit r c in
       let ok : Called limit r c y = called limit small r i most c in
       let rest = logged cs (y .state) (ok .holds) (ok .most) in
       record {
@@ -323,7 +324,7 @@ module _ (limit : ℕ) (small : limit ≤ 65279) where
   unfolding logOf stateAfter stream
   reached [] r i most = record { holds = i; most = most; place = omega arith }
   reached (c ∷ cs) r i most =
-      let y : Reply = callOf limit r c in
+      let y : Reply State = callOf limit r c in
       let ok : Called limit r c y = called limit small r i most c in
       let rest = reached cs (y .state) (ok .holds) (ok .most) in
       let front : List ℕ = take (takenBy c (y .row)) (offered c) in

@@ -5,7 +5,8 @@ use mathlib.Core.List.{List, [], _∷_, _++_, append-assoc}
 use native.Mathlib.Omega.{arith}
 use lib.ListN.{length, take, drop, take-append-drop, length-append, length-drop}
 use Rattle.frame.specs.Table.{countOf}
-use Rattle.frame.specs.Calls.{Reply, freshOf, feedOf}
+use Rattle.base.specs.Outcomes.{Reply}
+use Rattle.frame.specs.Calls.{freshOf, feedOf}
 use Rattle.frame.specs.Logs.{Call, give, callOf, Entry, entryOf, takenIn, logOf, stateAfter, offered, stream}
 use Rattle.frame.specs.Logs.{offer, send, joined}
 use Rattle.frame.specs.Claims.{SentWhole}
@@ -42,7 +43,7 @@ module _ (limit : ℕ) (small : limit ≤ 65279) where
   offered-whole zero bs r i room few = sym (no-bytes bs (omega arith))
   offered-whole (suc n) bs r i room few =
       let most : r .scan .taken ≤ 2 ^ 62 = omega arith in
-      let y : Reply = feedOf limit r bs in
+      let y : Reply State = feedOf limit r bs in
       let c : ℕ = countOf (y .row) in
       let ok : Called limit r (give bs) y = called limit small r i most (give bs) in
       let left : length (drop c bs) ≤ n =

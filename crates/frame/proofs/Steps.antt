@@ -13,7 +13,8 @@ use Rattle.base.specs.Rows.{row}
 use Rattle.frame.specs.Rules.{Ready, inRangeOf, completedOf, bodyByteOf, onFFIn, onOtherIn, advanceOf, decidesOf}
 use Rattle.frame.specs.Rules.{putOf}
 use Rattle.frame.specs.Table.{eventRow}
-use Rattle.frame.specs.Calls.{reply, runOf}
+use Rattle.base.specs.Outcomes.{reply}
+use Rattle.frame.specs.Calls.{runOf}
 use Rattle.frame.specs.State.{Phase, Idle, Half, Header, Open, Escape, Scan, Step, State}
 use Rattle.base.proofs.Tests.{by-test, both}
 

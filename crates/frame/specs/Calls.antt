@@ -7,7 +7,7 @@ use lib.ListN.{length, replicate}
 use lib.Dec.{ltb, leb}
 use Rattle.frame.specs.Wire.{wire, bodyOf, framed}
 use Rattle.base.specs.Rows.{Row, row}
-use Rattle.base.specs.Outcomes.{Write, outcome, placed}
+use Rattle.base.specs.Outcomes.{Reply, reply, Write, outcome, placed}
 use Rattle.base.specs.Sums.{total}
 use Rattle.frame.specs.declared.writer.Written.{Written}
 use Rattle.frame.specs.State.{Phase, Idle, Half, Header, Open, Escape, Scan, State, stateOf}
@@ -16,21 +16,12 @@ use Rattle.frame.specs.Rules.{inRangeOf, closedOf, advanceOf, decidesOf,
 use Rattle.frame.specs.declared.reader.Fed.{Fed}
 use Rattle.frame.specs.declared.reader.Finished.{Finished}
 
--- a call's row, and the state that it leaves
-pub record Reply : Type 0 where
-  pub row : Row
-  pub state : State
-
--- a reply of the two
-abbrev pub reply : Row → State → Reply
-reply a r = record { row = a; state = r }
-
--- the same of what the code returns
-abbrev pub replyOf : Fed → Reply
+-- the row of what the code returns, and the state
+abbrev pub replyOf : Fed → Reply State
 replyOf f = reply (rowOf (f .answer)) (stateOf (f .reader))
 
 -- the same of an end asked
-abbrev pub endingOf : Finished → Reply
+abbrev pub endingOf : Finished → Reply State
 endingOf f = reply (endRowOf (f .answer)) (stateOf (f .reader))
 
 -- "The reader keeps the body in its own 1,026 bytes, all zero at the start"
@@ -50,7 +41,7 @@ nextOf limit r x =
     }
 
 -- bytes from the n-th of a call on: it "stops behind the byte that decides something, and says how many bytes it took"
-unfoldable pub runOf : ℕ → List ℕ → ℕ → State → Reply
+unfoldable pub runOf : ℕ → List ℕ → ℕ → State → Reply State
 runOf limit [] n r = reply (row 0 (n ∷ [])) r
 runOf limit (x ∷ xs) n r =
     cond (decidesOf (advanceOf limit (r .scan) x .event))
@@ -59,7 +50,7 @@ runOf limit (x ∷ xs) n r =
     (runOf limit xs (n + 1) (nextOf limit r x))
 
 -- bytes given. "Order: 17, then 18"
-abbrev pub feedOf : ℕ → State → List ℕ → Reply
+abbrev pub feedOf : ℕ → State → List ℕ → Reply State
 feedOf limit r bytes =
     cond (inRangeOf limit (r .scan))
     (cond (leb (r .scan .taken + length bytes) (2 ^ 62)) (runOf limit bytes 0 r) (reply (row 18 (0 ∷ [])) r))
@@ -74,7 +65,7 @@ endingRow Open s = row 16 (s .taken ∷ s .start ∷ [])
 endingRow Escape s = row 16 (s .taken ∷ s .start ∷ [])
 
 -- end asked. "Order: 17, then .. 16"
-abbrev pub finishOf : ℕ → State → Reply
+abbrev pub finishOf : ℕ → State → Reply State
 finishOf limit r =
     cond (inRangeOf limit (r .scan)) (reply (endingRow (r .scan .phase) (r .scan)) r) (reply (row 17 (0 ∷ [])) r)
 

@@ -11,7 +11,8 @@ use Rattle.base.specs.Rows.{row}
 use Rattle.frame.specs.State.{State, stateOf}
 use Rattle.frame.specs.Table.{rowOf, endRowOf, writtenRowOf, countOf}
 use Rattle.frame.specs.Rules.{inRangeOf}
-use Rattle.frame.specs.Calls.{reply, freshOf, feedOf, finishOf}
+use Rattle.base.specs.Outcomes.{reply}
+use Rattle.frame.specs.Calls.{freshOf, feedOf, finishOf}
 use Rattle.frame.specs.Lines.{Line, Answers, linesOf, IsOpen}
 use Rattle.frame.specs.Logs.{Call, Entry, logOf, stateAfter, takenIn, stream, handedOut, Accounts, OffersFront}
 use Rattle.frame.specs.Logs.{send, joined}

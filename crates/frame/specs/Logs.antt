@@ -10,7 +10,8 @@ use Rattle.frame.specs.Frames.{Found, frontBody}
 use Rattle.base.specs.Rows.{Row}
 use Rattle.frame.specs.Table.{countOf}
 use Rattle.frame.specs.State.{State}
-use Rattle.frame.specs.Calls.{Reply, feedOf, finishOf}
+use Rattle.base.specs.Outcomes.{Reply}
+use Rattle.frame.specs.Calls.{feedOf, finishOf}
 
 -- "both calls, bytes given and end asked"
 pub data Call : Type 0 where
@@ -18,7 +19,7 @@ pub data Call : Type 0 where
   ask : Call  -- end asked
 
 -- the very definitions that the contracts of the two calls state
-abbrev pub callOf : ℕ → State → Call → Reply
+abbrev pub callOf : ℕ → State → Call → Reply State
 callOf limit r (give bytes) = feedOf limit r bytes
 callOf limit r ask = finishOf limit r
 
@@ -30,7 +31,7 @@ pub record Entry : Type 0 where
   pub after : State
 
 -- the entry of a call of a reader in some state
-abbrev pub entryOf : State → Call → Reply → Entry
+abbrev pub entryOf : State → Call → Reply State → Entry
 entryOf r c y = record { call = c; row = y .row; before = r; after = y .state }
 
 -- all calls, refused ones included, each of the reader that the one before returned

@@ -12,7 +12,8 @@ use Rattle.frame.specs.Wire.{lengthOf, payloadOf}
 use Rattle.frame.specs.Frames.{frontBody}
 use Rattle.base.specs.Rows.{Row, row}
 use Rattle.frame.specs.Rules.{inRangeOf}
-use Rattle.frame.specs.Calls.{Reply, endingRow, freshOf, feedOf, finishOf}
+use Rattle.base.specs.Outcomes.{Reply}
+use Rattle.frame.specs.Calls.{endingRow, freshOf, feedOf, finishOf}
 use Rattle.frame.specs.Logs.{Call, give, ask, Entry, entryOf, logOf, decided}
 use Rattle.frame.specs.Lines.{Line, Decides, is-frame, is-short, is-long, is-stuff, is-cut, is-sum, linesOf, heldUnder}
 use Rattle.frame.specs.Lines.{lineOf as lineIn}
@@ -75,7 +76,7 @@ ending-undecided Escape s = refl
 
 asked-undecided : (limit : ℕ) (r : State) → decided (finishOf limit r .row .number) ≡ false
 asked-undecided limit r =
-    by-test (λ (y : Reply). decided (y .row .number) ≡ false) (inRangeOf limit (r .scan))
+    by-test (λ (y : Reply State). decided (y .row .number) ≡ false) (inRangeOf limit (r .scan))
     (λ e. ending-undecided (r .scan .phase) (r .scan)) (λ e. refl)
 
 -- ---- an answer that decides has the line's text
@@ -123,10 +124,10 @@ listed : (limit : ℕ) (calls : List Call) (r : State) → AllLong (linesOf (log
 unfolding logOf linesOf givenText linesText
 listed limit [] r h = refl
 listed limit (give bytes ∷ cs) r h =
-    let y : Reply = feedOf limit r bytes in
+    let y : Reply State = feedOf limit r bytes in
     one-more (entryOf r (give bytes) y) _ _ (λ a. listed limit cs (y .state) a) (decided (y .row .number)) refl h
 listed limit (ask ∷ cs) r h =
-    let y : Reply = finishOf limit r in
+    let y : Reply State = finishOf limit r in
     none-more _ _ _ (λ a. listed limit cs (y .state) a) (decided (y .row .number)) (asked-undecided limit r) h
 
 -- a line of number 1 is a frame, and its length is at least 5

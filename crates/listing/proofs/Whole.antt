@@ -8,7 +8,8 @@ use native.Mathlib.Omega.{arith}
 use lib.ListN.{length, drop}
 use Rattle.frame.specs.Wire.{widest}
 use Rattle.frame.specs.Table.{countOf}
-use Rattle.frame.specs.Calls.{Reply, freshOf, feedOf, finishOf}
+use Rattle.base.specs.Outcomes.{Reply}
+use Rattle.frame.specs.Calls.{freshOf, feedOf, finishOf}
 use Rattle.frame.specs.Logs.{Call, give, ask, logOf, stateAfter, stream, offer, send, joined}
 use Rattle.frame.specs.Lines.{Line, LinesFrom, Answers, linesOf, IsOpen}
 use Rattle.frame.specs.State.{State}
@@ -29,14 +30,14 @@ texts : (limit : ℕ) (calls : List Call) (r : State) → OnlyGive calls
 unfolding logOf stateAfter textsOf givenText
 texts limit [] r h = append-nil (lastOf (finishOf limit r .row))
 texts limit (give bytes ∷ cs) r h =
-    let y : Reply = feedOf limit r bytes in
+    let y : Reply State = feedOf limit r bytes in
     ap (λ (l : List ℕ). answerText (y .row) (y .state .body) ++ l) (texts limit cs (y .state) h)
     ∙ sym (append-assoc (answerText (y .row) (y .state .body)) (givenText (logOf limit (y .state) cs))
     (lastOf (finishOf limit (stateAfter limit (y .state) cs) .row)))
 texts limit (ask ∷ cs) r h = absurd h
 
 -- the same with the heading, and with the lines over the stream
-listing-is : (limit : ℕ) → limit ≤ widest → (calls : List Call) → OnlyGive calls → (y : Reply)
+listing-is : (limit : ℕ) → limit ≤ widest → (calls : List Call) → OnlyGive calls → (y : Reply State)
     → finishOf limit (stateAfter limit (freshOf limit) calls) ≡ y
     → listingOf limit (calls ++ ask ∷ []) ≡ headingText
     ++ (linesText (linesOf (logOf limit (freshOf limit) calls)) ++ lastOf (y .row))
@@ -45,7 +46,7 @@ listing-is limit small calls h y e =
     (texts limit calls (freshOf limit) h
     ∙ ap (λ (l : List ℕ). l ++ lastOf (finishOf limit (stateAfter limit (freshOf limit) calls) .row))
     (each-listed limit small calls)
-    ∙ ap (λ (z : Reply). linesText (linesOf (logOf limit (freshOf limit) calls)) ++ lastOf (z .row)) e)
+    ∙ ap (λ (z : Reply State). linesText (linesOf (logOf limit (freshOf limit) calls)) ++ lastOf (z .row)) e)
 
 pub whole-listing : WholeListing
 whole-listing limit small calls h =

@@ -6,9 +6,9 @@ use mathlib.Core.List.{List}
 use native.Mathlib.Omega.{arith}
 use lib.ListN.{length, take, drop, length-take}
 use Rattle.frame.specs.Wire.{frameLimit}
-use Rattle.frame.specs.State.{stateOf}
+use Rattle.frame.specs.State.{State, stateOf}
 use Rattle.frame.specs.Table.{countOf}
-use Rattle.frame.specs.Calls.{Reply}
+use Rattle.base.specs.Outcomes.{Reply}
 use Rattle.frame.proofs.Counts.{within}
 use borrow.Author.Needs.{needs}
 use Rattle.list.proofs.live.feed_all.Statement.{statement}
@@ -32,7 +32,7 @@ module _ (c : tie.After-count Inv-loop μ-loop) where
   taken : at + c .count .result ≤ length bytes
   taken =
       let left = take (length bytes - at) (drop at bytes) in
-      let told = c .count .ensures ∙ ap (λ (y : Reply). countOf (y .row)) (c .before .before .feed .ensures) in
+      let told = c .count .ensures ∙ ap (λ (y : Reply State). countOf (y .row)) (c .before .before .feed .ensures) in
       omega (
         arith,
         told,
