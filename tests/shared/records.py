@@ -1,4 +1,5 @@
 """The driver's records: an operation in 1 byte, the size of its data in 2, the data. docs/API.md says what each operation does."""
+import sys
 
 FRESH, FEED, FINISH, SET, WRITE, STREAM, WRITE_MESSAGE, ANSWER, NAMES = range(9)
 LINK = 128  # and above: the link's operations
@@ -24,3 +25,8 @@ def records_of(script):
 def streamed(stream, size=MOST):
     """A fresh reader, and the bytes of a stream in records of at most that size."""
     return record(FRESH) + b"".join(record(STREAM, stream[at : at + size]) for at in range(0, len(stream), size))
+
+
+def print_part(script, text):
+    """The end of a command line, script or text: what a test has in the driver's stored script, or what the driver has to print for that."""
+    sys.stdout.buffer.write(script() if sys.argv[1] == "script" else text().encode("ascii"))
