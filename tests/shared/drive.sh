@@ -22,7 +22,7 @@ drive() { # WORD..
 }
 
 # The same on the program that plays scripts.
-drive_program() { # [SEED [COUNT]]
+drive_program() { # WORD..
     drive "$root/target/bin/driver" "$@"
 }
 

@@ -22,6 +22,10 @@ def records_of(script):
     return found
 
 
+def is_whole(script):
+    return script == b"".join(record(*pair) for pair in records_of(script))
+
+
 def streamed(stream, size=MOST):
     """A fresh reader, and the bytes of a stream in records of at most that size."""
     return record(FRESH) + b"".join(record(STREAM, stream[at : at + size]) for at in range(0, len(stream), size))
