@@ -1,6 +1,6 @@
-//! Scripts for the program `calls`: streams cut into calls, and records for the writer.
+//! Scripts of calls: streams cut into calls or played whole, and records for the writer.
 
-use crate::calls::{FEED, FINISH, MOST_DATA, MOST_ROOM, SET, WRITE};
+use crate::driver::{push_record, FEED, FINISH, MOST_DATA, MOST_ROOM, SET, STREAM, WRITE};
 use crate::random::Rng;
 use crate::reader::{Answer, Reader};
 use crate::streams;
@@ -25,9 +25,7 @@ impl Script {
     }
 
     fn record(&mut self, operation: u8, data: &[u8]) {
-        self.records.push(operation);
-        self.records.extend_from_slice(&(data.len() as u16).to_be_bytes());
-        self.records.extend_from_slice(data);
+        push_record(&mut self.records, operation, data);
     }
 
     /// Returns how many bytes are taken, or None where the call is refused.
@@ -73,6 +71,16 @@ impl Script {
         self.finish();
         self.fresh(FRESH);
     }
+}
+
+/// A stream played by one reader, in records of up to some size.
+pub fn in_records(stream: &[u8], rng: &mut Rng) -> Vec<u8> {
+    let mut records = Vec::new();
+    let size = rng.pick(&[20, 500, MOST_DATA, MOST_DATA]);
+    for piece in stream.chunks(size) {
+        push_record(&mut records, STREAM, piece);
+    }
+    records
 }
 
 /// A stream given in random pieces, with ends asked between them. Half of the scripts are steady: untaken bytes always
@@ -121,7 +129,7 @@ fn replace_reader(script: &mut Script, rng: &mut Rng) {
         0 => script.set(near_limit(rng)),
         1 => script.set(rng.below(1 << 40)),
         2 => short_set(script, rng),
-        _ => script.fresh(rng.pick(&[0, 5, 6, 255])),
+        _ => script.fresh(rng.pick(&[0, 9, 100, 127])),
     }
 }
 

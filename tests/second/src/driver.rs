@@ -1,44 +1,67 @@
-//! The program `calls`: a script of single calls to the reader and the writer.
+//! The program `driver`: records played on one reader, one link and the writer. Messages to write are not compared here.
 
+use crate::link::Link;
+use crate::links;
 use crate::reader::{Answer, Ending, Reader, Verdict};
 use crate::text;
+use crate::transcript;
 use crate::writer;
 use std::io::{self, Read, Write};
 
-/// Operations of a script; any other takes a fresh reader.
+/// Operations of a script; any other below LINK takes a fresh reader.
 pub const FEED: u8 = 1;
 pub const FINISH: u8 = 2;
 pub const SET: u8 = 3;
 pub const WRITE: u8 = 4;
+pub const STREAM: u8 = 5;
+/// The link's operations begin here.
+pub const LINK: u8 = 128;
 
 pub const MOST_DATA: usize = 4_096;
 pub const MOST_ROOM: usize = 2_100;
 /// Each output byte before the call, so that bytes left alone can be told from bytes written.
 pub const UNTOUCHED: u8 = 0xAA;
 
-/// Plays the script to its end, or to the first record that is too large or incomplete.
+/// Plays the script to its end, or to the first record that is too large or incomplete; each record's lines are written before more is read.
 pub fn play(input: &mut impl Read, output: &mut impl Write) -> io::Result<()> {
-    let mut reader = Reader::new();
-    let mut line = Vec::new();
+    let (mut reader, mut link) = (Reader::new(), Link::new());
+    let mut lines = Vec::new();
     while let Some((operation, data)) = record(input) {
-        match operation {
-            FEED => feed(&mut reader, &data, &mut line),
-            FINISH => finish(&reader, &mut line),
-            SET => {
-                reader = Reader::having_taken(number(&data, 0, 8));
-                line.extend_from_slice(b"set");
-            }
-            WRITE => write(&data, &mut line),
-            _ => {
-                reader = Reader::new();
-                line.extend_from_slice(b"fresh");
-            }
+        if operation < LINK {
+            play_record(&mut reader, operation, &data, &mut lines);
+        } else {
+            links::play_record(&mut link, operation - LINK, &data, &mut lines);
         }
-        line.push(b'\n');
-        output.write_all(&line)?;
-        line.clear();
+        output.write_all(&lines)?;
+        output.flush()?;
+        lines.clear();
     }
-    output.flush()
+    Ok(())
+}
+
+fn play_record(reader: &mut Reader, operation: u8, data: &[u8], lines: &mut Vec<u8>) {
+    match operation {
+        FEED => feed(reader, data, lines),
+        FINISH => finish(reader, lines),
+        SET => {
+            *reader = Reader::having_taken(number(data, 0, 8));
+            lines.extend_from_slice(b"set");
+        }
+        WRITE => write(data, lines),
+        STREAM => return transcript::lines(reader, data, lines),
+        _ => {
+            *reader = Reader::new();
+            lines.extend_from_slice(b"fresh");
+        }
+    }
+    lines.push(b'\n');
+}
+
+/// A record at the end of a script.
+pub fn push_record(script: &mut Vec<u8>, operation: u8, data: &[u8]) {
+    script.push(operation);
+    script.extend_from_slice(&(data.len() as u16).to_be_bytes());
+    script.extend_from_slice(data);
 }
 
 fn record(input: &mut impl Read) -> Option<(u8, Vec<u8>)> {
@@ -55,7 +78,7 @@ fn record(input: &mut impl Read) -> Option<(u8, Vec<u8>)> {
 }
 
 /// Big-endian, from a place on; missing bytes count as 0.
-fn number(data: &[u8], place: usize, size: usize) -> u64 {
+pub fn number(data: &[u8], place: usize, size: usize) -> u64 {
     let byte = |place: usize| u64::from(data.get(place).copied().unwrap_or(0));
     (place..place + size).fold(0, |number, place| number << 8 | byte(place))
 }
