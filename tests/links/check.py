@@ -7,14 +7,10 @@ check.py PROGRAM [SEED [COUNT]]: COUNT random scripts in all, over the families 
 """
 import collections
 import itertools
-import os
 import pathlib
 import random
-import select
 import struct
-import subprocess
 import sys
-import time
 
 import model
 from model import ANSWER, ELAPSED, OFFER, SET_IDLE, SET_WAITING, TICK_IN_PLACE, TICKS, WAITING, scripted
@@ -22,6 +18,7 @@ from stated import stated
 
 sys.path.insert(0, str(pathlib.Path(__file__).resolve().parent.parent / "shared"))
 from checks import Checks, Program, seed_and_count
+from device import drive
 
 FRESH, LAST = 7, 127  # each from FRESH on takes a fresh link
 checks = Checks("links")
@@ -410,73 +407,7 @@ def run_families(program, seed, count):
     test("that each command was offered with none and with one waiting", not missing, f"missing {missing}")
 
 
-# The program as a device drives it: each record's line is seen before the next record is sent.
-
-PAUSE = 0.05  # seconds between the pieces of a record
-
-
-class Device:
-    def __init__(self, program):
-        pipe = subprocess.PIPE
-        self.process = subprocess.Popen([program], bufsize=0, stdin=pipe, stdout=pipe, stderr=subprocess.DEVNULL)
-        self.held = b""
-
-    def __enter__(self):
-        return self
-
-    def __exit__(self, *_):
-        self.process.kill()
-        self.process.wait()
-        self.process.stdin.close()
-        self.process.stdout.close()
-
-    def send(self, data):
-        self.process.stdin.write(data)
-
-    def says(self, seconds):
-        """Whether more is printed before so many seconds are over."""
-        return bool(select.select([self.process.stdout], [], [], max(seconds, 0))[0])
-
-    def line(self):
-        end = time.monotonic() + PATIENCE
-        while b"\n" not in self.held:
-            if not self.says(end - time.monotonic()):
-                return f"no line in {PATIENCE} seconds"
-            more = os.read(self.process.stdout.fileno(), 4096)
-            if not more:
-                return "the end of its output"
-            self.held += more
-        line, _, self.held = self.held.partition(b"\n")
-        return line.decode("ascii", "backslashreplace")
-
-    def end(self):
-        """The input ends; what is wrong with that, or ''."""
-        try:
-            more = self.held + self.process.communicate(timeout=PATIENCE)[0]
-        except subprocess.TimeoutExpired:
-            return f"it does not end in {PATIENCE} seconds"
-        if more:
-            return f"{more!r} behind its last line"
-        return f"it ends with status {self.process.returncode}" if self.process.returncode else ""
-
-
-def drive(program, steps):
-    """What goes wrong first, or ''. A step is bytes to send and the line that they lead to, None where to none."""
-    sent = b""
-    try:
-        with Device(program) as device:
-            for data, line in steps:
-                device.send(data)
-                sent += data
-                if line is not None:
-                    said = device.line()
-                    if said != line:
-                        return f"behind {sent.hex(' ')}\n  should be: {line}\n  is:        {said}"
-                elif device.held or device.says(PAUSE):
-                    return f"behind {sent.hex(' ')} it does not wait for the rest of the record"
-            return device.end()
-    except OSError as error:
-        return f"behind {sent.hex(' ')}: {error}"
+# The program as a device drives it.
 
 
 def run_device(program, seed):
@@ -486,19 +417,19 @@ def run_device(program, seed):
         from_elsewhere(script)
         script.put(FRESH)
     records = [scripted(record) for record in script.records]
-    steps = [*zip(records, model.lines_of(b"".join(records)))]
+    steps = [(record, [line]) for record, line in zip(records, model.lines_of(b"".join(records)))]
     wrong = drive(program, steps)
     test("each record's line before the next record", not wrong, wrong)
 
     pieces = []
-    for cut, (record, line) in enumerate(steps[: len(records[0]) - 1], 1):
-        pieces += [(record[:cut], None), (record[cut:], line)]
+    for cut, (record, lines) in enumerate(steps[: len(records[0]) - 1], 1):
+        pieces += [(record[:cut], None), (record[cut:], lines)]
     wrong = drive(program, pieces)
     test("a record in two pieces with a pause, cut at each place", not wrong, wrong)
 
     pieces = [(records[0][:5], None)]
-    for (record, line), behind in zip(steps[:8], records[1:]):
-        pieces += [(record[5:] + behind[:5], line), (b"", None)]
+    for (record, lines), behind in zip(steps[:8], records[1:]):
+        pieces += [(record[5:] + behind[:5], lines), (b"", None)]
     wrong = drive(program, pieces)
     test("a record's end sent with the front of the next record", not wrong, wrong)
 

@@ -15,8 +15,9 @@ from stated import STATED, STATED_TAIL, kinds, stated
 
 sys.path.insert(0, str(pathlib.Path(__file__).resolve().parent.parent / "shared"))
 from checks import Checks, Program, seed_and_count
+from device import drive
+from records import FRESH, STREAM, record, records_of, streamed
 from records import MOST as MOST_DATA
-from records import STREAM, records_of, streamed
 
 checks = Checks("messages")
 test = checks.test
@@ -384,7 +385,7 @@ def run_writes(program, seed, count):
         pairs = [some(rand) for _ in range(200)]
         lines = [line for _, line in pairs]
         seen.update(tuple(line.split(" ")[:2]) for line in lines)
-        _, wrong = program.compared(b"".join(record for record, _ in pairs), model.in_lines(lines))
+        _, wrong = program.compared(b"".join(written for written, _ in pairs), model.in_lines(lines))
         checks.test_random(place, wrong)
     for word, row in [*itertools.product(["write"], ["0", "21", "22", "31", "32", "33"]), ("answer", "0"), ("answer", "22")]:
         test(f"that a {word} with row {row} was tried", seen[word, row] > 0)
@@ -427,6 +428,21 @@ def run_families(program, seed, count):
     test("that a wrong sum was tried", seen["sum"] > 0)
 
 
+def run_device(program):
+    """As a device drives it: the lines of a record are there before the next one is sent."""
+    steps = []
+    for _, stream, *lines in STATED:
+        steps += [(record(FRESH), ["fresh"]), (record(STREAM, bytes.fromhex(stream)), lines)]
+    steps += [(written, [line]) for written, line in model.tail()]
+    wrong = drive(program.path, steps)
+    test("each record's lines before the next record", not wrong, wrong)
+
+    stream = b"".join(bytes.fromhex(stream) for _, stream, *_ in STATED)
+    lines = {end: said for _, end, said in model.blocks(stream)}
+    wrong = drive(program.path, [(record(STREAM, stream[at : at + 1]), lines.get(at + 1, [])) for at in range(len(stream))])
+    test("a stream byte by byte, the lines of a frame before the next byte", not wrong, wrong)
+
+
 def main():
     path, *given = sys.argv[1:]
     seed, count = seed_and_count(given, 400)
@@ -436,6 +452,7 @@ def main():
         run_stated(program)
         run_families(program, seed, count)
         run_writes(program, seed, count)
+        run_device(program)
     return checks.end()
 
 

@@ -1,4 +1,4 @@
-// Messages that no stream can carry, made of a record's bytes: those that the writer refuses, and outputs that are too short.
+// Messages made of a record's bytes, since no stream carries those that the writer refuses; and outputs that are too short.
 use super::frames::lent;
 use super::messages;
 use super::text;
@@ -123,7 +123,7 @@ fn message_of(data: &[u8]) -> Message {
     }
 }
 
-// Room in two bytes and the message in fourteen; what is lent for it follows. Number 2 and flags 0. A refusal leaves the output.
+// Room in two bytes and the message in fourteen; what is lent follows. Number 2, flags 0. A refusal leaves the output.
 pub(crate) fn write(data: &[u8]) -> bool {
     let mut out = [170u8; 2054];
     let s = message::write(

@@ -1,6 +1,6 @@
 //! Scripts of a link's records.
 
-use crate::driver::{push_record, LINK};
+use crate::driver::{push_record, FEED, FINISH, LINK, STREAM};
 use crate::link::{Link, SENDABLE};
 use crate::links::{play_record, DATA_SIZE};
 use crate::random::Rng;
@@ -79,6 +79,12 @@ impl Script {
         self.record(SET_WAITING, [next, command, number, repeats], sent);
     }
 
+    /// Something that must not touch the link.
+    fn reader(&mut self, rng: &mut Rng) {
+        let size = rng.between(0, 12);
+        push_record(&mut self.records, rng.pick(&[FEED, FINISH, STREAM]), &rng.bytes_from(&[0xFF, 0, 5, 7], size));
+    }
+
     fn advance(&mut self, rng: &mut Rng) {
         self.clock = self.clock.wrapping_add(step(rng));
     }
@@ -104,7 +110,8 @@ pub fn long_life(rng: &mut Rng, _index: u64) -> Vec<u8> {
         match rng.below(20) {
             0..=6 => script.offer(rng),
             7..=13 => script.tick(rng),
-            14..=18 => script.answer(rng),
+            14..=17 => script.answer(rng),
+            18 => script.reader(rng),
             _ => script.elapsed(rng),
         }
         if rng.once_in(2) {
@@ -134,13 +141,18 @@ pub fn elsewhere(rng: &mut Rng, _index: u64) -> Vec<u8> {
     script.records
 }
 
-/// Any data, some of it of another size, with the operations made likely and an incomplete record at the end.
+/// Any data, some of it of another size, with the operations made likely.
+pub fn any_record(records: &mut Vec<u8>, rng: &mut Rng) {
+    let operation = if rng.once_in(20) { rng.byte() } else { rng.byte() % 8 };
+    let size = if rng.once_in(20) { rng.between(0, DATA_SIZE + 2) } else { DATA_SIZE };
+    push_record(records, LINK | operation, &rng.bytes(size));
+}
+
+/// Any records, and an incomplete one at the end.
 pub fn noise(rng: &mut Rng, _index: u64) -> Vec<u8> {
     let mut records = Vec::new();
     for _ in 0..RECORDS {
-        let operation = if rng.once_in(20) { rng.byte() } else { rng.byte() % 8 };
-        let size = if rng.once_in(20) { rng.between(0, DATA_SIZE + 2) } else { DATA_SIZE };
-        push_record(&mut records, LINK | operation, &rng.bytes(size));
+        any_record(&mut records, rng);
     }
     push_record(&mut records, LINK, &rng.bytes(DATA_SIZE));
     let cut = rng.between(1, DATA_SIZE + 3);

@@ -1,9 +1,11 @@
 //! Scripts of calls: streams cut into calls or played whole, and records for the writer.
 
 use crate::driver::{push_record, FEED, FINISH, MOST_DATA, MOST_ROOM, SET, STREAM, WRITE};
+use crate::link_scripts;
 use crate::random::Rng;
 use crate::reader::{Answer, Reader};
 use crate::streams;
+use crate::transcript;
 use crate::vectors;
 use crate::writer::{wire_form, MOST_PAYLOAD};
 
@@ -51,6 +53,12 @@ impl Script {
         self.reader = Reader::having_taken(taken);
     }
 
+    /// Plays the bytes as those of a stream.
+    fn stream(&mut self, data: &[u8]) {
+        self.record(STREAM, data);
+        transcript::lines(&mut self.reader, data, &mut Vec::new());
+    }
+
     /// Offers the bytes until all are taken.
     fn feed_all(&mut self, mut bytes: &[u8]) {
         while !bytes.is_empty() {
@@ -95,6 +103,11 @@ pub fn random_cuts(stream: &[u8], rng: &mut Rng) -> Vec<u8> {
     }
     while place < stream.len() {
         let size = rng.between(0, most).min(stream.len() - place);
+        if rng.once_in(10) {
+            script.stream(&stream[place..place + size]);
+            place += size;
+            continue;
+        }
         match script.feed(&stream[place..place + size]) {
             Some(count) if steady || !rng.once_in(16) => place += count,
             Some(_) => place += size,
@@ -120,6 +133,7 @@ fn between_calls(script: &mut Script, rng: &mut Rng) {
             let payload = rng.bytes(3);
             script.record(WRITE, &[&[7, 1, 0, 0, 0, 30][..], &payload].concat());
         }
+        9..=10 => link_scripts::any_record(&mut script.records, rng),
         _ => {}
     }
 }
