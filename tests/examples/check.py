@@ -1,7 +1,8 @@
 #!/usr/bin/env python3
-"""Compares the driver on paper 01's vectors with expected.py, its stored text too, and expected.py's reader with the definition of a frame.
+"""Compares the driver with expected.py on paper 01's vectors, and expected.py's reader with the definition of a frame.
 
-check.py PROGRAM STDIN STDOUT [SEED [COUNT]]: COUNT random streams in all, over the families below. The last line is 'N passed, M failed'.
+check.py PROGRAM STDIN STDOUT [SEED [COUNT]]: STDIN and STDOUT are the driver's stored script and text; COUNT random streams in
+all, over the families below. The last line is 'N passed, M failed'.
 """
 import itertools
 import pathlib
@@ -45,7 +46,8 @@ def compare_text(path):
 
 
 def compare_stored(word, path):
-    test(f"the stored {word}, byte for byte", pathlib.Path(path).read_bytes() == stored(word), f"make it by stored.py {word}")
+    same = pathlib.Path(path).read_bytes() == stored(word)
+    test(f"the stored {word}, byte for byte", same, f"tests/examples/stored.py {word} makes it")
 
 
 # The answers that the paper itself names.

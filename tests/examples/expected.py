@@ -1,8 +1,8 @@
 #!/usr/bin/env python3
-"""Paper 01's vectors as a script for the driver, and what it has to print: a second reading of the paper, the exact rules for the build.
+"""A script of paper 01's vectors, and what the driver has to print for it: a second reading of the exact rules for the build.
 
-The reader goes by the paper's byte rules and the writer by its wire form. Nothing here is taken from the Rattle code but the form of
-records and lines; the range of the bytes taken is that of docs/STATES.md.
+The reader goes by the paper's byte rules and the writer by its wire form. Nothing here is taken from the Rattle code but the
+form of records and lines; the range of the bytes taken is that of docs/STATES.md.
 
 expected.py script prints the script, expected.py text what the driver has to print for it.
 """

@@ -1,7 +1,10 @@
 #!/usr/bin/env python3
-"""The driver's stored script, crates/driver/stdin, and what it has to print, crates/driver/stdout: the parts of three tests, one behind the other.
+"""The driver's stored script and what it has to print for it: the parts of three tests, one behind the other.
 
-stored.py script prints the one, stored.py text the other. Neither is ever made by running the driver.
+stored.py script > crates/driver/stdin
+stored.py text > crates/driver/stdout
+
+Neither is ever made by running the driver.
 """
 import pathlib
 import subprocess

@@ -1,5 +1,5 @@
 #!/usr/bin/env python3
-"""Answers of a link written by hand, from the paper, the project's decisions (ranges, clocks) and the form of the driver's lines.
+"""Answers of a link written by hand, from the paper, the project's decisions (ranges, clocks) and the form of records and lines.
 
 stated.py script prints them as a script for the driver, stated.py text what it has to print for it.
 """
@@ -221,11 +221,13 @@ STATED = [
     ("no input", ">"),
 ]
 
-# The same of data that is no clock's and four bytes' size: a missing byte is 0, and others are not asked for.
-SIZES = (
-    record(LINK + 3, b"\x09") + record(LINK, b"\x05") + record(LINK + 6, bytes([0, 0, 0, 0, 0, 0, 0, 200, 1])) + record(LINK + 7),
-    "set : 9\noffer 0 9 : 10 5 9 0 0\ntick 0 1 5 9 : 10 5 9 200 1\nfresh : 1\n",
-)
+# Data of other sizes than 8: a missing byte is 0, and others are not asked for. Operation, data, line.
+SIZES = [
+    (3, "09", "set : 9"),
+    (0, "05", "offer 0 9 : 10 5 9 0 0"),
+    (6, "00 00 00 00 00 00 00 C8 01", "tick 0 1 5 9 : 10 5 9 200 1"),
+    (7, "", "fresh : 1"),
+]
 
 
 def stated():
@@ -235,7 +237,8 @@ def stated():
         records = filter(None, (bytes.fromhex(record) for record, _ in pairs))
         lines = [line.strip() for _, line in pairs]
         yield name, b"".join(map(model.scripted, records)), "".join(line + "\n" for line in lines if line)
-    yield "data of other sizes", *SIZES
+    script = b"".join(record(LINK + operation, bytes.fromhex(data)) for operation, data, _ in SIZES)
+    yield "data of other sizes", script, "".join(line + "\n" for *_, line in SIZES)
 
 
 def parts():

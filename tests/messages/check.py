@@ -33,7 +33,7 @@ def first_block(lines):
 
 
 def difference(script, found, expected):
-    """Where a text differs first from the expected one: the line and, of a stream, the bytes up to the frame's end; '' where it does not."""
+    """Where a text differs first from the expected one, in a stream with the bytes up to the frame's end; '' where it does not."""
     if found == expected.encode("ascii"):
         return ""
     theirs = found.decode("ascii", "backslashreplace").split("\n")[1:]
@@ -334,13 +334,13 @@ def stream_of(rand, family):
         data += more
 
 
-# Messages to write: values that are allowed and that are not, lent bytes of sizes that fit and that do not, rooms near the one needed.
+# Messages to write: values that are allowed or not, lent bytes of sizes that fit or not, rooms near the one needed.
 
 
 def some_values(rand):
     """The values of a message of any kind."""
     number = rand.choice([0, 1, 2, 3, 4, 5, 7, 8, FF, rand.randrange(256)])
-    counter = [rand.randrange(2), rand.randrange(2), rand.choice([0, 1, 2, 3, 4, FF]), rand.randrange(65536), rand.randrange(2**32)]
+    counter = [*rand.choices([0, 1], k=2), rand.choice([0, 1, 2, 3, 4, FF]), rand.randrange(65536), rand.randrange(2**32)]
     bits = [rand.randrange(2) for _ in range(8)]
     device = [66, rand.randrange(65536)], [74, 0, rand.randrange(2**64)], [106, FF, rand.randrange(2**64)]
     return rand.choice(
@@ -361,10 +361,14 @@ def some_values(rand):
     )
 
 
+# Sizes of what is lent at which something changes; of the commands not named here, 0.
+LENT = {0x02: [64, 96], 0x19: [0, 32, 1013, 1014], 0x1B: [0, 32, 1015, 1016], 0x1D: [0, 99, 1015, 1016]}
+
+
 def some_write(rand):
     """A record and its line."""
     values = some_values(rand)
-    fitting = {0x02: [64, 96], 0x19: [0, 32, 1013, 1014], 0x1B: [0, 32, 1015, 1016], 0x1D: [0, 99, 1015, 1016]}.get(values[0], [0])
+    fitting = LENT.get(values[0], [0])
     lent = some_bytes(rand, rand.choice([*fitting * 3, rand.randrange(120)]))
     needed, output = 0, model.empty_output(4096)
     if rand.randrange(3):
@@ -381,14 +385,16 @@ def some_answer(rand):
 def run_writes(program, seed, count):
     """Each line is held to the model's; and all rows are seen."""
     seen = collections.Counter()
-    for place, rand, some in checks.inputs([("writes", some_write, 50), ("answers", some_answer, 50)], seed, count, "script"):
+    families = [("writes", some_write, 50), ("answers", some_answer, 50)]
+    for place, rand, some in checks.inputs(families, seed, count, "script"):
         pairs = [some(rand) for _ in range(200)]
         lines = [line for _, line in pairs]
         seen.update(tuple(line.split(" ")[:2]) for line in lines)
         _, wrong = program.compared(b"".join(written for written, _ in pairs), model.in_lines(lines))
         checks.test_random(place, wrong)
-    for word, row in [*itertools.product(["write"], ["0", "21", "22", "31", "32", "33"]), ("answer", "0"), ("answer", "22")]:
-        test(f"that a {word} with row {row} was tried", seen[word, row] > 0)
+    for word, rows in (("write", ("0", "21", "22", "31", "32", "33")), ("answer", ("0", "22"))):
+        for row in rows:
+            test(f"that '{word} {row}' was tried", seen[word, row] > 0)
 
 
 # The program on a stream.
@@ -439,7 +445,8 @@ def run_device(program):
 
     stream = b"".join(bytes.fromhex(stream) for _, stream, *_ in STATED)
     lines = {end: said for _, end, said in model.blocks(stream)}
-    wrong = drive(program.path, [(record(STREAM, stream[at : at + 1]), lines.get(at + 1, [])) for at in range(len(stream))])
+    steps = [(record(STREAM, stream[at : at + 1]), lines.get(at + 1, [])) for at in range(len(stream))]
+    wrong = drive(program.path, steps)
     test("a stream byte by byte, the lines of a frame before the next byte", not wrong, wrong)
 
 

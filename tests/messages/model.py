@@ -1,5 +1,5 @@
 #!/usr/bin/env python3
-"""What the driver has to print of a stream and of messages to write: a second reading of paper 01, the exact rules for the build.
+"""What the driver has to print of streams and of messages to write: a second reading of the exact rules for the build.
 
 In the paper's order: the frame on the wire, the reader, the writer, messages read, their parts, messages written, and what
 the box answers. Sentences in quotation marks are the paper's. Nothing here is taken from the Rattle code but the form of
@@ -461,7 +461,8 @@ def written(values, lent=b"", room=32):
         said += f" {count} : {hexes(output[:count])}"
     elif row in (PAYLOAD, ROOM):
         said += f" {count}"
-    return record(WRITE_MESSAGE, in_bytes(2, room) + coded(values).ljust(14, b"\0") + lent), f"{said} : {hexes(output[:3])}"
+    data = in_bytes(2, room) + coded(values).ljust(14, b"\0") + lent
+    return record(WRITE_MESSAGE, data), f"{said} : {hexes(output[:3])}"
 
 
 def report(mode):

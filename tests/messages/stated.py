@@ -1,8 +1,8 @@
 #!/usr/bin/env python3
 """The answers that paper 01 itself names, for streams and for the tail of model.py, written by hand from the paper.
 
-stated.py script prints them as a script for the driver, with a stream of each kind of message behind them; stated.py text what the
-driver has to print for it, of that stream by model.py.
+stated.py script prints them as a script for the driver, with a stream of each kind of message behind them; stated.py text
+what the driver has to print for it, of that stream by model.py.
 """
 import pathlib
 import sys

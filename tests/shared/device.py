@@ -54,7 +54,7 @@ class Device:
 
 
 def drive(program, steps):
-    """What goes wrong first, or ''. A step is bytes to send and the lines that they lead to, None where the program has to wait for more."""
+    """What goes wrong first, or ''. A step is bytes to send and the lines that they lead to, None where it has to wait for more."""
     sent = b""
     try:
         with Device(program) as device:

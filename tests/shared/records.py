@@ -32,5 +32,5 @@ def streamed(stream, size=MOST):
 
 
 def print_part(script, text):
-    """The end of a command line, script or text: what a test has in the driver's stored script, or what the driver has to print for that."""
+    """For the command line, script or text: a test's part of the driver's stored script, or what the driver has to print for it."""
     sys.stdout.buffer.write(script() if sys.argv[1] == "script" else text().encode("ascii"))

@@ -1,4 +1,4 @@
-// Messages made of a record's bytes, since no stream carries those that the writer refuses; and outputs that are too short.
+// Messages made of a record's bytes: also those that the writer refuses, which no stream carries, and short outputs.
 use super::frames::lent;
 use super::messages;
 use super::text;

@@ -1,4 +1,4 @@
-//! The program `driver`: records played on one reader, one link and the writer. Messages to write are not compared here.
+//! The program `driver`: records played on one reader, one link and the writer. Messages to write are not played here.
 
 use crate::link::Link;
 use crate::links;
@@ -22,7 +22,8 @@ pub const MOST_ROOM: usize = 2_100;
 /// Each output byte before the call, so that bytes left alone can be told from bytes written.
 pub const UNTOUCHED: u8 = 0xAA;
 
-/// Plays the script to its end, or to the first record that is too large or incomplete; each record's lines are written before more is read.
+/// Plays the script to its end, or to the first record that is too large or incomplete. Each record's lines are written
+/// before more is read.
 pub fn play(input: &mut impl Read, output: &mut impl Write) -> io::Result<()> {
     let (mut reader, mut link) = (Reader::new(), Link::new());
     let mut lines = Vec::new();
