@@ -3,7 +3,6 @@ use super::frames;
 use super::frames::Read;
 use super::frames::lent;
 use super::links;
-use super::links::Linked;
 use super::made;
 use super::stream;
 use super::text;
@@ -18,35 +17,8 @@ struct State {
     goes_on: bool,
 }
 
-fn read(s: State, r: Read) -> State {
-    let reader = r.reader;
-    let link = s.link;
-    State {
-        reader,
-        link,
-        goes_on: r.written,
-    }
-}
-
-fn linked(s: State, l: Linked) -> State {
-    let reader = s.reader;
-    let link = l.link;
-    State {
-        reader,
-        link,
-        goes_on: l.written,
-    }
-}
-
-// A word, and the reader that is held from then on.
-fn replaced(word: &[u8], reader: Reader) -> Read {
-    Read {
-        reader,
-        written: text::text(word),
-    }
-}
-
-fn kept(reader: Reader, written: bool) -> Read {
+// The reader that is held from then on.
+fn held(reader: Reader, written: bool) -> Read {
     Read { reader, written }
 }
 
@@ -55,34 +27,35 @@ fn act(reader: Reader, operation: u8, data: &[u8]) -> Read {
     match operation {
         1 => frames::feed(reader, data),
         2 => frames::finish(reader),
-        3 => replaced(b"set\n", frames::having_taken(data)),
-        4 => kept(reader, frames::write(data)),
+        3 => held(frames::having_taken(data), text::text(b"set\n")),
+        4 => held(reader, frames::write(data)),
         5 => stream::play(reader, data),
-        6 => kept(reader, made::write(data)),
-        7 => kept(reader, made::answer(data)),
-        8 => kept(reader, made::names()),
-        _ => replaced(b"fresh\n", Reader::new()),
+        6 => held(reader, made::write(data)),
+        7 => held(reader, made::answer(data)),
+        8 => held(reader, made::names()),
+        _ => held(Reader::new(), text::text(b"fresh\n")),
     }
 }
 
-// What a whole record does: those from 128 on are the link's.
-fn turn(s: State, operation: u8, data: &[u8]) -> State {
+// What a whole record does: operations from 128 on are the link's.
+fn turn(mut s: State, operation: u8, data: &[u8]) -> State {
     if operation < 128 {
-        let reader = s.reader;
-        return read(s, act(reader, operation, data));
+        let r = act(s.reader, operation, data);
+        let reader = r.reader;
+        s.reader = reader;
+        s.goes_on = r.written;
+    } else {
+        let l = links::act(s.link, operation, data);
+        let link = l.link;
+        s.link = link;
+        s.goes_on = l.written;
     }
-    let link = s.link;
-    linked(s, links::act(link, operation, data))
+    s
 }
 
-fn stop(s: State) -> State {
-    let reader = s.reader;
-    let link = s.link;
-    State {
-        reader,
-        link,
-        goes_on: false,
-    }
+fn stop(mut s: State) -> State {
+    s.goes_on = false;
+    s
 }
 
 // The next record, where there is a whole one.
