@@ -1,4 +1,4 @@
--- `driver::play::records` is safe and ends. The measure is the number of turns that are left; the buffer keeps its length. Assumes nothing.
+-- `driver::play::records` is safe and ends: the turns left fall, and the buffer keeps its length. Assumes nothing.
 use mathlib.Core.Path.{_≡_}
 use lib.ListN.{length}
 use borrow.Author.Needs.{needs}
@@ -18,4 +18,5 @@ records-spec =
     Inv-loop
     μ-loop
     (λ c κs. search needs) (λ c κs. search needs) (λ c. search needs) (λ c κs. search needs) (λ c. search needs)
-    (λ c. search needs) (λ c. search needs) (λ c. search needs) (λ c. search needs) (λ c. search needs) (λ c. search needs))
+    (λ c. search needs) (λ c. search needs) (λ c. search needs) (λ c. search needs) (λ c. search needs)
+    (λ c. search needs))
