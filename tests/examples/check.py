@@ -1,7 +1,8 @@
 #!/usr/bin/env python3
-"""Compares crates/examples/stdout with expected.py, and expected.py's reader with the definition of a frame.
+"""Compares the driver with expected.py on paper 01's vectors, and expected.py's reader with the definition of a frame.
 
-check.py FILE [SEED [COUNT]]: COUNT random streams in all, over the families below. The last line is 'N passed, M failed'.
+check.py PROGRAM STDIN STDOUT [SEED [COUNT]]: STDIN and STDOUT are the driver's stored script and text; COUNT random streams in
+all, over the families below. The last line is 'N passed, M failed'.
 """
 import itertools
 import pathlib
@@ -9,9 +10,10 @@ import sys
 
 import expected
 from expected import FF, LIMIT, STUFFED, Reader, stuff, wire
+from stored import stored
 
 sys.path.insert(0, str(pathlib.Path(__file__).resolve().parent.parent / "shared"))
-from checks import Checks, seed_and_count, shares
+from checks import Checks, Program, seed_and_count, shares
 
 checks = Checks("examples")
 test = checks.test
@@ -21,29 +23,31 @@ test = checks.test
 
 
 def in_blocks(text):
-    """The lines, a block for each that begins 'read ' or 'write '."""
+    """The lines, a block for each that begins with fresh, set or write."""
     found = []
     for line in text.splitlines():
-        if not found or line.startswith(("read ", "write ")):
+        if not found or line.startswith(("fresh", "set", "write")):
             found.append([])
         found[-1].append(line)
     return found
 
 
 def compare_text(path):
-    try:
-        with open(path, encoding="ascii", newline="") as file:
-            text = file.read()
-    except (OSError, UnicodeDecodeError) as error:
-        text = ""
-        checks.say(error)
+    program = Program(path, 10, lambda *_: "")
+    found, ended = program.printed(expected.script())
+    text = found.decode("ascii", "backslashreplace")
     theirs = in_blocks(text)
     for i, block in enumerate(expected.blocks()):
         other = theirs[i] if i < len(theirs) else ["missing"]
-        at = next((k for k, (a, b) in enumerate(itertools.zip_longest(block, other)) if a != b), None)
-        more = "" if at is None else f"line {at + 1} should be {block[at : at + 1]} and is {other[at : at + 1]}"
-        test(block[0], at is None, more)
-    test("the whole text, byte for byte", text == expected.text())
+        pairs = enumerate(itertools.zip_longest(block.lines, other, fillvalue="no line"), 1)
+        wrong = [f"line {k} should be {ours} and is {said}" for k, (ours, said) in pairs if ours != said]
+        test(block.name, not wrong, "; ".join(wrong[:1]))
+    test("the whole text, byte for byte", text == expected.text() and not ended, ended)
+
+
+def compare_stored(word, path):
+    same = pathlib.Path(path).read_bytes() == stored(word)
+    test(f"the stored {word}, byte for byte", same, f"tests/examples/stored.py {word} makes it")
 
 
 # The answers that the paper itself names.
@@ -74,7 +78,7 @@ def stated():
     decided, reader = calls(bytes.fromhex(expected.LISTING), lambda at: 25)
     seen = [(kind, start, end) for kind, start, end, _ in decided]
     test("the paper's listing", seen == LISTED and reader.end() == ("clean", 25, None))
-    for name, command, number, flags, payload, _ in expected.WRITE[:4]:
+    for name, command, number, flags, payload, _ in expected.WRITTEN[:4]:
         form = bytes.fromhex(vectors[name])
         test(f"the paper's wire form of {name}", wire(command, number, flags, payload) == form)
 
@@ -263,9 +267,12 @@ def families(seed, count):
 
 
 def main():
-    path, *given = sys.argv[1:]
+    path, stdin, stdout, *given = sys.argv[1:]
     seed, count = seed_and_count(given, 3000)
-    compare_text(path)
+    with checks.unless_dead():
+        compare_text(path)
+    compare_stored("script", stdin)
+    compare_stored("text", stdout)
     stated()
     families(seed, count)
     return checks.end()

@@ -1,9 +1,16 @@
 #!/usr/bin/env python3
-"""Prints what the program crates/examples has to print: a second reading of paper 01, the exact rules for the build.
+"""A script of paper 01's vectors, and what the driver has to print for it: a second reading of the exact rules for the build.
 
 The reader goes by the paper's byte rules and the writer by its wire form. Nothing here is taken from the Rattle code but the
-wording of the lines; the range of the bytes taken is that of docs/STATES.md.
+form of records and lines; the range of the bytes taken is that of docs/STATES.md.
+
+expected.py script prints the script, expected.py text what the driver has to print for it.
 """
+import pathlib
+import sys
+
+sys.path.insert(0, str(pathlib.Path(__file__).resolve().parent.parent / "shared"))
+from records import FEED, FINISH, FRESH, SET, WRITE, print_part, record
 
 LIMIT = 1024  # the greatest length
 MOST = 2**62  # the most bytes that a reader takes
@@ -143,7 +150,7 @@ EDGES = [(0, ""), (MOST - 1, "00"), (MOST - 1, "00 00"), (MOST, ""), (MOST, "00"
 # Name, command, number, flags, payload, bytes of the output that are lent.
 OUTPUT = 2100
 STATUS = bytes.fromhex("04 05 00 03 00 00 00 FF 00")
-WRITE = [
+WRITTEN = [
     ("example 1", 7, 1, 0, b"", OUTPUT),
     ("example 2", 7, 255, 0, b"", OUTPUT),
     ("example 3", 7, 243, 0, b"", OUTPUT),
@@ -161,73 +168,92 @@ WRITE = [
 ]
 
 
+# The rows of the table.
+ROWS = {"more": 0, "frame": 1, "short": 11, "long": 12, "stuff": 13, "cut": 14, "sum": 15, "state": 17, "used": 18}
+ENDS = {"clean": 2, "open": 16, "state": 17}
+REFUSED = {"wrote": 0, "payload": 21, "room": 22}
+
+
 def hexes(data):
-    return "".join(f" {byte:02x}" for byte in data)
+    return " :" + "".join(f" {byte:02x}" for byte in data)
 
 
-def call_lines(reader, offered):
-    """One call: how many bytes it took, and its lines."""
-    name, count, start, end = reader.feed(offered)
-    if name in ("state", "used"):
-        return 0, [name]
-    lines = [f"{name} taken {count}" + ("" if start is None else f" start {start} end {end}")]
-    if name == "frame":
-        body = reader.body
-        length = body[0] * 256 + body[1]
-        flags = body[4] * 256 + body[5]
-        lines.append(f"  command {body[2]} number {body[3]} flags {flags} payload{hexes(body[6 : length + 1])}")
-    return count, lines
+def numbers(*values):
+    return "".join(f" {value}" for value in values if value is not None)
 
 
-def end_line(reader):
-    name, taken, start = reader.end()
-    return name + ("" if taken is None else f" taken {taken}") + ("" if start is None else f" start {start}")
+class Block:
+    """The records of one vector and their lines, over a reader of this reading."""
+
+    def __init__(self, name, reader):
+        self.name, self.reader, self.records, self.lines = name, reader, [], []
+
+    def put(self, line, operation, data=b""):
+        self.records.append(record(operation, data))
+        self.lines.append(line)
+
+    def feed(self, offered):
+        """One call: how many bytes it took."""
+        name, count, start, end = self.reader.feed(offered)
+        body = self.reader.body
+        held = hexes(body[: body[0] * 256 + body[1] + 2]) if name in ("frame", "sum") else ""
+        self.put("feed" + numbers(ROWS[name], count, start, end) + held, FEED, offered)
+        return count
+
+    def end(self):
+        name, taken, start = self.reader.end()
+        self.put("end" + numbers(ENDS[name], taken or 0, start), FINISH)
 
 
-def played(data, cut):
+def played(name, data, cut):
     """The bytes in calls of at most cut bytes, untaken ones offered again; then the end is asked."""
-    reader, at, lines = Reader(), 0, []
+    block, at = Block(name, Reader()), 0
+    block.put("fresh", FRESH)
     while at < len(data):
-        count, said = call_lines(reader, data[at : at + cut])
-        at += count
-        lines += said
-    return lines + [end_line(reader)]
+        at += block.feed(data[at : at + cut])
+    block.end()
+    return block
 
 
-def edge(taken, offered):
-    reader = Reader(taken)
-    _, lines = call_lines(reader, offered)
-    return lines + [end_line(reader)]
+def edge(name, taken, offered):
+    block = Block(name, Reader(taken))
+    block.put("set", SET, taken.to_bytes(8, "big"))
+    block.feed(offered)
+    block.end()
+    return block
 
 
-def written(command, number, flags, payload, lent):
-    out = bytearray(b"\xaa" * OUTPUT)
-    name, count = write(command, number, flags, payload, out, lent)
-    stayed = "kept" if all(byte == 0xAA for byte in out[count:]) else "touched"
-    if name != "wrote":
-        return [f"{name}, output: {stayed}"]
-    shown = hexes(out[:count]) if count <= 32 else hexes(out[:8]) + " .." + hexes(out[count - 8 : count])
-    return [f"wrote {count}:{shown}", f"behind: {stayed}"]
+def written(name, command, number, flags, payload, lent):
+    out = bytearray(b"\xaa" * lent)
+    row, count = write(command, number, flags, payload, out, lent)
+    block = Block(name, None)
+    data = bytes([command, number]) + flags.to_bytes(2, "big") + lent.to_bytes(2, "big") + payload
+    block.put("write" + numbers(REFUSED[row], count) + hexes(out), WRITE, data)
+    return block
 
 
 def blocks():
-    """The program's text, a block of lines for each vector, the first of which names it."""
+    """A block for each vector; its first line begins with fresh, set or write, and no other line does."""
     for name, data in READ:
         data = bytes.fromhex(data)
-        yield [f"read {name}"] + played(data, len(data))
+        yield played(f"read {name}", data, len(data))
     data = bytes.fromhex(LISTING)
     for cut in range(1, len(data) + 1):
-        yield [f"read listing in calls of {cut}"] + played(data, cut)
+        yield played(f"read listing in calls of {cut}", data, cut)
     for taken, offered in EDGES:
         offered = bytes.fromhex(offered)
-        yield [f"read after {taken} bytes, offered {len(offered)}"] + edge(taken, offered)
-    for name, command, number, flags, payload, lent in WRITE:
-        yield [f"write {name}, room {lent}"] + written(command, number, flags, payload, lent)
+        yield edge(f"read after {taken} bytes, offered {len(offered)}", taken, offered)
+    for name, *given, lent in WRITTEN:
+        yield written(f"write {name}, room {lent}", *given, lent)
+
+
+def script():
+    return b"".join(record for block in blocks() for record in block.records)
 
 
 def text():
-    return "".join(line + "\n" for block in blocks() for line in block)
+    return "".join(line + "\n" for block in blocks() for line in block.lines)
 
 
 if __name__ == "__main__":
-    print(text(), end="")
+    print_part(script, text)

@@ -1,28 +1,26 @@
 #!/usr/bin/env python3
-"""Compares the program links with model.py, both with answers written by hand, and its lines with the paper's counts;
+"""Compares the driver's link with model.py, both with answers written by hand, and its lines with the paper's counts;
 then drives it as a device would.
 
-check.py PROGRAM STDIN STDOUT [SEED [COUNT]]: STDOUT is what the program printed for STDIN; COUNT random scripts in all, over
-the families below, at least one of each. The last line is 'N passed, M failed'.
+check.py PROGRAM [SEED [COUNT]]: COUNT random scripts in all, over the families below, at least one of each. The last line is
+'N passed, M failed'.
 """
 import collections
 import itertools
-import os
 import pathlib
 import random
-import select
 import struct
-import subprocess
 import sys
-import time
 
 import model
-from model import ANSWER, ELAPSED, OFFER, SET_IDLE, SET_WAITING, TICK_IN_PLACE, TICKS, WAITING
+from model import ANSWER, ELAPSED, OFFER, SET_IDLE, SET_WAITING, TICK_IN_PLACE, TICKS, WAITING, scripted
+from stated import stated
 
 sys.path.insert(0, str(pathlib.Path(__file__).resolve().parent.parent / "shared"))
 from checks import Checks, Program, seed_and_count
+from device import drive
 
-FRESH = 7  # and all above
+FRESH, LAST = 7, 127  # each from FRESH on takes a fresh link
 checks = Checks("links")
 test = checks.test
 
@@ -30,9 +28,8 @@ test = checks.test
 # A text against the model's.
 
 
-def difference(data, found, expected=None):
-    """Where a text differs first from the model's: the records so far and both lines; '' where it does not."""
-    expected = model.text(data) if expected is None else expected
+def difference(data, found, expected):
+    """Where a text differs first from the expected one: the records so far and both lines; '' where it does not."""
     if found == expected.encode("ascii"):
         return ""
     ours, theirs = expected.splitlines(True), found.decode("ascii", "backslashreplace").splitlines(True)
@@ -42,226 +39,6 @@ def difference(data, found, expected=None):
     where = f"record {at + 1} of {len(records)}" if at < len(records) else f"behind all {len(records)} records"
     so_far = ", ".join(record.hex(" ") for record in records[: at + 1])
     return f"{where}\n  records so far: {so_far}\n  should be: {line!r}\n  is:        {said!r}"
-
-
-# Written by hand, from the paper, the project's decisions (ranges, clocks) and the program's form: a name, then each record and its line.
-# A record is the operation, a, b, c, d and the clock. C7 is 199, C8 is 200.
-
-STATED = [
-    (
-        "example 11: clock 4,294,967,200, then 104: elapsed 200, due; 103: not due",
-        "05 FF FF FF A0 00000067 > elapsed 199 0 : 1",
-        "05 FF FF FF A0 00000068 > elapsed 200 1 : 1",
-        "00 05 00 00 00 FFFFFFA0 > offer 0 1 : 2 5 1 4294967200 0",
-        "01 00 00 00 00 00000067 > tick 0 : 2 5 1 4294967200 0",
-        "01 00 00 00 00 00000068 > tick 0 1 5 1 : 2 5 1 104 1",
-    ),
-    (
-        "05, 09, 0B, 13, 15, 17, 1B, 27 or 29, and to each the answer that is command plus 1",
-        "00 05 00 00 00 00000000 > offer 0 1 : 2 5 1 0 0",
-        "02 06 01 00 00 00000000 > answer 0 5 1 : 2",
-        "00 09 00 00 00 00000001 > offer 0 2 : 3 9 2 1 0",
-        "02 0A 02 00 00 00000000 > answer 0 9 2 : 3",
-        "00 0B 00 00 00 00000002 > offer 0 3 : 4 11 3 2 0",
-        "02 0C 03 00 00 00000000 > answer 0 11 3 : 4",
-        "00 13 00 00 00 00000003 > offer 0 4 : 5 19 4 3 0",
-        "02 14 04 00 00 00000000 > answer 0 19 4 : 5",
-        "00 15 00 00 00 00000004 > offer 0 5 : 6 21 5 4 0",
-        "02 16 05 00 00 00000000 > answer 0 21 5 : 6",
-        "00 17 00 00 00 00000005 > offer 0 6 : 7 23 6 5 0",
-        "02 18 06 00 00 00000000 > answer 0 23 6 : 7",
-        "00 1B 00 00 00 00000006 > offer 0 7 : 8 27 7 6 0",
-        "02 1C 07 00 00 00000000 > answer 0 27 7 : 8",
-        "00 27 00 00 00 00000007 > offer 0 8 : 9 39 8 7 0",
-        "02 28 08 00 00 00000000 > answer 0 39 8 : 9",
-        "00 29 00 00 00 00000008 > offer 0 9 : 10 41 9 8 0",
-        "02 2A 09 00 00 00000000 > answer 0 41 9 : 10",
-    ),
-    (
-        "numbers run 1 to 255 and then 1 again",
-        "03 FE 00 00 00 00000000 > set : 254",
-        "00 05 00 00 00 00000000 > offer 0 254 : 255 5 254 0 0",
-        "02 06 FE 00 00 00000000 > answer 0 5 254 : 255",
-        "00 05 00 00 00 00000000 > offer 0 255 : 1 5 255 0 0",
-        "02 06 FF 00 00 00000000 > answer 0 5 255 : 1",
-        "00 05 00 00 00 00000000 > offer 0 1 : 2 5 1 0 0",
-    ),
-    (
-        "an accepted command uses one, a refused one none",
-        "00 07 00 00 00 00000000 > offer 42 : 1",
-        "00 05 00 00 00 00000000 > offer 0 1 : 2 5 1 0 0",
-        "00 09 00 00 00 00000000 > offer 41 : 2 5 1 0 0",
-        "00 05 00 00 00 00000000 > offer 41 : 2 5 1 0 0",
-        "02 06 01 00 00 00000000 > answer 0 5 1 : 2",
-        "00 09 00 00 00 00000000 > offer 0 2 : 3 9 2 0 0",
-    ),
-    (
-        "elapsed time is the difference modulo 2^32",
-        "05 00 00 00 00 00000000 > elapsed 0 0 : 1",
-        "05 FF FF FF FF 00000000 > elapsed 1 0 : 1",
-        "05 00 00 00 01 00000000 > elapsed 4294967295 0 : 1",
-        "05 00 00 00 00 80000000 > elapsed 2147483648 0 : 1",
-        "05 80 00 00 00 00000000 > elapsed 2147483648 0 : 1",
-        "05 80 00 00 01 00000000 > elapsed 2147483647 1 : 1",
-        "05 01 02 03 04 01020403 > elapsed 255 1 : 1",
-    ),
-    (
-        "a tick is due if 200 <= elapsed",
-        "04 02 05 01 00 00000000 > set : 2 5 1 0 0",
-        "01 00 00 00 00 00000000 > tick 0 : 2 5 1 0 0",
-        "01 00 00 00 00 000000C7 > tick 0 : 2 5 1 0 0",
-        "01 00 00 00 00 000000C8 > tick 0 1 5 1 : 2 5 1 200 1",
-    ),
-    (
-        "a tick is due if elapsed < 2^31",
-        "04 02 05 01 00 00000001 > set : 2 5 1 1 0",
-        "01 00 00 00 00 80000001 > tick 0 : 2 5 1 1 0",
-        "01 00 00 00 00 80000002 > tick 0 : 2 5 1 1 0",
-        "01 00 00 00 00 80000000 > tick 0 1 5 1 : 2 5 1 2147483648 1",
-        "01 00 00 00 00 00000000 > tick 0 : 2 5 1 2147483648 1",
-        "01 00 00 00 00 FFFFFFFF > tick 0 1 5 1 : 2 5 1 4294967295 2",
-    ),
-    (
-        "a clock up to 2^31 behind the last sending is never due",
-        "04 02 05 01 00 000000C8 > set : 2 5 1 200 0",
-        "01 00 00 00 00 000000C7 > tick 0 : 2 5 1 200 0",
-        "01 00 00 00 00 00000000 > tick 0 : 2 5 1 200 0",
-        "01 00 00 00 00 FFFFFFFF > tick 0 : 2 5 1 200 0",
-        "01 00 00 00 00 800000C8 > tick 0 : 2 5 1 200 0",
-        "01 00 00 00 00 800000C7 > tick 0 1 5 1 : 2 5 1 2147483847 1",
-    ),
-    (
-        "a due tick sends again and restarts the time; at most 3 repeats; the due tick after the last gives up; idle",
-        "00 27 00 00 00 00000000 > offer 0 1 : 2 39 1 0 0",
-        "01 00 00 00 00 000000C8 > tick 0 1 39 1 : 2 39 1 200 1",
-        "01 00 00 00 00 0000018F > tick 0 : 2 39 1 200 1",
-        "01 00 00 00 00 00000190 > tick 0 1 39 1 : 2 39 1 400 2",
-        "01 00 00 00 00 00000258 > tick 0 1 39 1 : 2 39 1 600 3",
-        "01 00 00 00 00 0000031F > tick 0 : 2 39 1 600 3",
-        "01 00 00 00 00 00000320 > tick 0 2 39 1 : 2",
-        "01 00 00 00 00 000003E8 > tick 0 : 2",
-        "02 28 01 00 00 00000000 > answer 43 : 2",
-        "00 27 00 00 00 000003E8 > offer 0 2 : 3 39 2 1000 0",
-    ),
-    (
-        "in the end form a tick alters that record in its own place",
-        "00 27 00 00 00 00000000 > offer 0 1 : 2 39 1 0 0",
-        "06 00 00 00 00 000000C7 > tick 0 : 2 39 1 0 0",
-        "06 00 00 00 00 000000C8 > tick 0 1 39 1 : 2 39 1 200 1",
-        "06 00 00 00 00 00000190 > tick 0 1 39 1 : 2 39 1 400 2",
-        "06 00 00 00 00 00000258 > tick 0 1 39 1 : 2 39 1 600 3",
-        "06 00 00 00 00 00000320 > tick 0 2 39 1 : 2",
-        "06 00 00 00 00 000003E8 > tick 0 : 2",
-        "03 00 00 00 00 00000000 > set : 0",
-        "06 00 00 00 00 00000000 > tick 17 0 : 0",
-    ),
-    (
-        "the time restarts at the due tick, however late it came",
-        "00 05 00 00 00 00000000 > offer 0 1 : 2 5 1 0 0",
-        "01 00 00 00 00 000003E7 > tick 0 1 5 1 : 2 5 1 999 1",
-        "01 00 00 00 00 000004AE > tick 0 : 2 5 1 999 1",
-        "01 00 00 00 00 000004AF > tick 0 1 5 1 : 2 5 1 1199 2",
-    ),
-    (
-        "another tick changes nothing",
-        "01 00 00 00 00 00000000 > tick 0 : 1",
-        "01 00 00 00 00 000000C8 > tick 0 : 1",
-        "04 09 13 08 03 00000064 > set : 9 19 8 100 3",
-        "01 00 00 00 00 00000064 > tick 0 : 9 19 8 100 3",
-        "01 00 00 00 00 0000012B > tick 0 : 9 19 8 100 3",
-        "01 00 00 00 00 00000063 > tick 0 : 9 19 8 100 3",
-    ),
-    (
-        "the answer that fits is command plus 1 with the same number; no waiting command, or other command or number",
-        "02 06 01 00 00 00000000 > answer 43 : 1",
-        "00 05 00 00 00 00000000 > offer 0 1 : 2 5 1 0 0",
-        "02 05 01 00 00 00000000 > answer 43 : 2 5 1 0 0",
-        "02 07 01 00 00 00000000 > answer 43 : 2 5 1 0 0",
-        "02 06 00 00 00 00000000 > answer 43 : 2 5 1 0 0",
-        "02 06 02 00 00 00000000 > answer 43 : 2 5 1 0 0",
-        "02 06 01 00 00 00000000 > answer 0 5 1 : 2",
-        "02 06 01 00 00 00000000 > answer 43 : 2",
-    ),
-    (
-        "a repeat keeps command and number, and its answer fits still",
-        "04 01 29 FF 02 00000000 > set : 1 41 255 0 2",
-        "01 00 00 00 00 000000C8 > tick 0 1 41 255 : 1 41 255 200 3",
-        "02 2A FF 00 00 00000000 > answer 0 41 255 : 1",
-    ),
-    (
-        "17 comes before all others, state unchanged: next number 0",
-        "03 00 00 00 00 00000000 > set : 0",
-        "00 05 00 00 00 00000000 > offer 17 0 : 0",
-        "00 07 00 00 00 00000000 > offer 17 0 : 0",
-        "01 00 00 00 00 000000C8 > tick 17 0 : 0",
-        "02 06 01 00 00 00000000 > answer 17 0 : 0",
-        "04 00 05 01 00 00000000 > set : 0 5 1 0 0",
-        "00 05 00 00 00 00000000 > offer 17 0 : 0 5 1 0 0",
-        "01 00 00 00 00 000000C8 > tick 17 0 : 0 5 1 0 0",
-        "02 06 01 00 00 00000000 > answer 17 0 : 0 5 1 0 0",
-    ),
-    (
-        "17 comes before all others, state unchanged: waiting command not one of the nine",
-        "04 02 07 01 00 00000000 > set : 2 7 1 0 0",
-        "00 05 00 00 00 00000000 > offer 17 0 : 2 7 1 0 0",
-        "00 07 00 00 00 00000000 > offer 17 0 : 2 7 1 0 0",
-        "01 00 00 00 00 00000000 > tick 17 0 : 2 7 1 0 0",
-        "01 00 00 00 00 000000C8 > tick 17 0 : 2 7 1 0 0",
-        "02 08 01 00 00 00000000 > answer 17 0 : 2 7 1 0 0",
-        "02 06 01 00 00 00000000 > answer 17 0 : 2 7 1 0 0",
-    ),
-    (
-        "17 comes before all others, state unchanged: waiting number 0",
-        "04 02 05 00 00 00000000 > set : 2 5 0 0 0",
-        "00 05 00 00 00 00000000 > offer 17 0 : 2 5 0 0 0",
-        "01 00 00 00 00 000000C8 > tick 17 0 : 2 5 0 0 0",
-        "02 06 00 00 00 00000000 > answer 17 0 : 2 5 0 0 0",
-    ),
-    (
-        "17 comes before all others, state unchanged: 4 repeats",
-        "04 02 05 01 04 00000000 > set : 2 5 1 0 4",
-        "00 05 00 00 00 00000000 > offer 17 0 : 2 5 1 0 4",
-        "01 00 00 00 00 000000C8 > tick 17 0 : 2 5 1 0 4",
-        "02 06 01 00 00 00000000 > answer 17 0 : 2 5 1 0 4",
-        "05 00 00 00 00 000000C8 > elapsed 200 1 : 2 5 1 0 4",
-    ),
-    (
-        "the last values in range are not 17",
-        "04 FF 29 FF 03 FFFFFFFF > set : 255 41 255 4294967295 3",
-        "00 05 00 00 00 00000000 > offer 41 : 255 41 255 4294967295 3",
-        "01 00 00 00 00 000000C6 > tick 0 : 255 41 255 4294967295 3",
-        "01 00 00 00 00 000000C7 > tick 0 2 41 255 : 255",
-    ),
-    (
-        "order 17, 42, 41",
-        "04 02 05 01 00 00000000 > set : 2 5 1 0 0",
-        "00 06 00 00 00 00000000 > offer 42 : 2 5 1 0 0",
-        "00 09 00 00 00 00000000 > offer 41 : 2 5 1 0 0",
-    ),
-    (
-        "42: one that the box sends but that does not wait",
-        "00 02 00 00 00 00000000 > offer 42 : 1",
-        "00 08 00 00 00 00000000 > offer 42 : 1",
-        "00 12 00 00 00 00000000 > offer 42 : 1",
-    ),
-    (
-        "each other operation takes a fresh link",
-        "04 09 13 08 03 00000064 > set : 9 19 8 100 3",
-        "07 FF FF FF FF FFFFFFFF > fresh : 1",
-        "03 09 00 00 00 00000000 > set : 9",
-        "FF 00 00 00 00 00000000 > fresh : 1",
-    ),
-    ("an incomplete record at the end is passed over", "03 09 00 00 00 00000000 > set : 9", "00 05 00 00 00 000000 >"),
-    ("no input", ">"),
-]
-
-
-def stated():
-    """For each of them the name, the input and the text."""
-    for name, *steps in STATED:
-        pairs = [step.split(">") for step in steps]
-        lines = [line.strip() for _, line in pairs]
-        yield name, bytes.fromhex("".join(record for record, _ in pairs)), "".join(line + "\n" for line in lines if line)
 
 
 # The paper's counts, over records and a program's lines alone: nothing of model.py is in here. Operations are 0 offer, 1 tick,
@@ -451,7 +228,7 @@ def from_elsewhere(script):
         else:
             script.put(ELAPSED, clock=some_clock(rand))
     if not rand.randrange(8):
-        script.put(rand.randrange(FRESH, 256))
+        script.put(rand.randint(FRESH, LAST))
 
 
 def ticks_only(script):
@@ -494,7 +271,7 @@ def box_at_work(script):
 
 
 def any_bytes(script):
-    script.put(script.rand.choice([0, 1, 2, 3, 4, 5, 0, 1, script.rand.randrange(256)]))
+    script.put(script.rand.choice([0, 1, 2, 3, 4, 5, 0, 1, script.rand.randint(0, LAST)]))
 
 
 # A family: its rounds, and how many scripts it has in a thousand.
@@ -614,7 +391,7 @@ def run_families(program, seed, count):
     for place, rand, family in checks.inputs(FAMILIES, seed, count, "script"):
         records = records_of_script(rand, family)
         tried += len(records)
-        data = b"".join(records)
+        data = b"".join(map(scripted, records))
         expected = model.text(data)
         seen.update(kinds(records, expected.splitlines()))
         found, wrong = program.compared(data, expected)
@@ -630,73 +407,7 @@ def run_families(program, seed, count):
     test("that each command was offered with none and with one waiting", not missing, f"missing {missing}")
 
 
-# The program as a device drives it: each record's line is seen before the next record is sent.
-
-PAUSE = 0.05  # seconds between the pieces of a record
-
-
-class Device:
-    def __init__(self, program):
-        pipe = subprocess.PIPE
-        self.process = subprocess.Popen([program], bufsize=0, stdin=pipe, stdout=pipe, stderr=subprocess.DEVNULL)
-        self.held = b""
-
-    def __enter__(self):
-        return self
-
-    def __exit__(self, *_):
-        self.process.kill()
-        self.process.wait()
-        self.process.stdin.close()
-        self.process.stdout.close()
-
-    def send(self, data):
-        self.process.stdin.write(data)
-
-    def says(self, seconds):
-        """Whether more is printed before so many seconds are over."""
-        return bool(select.select([self.process.stdout], [], [], max(seconds, 0))[0])
-
-    def line(self):
-        end = time.monotonic() + PATIENCE
-        while b"\n" not in self.held:
-            if not self.says(end - time.monotonic()):
-                return f"no line in {PATIENCE} seconds"
-            more = os.read(self.process.stdout.fileno(), 4096)
-            if not more:
-                return "the end of its output"
-            self.held += more
-        line, _, self.held = self.held.partition(b"\n")
-        return line.decode("ascii", "backslashreplace")
-
-    def end(self):
-        """The input ends; what is wrong with that, or ''."""
-        try:
-            more = self.held + self.process.communicate(timeout=PATIENCE)[0]
-        except subprocess.TimeoutExpired:
-            return f"it does not end in {PATIENCE} seconds"
-        if more:
-            return f"{more!r} behind its last line"
-        return f"it ends with status {self.process.returncode}" if self.process.returncode else ""
-
-
-def drive(program, steps):
-    """What goes wrong first, or ''. A step is bytes to send and the line that they lead to, None where to none."""
-    sent = b""
-    try:
-        with Device(program) as device:
-            for data, line in steps:
-                device.send(data)
-                sent += data
-                if line is not None:
-                    said = device.line()
-                    if said != line:
-                        return f"behind {sent.hex(' ')}\n  should be: {line}\n  is:        {said}"
-                elif device.held or device.says(PAUSE):
-                    return f"behind {sent.hex(' ')} it does not wait for the rest of the record"
-            return device.end()
-    except OSError as error:
-        return f"behind {sent.hex(' ')}: {error}"
+# The program as a device drives it.
 
 
 def run_device(program, seed):
@@ -705,32 +416,31 @@ def run_device(program, seed):
         near_the_wrap(script)
         from_elsewhere(script)
         script.put(FRESH)
-    records = script.records
-    steps = [*zip(records, model.lines_of(b"".join(records)))]
+    records = [scripted(record) for record in script.records]
+    steps = [(record, [line]) for record, line in zip(records, model.lines_of(b"".join(records)))]
     wrong = drive(program, steps)
     test("each record's line before the next record", not wrong, wrong)
 
     pieces = []
-    for cut, (record, line) in enumerate(steps[:8], 1):
-        pieces += [(record[:cut], None), (record[cut:], line)]
+    for cut, (record, lines) in enumerate(steps[: len(records[0]) - 1], 1):
+        pieces += [(record[:cut], None), (record[cut:], lines)]
     wrong = drive(program, pieces)
     test("a record in two pieces with a pause, cut at each place", not wrong, wrong)
 
     pieces = [(records[0][:5], None)]
-    for (record, line), behind in zip(steps[:8], records[1:]):
-        pieces += [(record[5:] + behind[:5], line), (b"", None)]
+    for (record, lines), behind in zip(steps[:8], records[1:]):
+        pieces += [(record[5:] + behind[:5], lines), (b"", None)]
     wrong = drive(program, pieces)
     test("a record's end sent with the front of the next record", not wrong, wrong)
 
-    ends = (drive(program, steps[:3] + [(records[3][:size], None)]) for size in range(model.SIZE))
+    ends = (drive(program, steps[:3] + [(records[3][:size], None)]) for size in range(len(records[3])))
     wrong = next(filter(None, ends), "")
     test("status 0 at the end of input behind each front of a record", not wrong, wrong)
 
 
 def main():
-    path, stdin, stdout, *given = sys.argv[1:]
+    path, *given = sys.argv[1:]
     seed, count = seed_and_count(given, 400)
-    checks.compare_files(stdin, stdout, difference)
     for name, data, expected in stated():
         test(f"the model's answer to '{name}'", model.text(data) == expected, model.text(data))
     with checks.unless_dead():

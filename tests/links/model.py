@@ -1,13 +1,18 @@
 #!/usr/bin/env python3
-"""What the program links has to print for its input: a second reading of paper 01, the exact rules for the build.
+"""What the driver has to print for records of the link: a second reading of paper 01, the exact rules for the build.
 
 In the paper's order: the commands that wait, the numbers, the clock, and then what each call on a link answers. Sentences in
 quotation marks are the paper's. Nothing here is taken from the proved code but the form of the records and lines
 and the ranges of a link's fields.
 
-model.py < INPUT prints the text.
+model.py < SCRIPT prints the text.
 """
+import pathlib
 import sys
+
+sys.path.insert(0, str(pathlib.Path(__file__).resolve().parent.parent / "shared"))
+import records
+from records import LINK
 
 # "One command waits at a time: 05, 09, 0B, 13, 15, 17, 1B, 27 or 29."
 WAITING = bytes.fromhex("05 09 0B 13 15 17 1B 27 29")
@@ -93,9 +98,9 @@ class Link:
         return [DONE, waited, under]
 
 
-# The records and the lines.
+# The records and the lines. Here a record is 9 bytes: the operation from 0 on, four bytes and the clock.
 
-SIZE = 9
+DATA = 8
 OFFER, TICK, ANSWER, SET_IDLE, SET_WAITING, ELAPSED, TICK_IN_PLACE = range(7)
 TICKS = TICK, TICK_IN_PLACE  # the same tick, of a link by value and of one in its own place
 
@@ -104,13 +109,18 @@ def number_of(data):
     return int.from_bytes(data, "big")
 
 
-def records_of(data):
-    """The whole records; an incomplete one at the end is passed over."""
-    return [data[at : at + SIZE] for at in range(0, len(data) - SIZE + 1, SIZE)]
+def scripted(record):
+    """A record, or the front of one, as the driver takes it."""
+    return bytes([LINK | record[0], 0, DATA]) + record[1:]
+
+
+def records_of(script):
+    """The whole records of a script; a byte of the data that is missing is 0."""
+    return [bytes([operation - LINK]) + data[:DATA].ljust(DATA, b"\0") for operation, data in records.records_of(script)]
 
 
 class Program:
-    """The one link that the program holds, fresh at the start, and the line for each record."""
+    """The one link that the driver holds, fresh at the start, and the line for each record."""
 
     def __init__(self):
         self.link = Link()
@@ -136,13 +146,13 @@ class Program:
         return " ".join(map(str, [word, *said, ":", self.link.number, *(self.link.waits or [])]))
 
 
-def lines_of(data):
+def lines_of(script):
     program = Program()
-    return [program.line(record) for record in records_of(data)]
+    return [program.line(record) for record in records_of(script)]
 
 
-def text(data):
-    return "".join(line + "\n" for line in lines_of(data))
+def text(script):
+    return "".join(line + "\n" for line in lines_of(script))
 
 
 if __name__ == "__main__":

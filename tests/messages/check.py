@@ -1,8 +1,8 @@
 #!/usr/bin/env python3
-"""Compares the program messages with model.py, and both with the answers that paper 01 names.
+"""Compares the driver with model.py on streams and on messages to write, and both with the answers that paper 01 names.
 
-check.py PROGRAM STDIN STDOUT [SEED [COUNT]]: STDOUT is what the program printed for STDIN; COUNT random streams in all, over
-the families below, at least one of each. The last line is 'N passed, M failed'.
+check.py PROGRAM [SEED [COUNT]]: COUNT random streams in all, over the families below, at least one of each. The last line is
+'N passed, M failed'.
 """
 import collections
 import itertools
@@ -11,9 +11,13 @@ import sys
 
 import model
 from model import FF, STUFFED, wire_form
+from stated import STATED, STATED_TAIL, kinds, stated
 
 sys.path.insert(0, str(pathlib.Path(__file__).resolve().parent.parent / "shared"))
 from checks import Checks, Program, seed_and_count
+from device import drive
+from records import FRESH, STREAM, record, records_of, streamed
+from records import MOST as MOST_DATA
 
 checks = Checks("messages")
 test = checks.test
@@ -24,270 +28,38 @@ test = checks.test
 
 def first_block(lines):
     """The lines up to the next that begins a block."""
-    begins = (i for i, line in enumerate(lines) if i and (line.startswith(("frame ", "sum ")) or line == "fields"))
+    begins = (i for i, line in enumerate(lines) if i and line.startswith(("frame ", "sum ")))
     return lines[: next(begins, len(lines))]
 
 
-def difference(stream, found, expected=None):
-    """Where a text differs first from the model's: the bytes up to the frame's end and both lines; '' where it does not."""
-    expected = expected or model.text(stream)
+def difference(script, found, expected):
+    """Where a text differs first from the expected one, in a stream with the bytes up to the frame's end; '' where it does not."""
     if found == expected.encode("ascii"):
         return ""
-    theirs = found.decode("ascii", "backslashreplace").split("\n")
-    at, tail = 0, (len(stream), len(stream), model.tail() + [""])
-    for start, end, lines in [*model.blocks(stream), tail]:
+    theirs = found.decode("ascii", "backslashreplace").split("\n")[1:]
+    stream = b"".join(data for operation, data in records_of(script) if operation == STREAM)
+    at = 0
+    for start, end, lines in model.blocks(stream):
         if theirs[: len(lines)] != lines:
-            other = theirs if lines is tail[2] else first_block(theirs)
-            pairs = enumerate(itertools.zip_longest(lines, other, fillvalue="no line"), 1)
-            i, (line, said) = next((i, pair) for i, pair in pairs if pair[0] != pair[1])
-            where = "tail" if lines is tail[2] else f"frame at {start}"
+            i, line, said = first_difference(lines, first_block(theirs))
             shown = f"bytes {at} to {end}: {stream[at:end].hex(' ')}"
-            return f"{where}, line {i}\n  {shown}\n  should be: {line}\n  is:        {said}"
+            return f"frame at {start}, line {i}\n  {shown}\n  should be: {line}\n  is:        {said}"
         at, theirs = end, theirs[len(lines) :]
-    return f"{len(theirs)} lines behind the tail"
+    i, line, said = first_difference(expected.split("\n"), found.decode("ascii", "backslashreplace").split("\n"))
+    return f"line {i}\n  should be: {line}\n  is:        {said}"
 
 
-# The answers that the paper itself names: a name, the stream and its lines, all written by hand from the paper.
-
-STATED = [
-    (
-        "example 1, a heartbeat, gets 08 with its number",
-        "FF FF 00 05 07 01 00 00 0D",
-        "frame 7 1 0 0",
-        "read 0 7",
-        "write 0 9 : ff ff 00 05 07 01 00 00 0d",
-        "answer 0 9 : ff ff 00 05 08 01 00 00 0e",
-    ),
-    (
-        "example 2, number FF",
-        "FF FF 00 05 07 FF 55 00 00 0B",
-        "frame 7 255 0 0",
-        "read 0 7",
-        "write 0 10 : ff ff 00 05 07 ff 55 00 00 0b",
-        "answer 0 10 : ff ff 00 05 08 ff 55 00 00 0c",
-    ),
-    (
-        "example 3, sum FF",
-        "FF FF 00 05 07 F3 00 00 FF 55",
-        "frame 7 243 0 0",
-        "read 0 7",
-        "write 0 10 : ff ff 00 05 07 f3 00 00 ff 55",
-        "answer 0 9 : ff ff 00 05 08 f3 00 00 00",
-    ),
-    ("example 3, one byte less", "FF FF 00 05 07 F3 00 00 FF"),
-    (
-        "example 4; 05 is one that only the box sends",
-        "FF FF 00 0E 05 02 00 00 04 05 00 03 00 00 00 FF 55 00 20",
-        "frame 5 2 0 9",
-        "read 0 5 4 1 0 1 3 255 0 0 0",
-        "write 0 19 : ff ff 00 0e 05 02 00 00 04 05 00 03 00 00 00 ff 55 00 20",
-        "answer 0 10 18 2 : ff ff 00 06 12 02 00 00 02 1c",
-    ),
-    ("example 6, length 4", "FF FF 00 04"),
-    ("example 7, length 1025", "FF FF 04 01"),
-    ("example 8", "FF FF FF 55 00"),
-    ("example 9", "FF FF 00 05 07 FF 00"),
-    (
-        "example 10, a wrong sum, gets code 1",
-        "FF FF 00 05 07 01 00 00 0E",
-        "sum 1",
-        "answer 0 10 18 1 : ff ff 00 06 12 01 00 00 01 1a",
-    ),
-    (
-        "the paper's listing",
-        "FF FF FF 00 05 07 01 00 00 0D FF FF 00 05 07 FF FF 00 05 07 F3 00 00 FF 55",
-        "frame 7 1 0 0",
-        "read 0 7",
-        "write 0 9 : ff ff 00 05 07 01 00 00 0d",
-        "answer 0 9 : ff ff 00 05 08 01 00 00 0e",
-        "frame 7 243 0 0",
-        "read 0 7",
-        "write 0 10 : ff ff 00 05 07 f3 00 00 ff 55",
-        "answer 0 9 : ff ff 00 05 08 f3 00 00 00",
-    ),
-    (
-        "flags refuse nothing",
-        "FF FF 00 05 07 01 01 02 10",
-        "frame 7 1 258 0",
-        "read 0 7",
-        "write 0 9 : ff ff 00 05 07 01 01 02 10",
-        "answer 0 9 : ff ff 00 05 08 01 00 00 0e",
-    ),
-    (
-        "01 asks the caller for device information",
-        "FF FF 00 05 01 03 00 00 09",
-        "frame 1 3 0 0",
-        "read 0 1",
-        "write 0 9 : ff ff 00 05 01 03 00 00 09",
-        "answer 0 0 2 3",
-    ),
-    (
-        "03 read asks the caller for status",
-        "FF FF 00 06 03 04 00 00 02 0F",
-        "frame 3 4 0 1",
-        "read 0 3 2",
-        "write 0 10 : ff ff 00 06 03 04 00 00 02 0f",
-        "answer 0 0 4 4",
-    ),
-    (
-        "control: mode 3 and lamp are ignored where their flags are 0, and written as 0",
-        "FF FF 00 0A 03 06 00 00 01 04 07 02 01 22",
-        "frame 3 6 0 5",
-        "read 0 3 1 0 0 1 0 0 513",
-        "write 0 14 : ff ff 00 0a 03 06 00 00 01 04 00 02 01 1b",
-        "answer 0 9 : ff ff 00 05 04 06 00 00 0f",
-    ),
-    (
-        "control: mode 3 is FIELD where its flag is set",
-        "FF FF 00 0A 03 06 00 00 01 06 07 02 01 24",
-        "frame 3 6 0 5",
-        "read 33",
-        "answer 0 10 18 3 : ff ff 00 06 12 06 00 00 03 21",
-    ),
-    (
-        "control: one of the other bits is FIELD, flag or not",
-        "FF FF 00 0A 03 06 00 00 01 00 08 00 00 1C",
-        "frame 3 6 0 5",
-        "read 33",
-        "answer 0 10 18 3 : ff ff 00 06 12 06 00 00 03 21",
-    ),
-    (
-        "03: another first byte is FIELD",
-        "FF FF 00 06 03 06 00 00 03 12",
-        "frame 3 6 0 1",
-        "read 33",
-        "answer 0 10 18 3 : ff ff 00 06 12 06 00 00 03 21",
-    ),
-    (
-        "03 read with a byte behind it is SIZE",
-        "FF FF 00 07 03 06 00 00 02 00 12",
-        "frame 3 6 0 2",
-        "read 32",
-        "answer 0 10 18 3 : ff ff 00 06 12 06 00 00 03 21",
-    ),
-    (
-        "a command not listed is COMMAND and gets code 2",
-        "FF FF 00 06 21 07 00 00 00 2E",
-        "frame 33 7 0 1",
-        "read 31",
-        "answer 0 10 18 2 : ff ff 00 06 12 07 00 00 02 21",
-    ),
-    (
-        "09 with way 3 is FIELD, but only the box sends it, so code 2",
-        "FF FF 00 06 09 08 00 00 03 1A",
-        "frame 9 8 0 1",
-        "read 33",
-        "answer 0 10 18 2 : ff ff 00 06 12 08 00 00 02 22",
-    ),
-    (
-        "a heartbeat with a payload is SIZE and gets code 3",
-        "FF FF 00 06 07 0A 00 00 00 17",
-        "frame 7 10 0 1",
-        "read 32",
-        "answer 0 10 18 3 : ff ff 00 06 12 0a 00 00 03 25",
-    ),
-    (
-        "0D: the reserved bits are ignored",
-        "FF FF 00 07 0D 0B 00 00 FF 55 FF 55 1D",
-        "frame 13 11 0 2",
-        "read 0 13 1 1 1 1 1 1 7 1 1",
-        "write 0 11 : ff ff 00 07 0d 0b 00 00 1f 3f 7d",
-        "answer 0 9 : ff ff 00 05 0e 0b 00 00 1e",
-    ),
-    (
-        "11 with code 4, the last allowed, gets no answer",
-        "FF FF 00 06 11 0E 00 00 04 29",
-        "frame 17 14 0 1",
-        "read 0 17 4",
-        "write 0 10 : ff ff 00 06 11 0e 00 00 04 29",
-        "answer 0",
-    ),
-    (
-        "18 with the seconds since 1970",
-        "FF FF 00 10 18 02 00 00 07 DF 07 01 0C 1E 2D 55 93 DE ED 22",
-        "frame 24 2 0 11",
-        "read 0 24 2015 7 1 12 30 45 1435754221",
-        "write 0 20 : ff ff 00 10 18 02 00 00 07 df 07 01 0c 1e 2d 55 93 de ed 22",
-        "answer 0",
-    ),
-    (
-        "19 with a check code of 2 bytes",
-        "FF FF 00 0D 19 0C 00 00 00 00 04 00 00 02 61 62 FB",
-        "frame 25 12 0 8",
-        "read 0 25 1024",
-        "part 6 : 61 62",
-        "write 0 17 : ff ff 00 0d 19 0c 00 00 00 00 04 00 00 02 61 62 fb",
-        "answer 0",
-    ),
-    (
-        "19 with a byte more than its n",
-        "FF FF 00 0D 19 0C 00 00 00 00 04 00 00 01 61 62 FA",
-        "frame 25 12 0 8",
-        "read 32",
-        "answer 0 10 18 3 : ff ff 00 06 12 0c 00 00 03 27",
-    ),
-    (
-        "1B with a check code of 1 byte and pieces of 128",
-        "FF FF 00 0A 1B 0D 00 00 00 01 61 00 80 14",
-        "frame 27 13 0 5",
-        "read 0 27 128",
-        "part 6 : 61",
-        "write 0 14 : ff ff 00 0a 1b 0d 00 00 00 01 61 00 80 14",
-        "answer 0 10 18 2 : ff ff 00 06 12 0d 00 00 02 27",
-    ),
-    (
-        "1D, piece 1 of 2 with the data FF 55",
-        "FF FF 00 0B 1D 05 00 00 00 01 00 02 FF 55 55 84",
-        "frame 29 5 0 6",
-        "read 0 29 1 2",
-        "part 7 : ff 55",
-        "write 0 16 : ff ff 00 0b 1d 05 00 00 00 01 00 02 ff 55 55 84",
-        "answer 0",
-    ),
-]
-
-# The first of them is example 4, the last two of the writes at `rooms` are example 12.
-STATED_TAIL = """\
-fields
-write 0 19 : ff ff 00 0e 05 02 00 00 04 05 00 03 00 00 00 ff 55 00 20 : ff ff 00
-write 33 : aa aa aa
-write 33 : aa aa aa
-write 0 14 : ff ff 00 0a 03 02 00 00 01 02 04 00 00 16 : ff ff 00
-write 33 : aa aa aa
-write 0 14 : ff ff 00 0a 03 02 00 00 01 00 00 00 00 10 : ff ff 00
-write 0 11 : ff ff 00 07 0d 02 00 00 0f 15 3a : ff ff 00
-write 33 : aa aa aa
-write 33 : aa aa aa
-write 33 : aa aa aa
-write 33 : aa aa aa
-write 33 : aa aa aa
-sizes
-write 31 : aa aa aa
-write 31 : aa aa aa
-write 32 : aa aa aa
-write 0 9 : ff ff 00 05 04 02 00 00 0b : ff ff 00
-write 32 : aa aa aa
-write 32 : aa aa aa
-write 32 : aa aa aa
-write 32 : aa aa aa
-rooms
-write 22 0 : aa aa aa
-write 0 19 : ff ff 00 0e 05 02 00 00 04 05 00 03 00 00 00 ff 55 00 20 : ff ff 00
-write 33 : aa aa aa
-write 21 0 : aa aa aa
-write 22 0 : aa aa aa
-answer 22 0 : aa aa aa
-answer 0 9 : ff ff 00 05 08 09 00 00 16
-names 0 1 2 1 2 1 2 3 4
-"""
+def first_difference(ours, theirs):
+    pairs = enumerate(itertools.zip_longest(ours, theirs, fillvalue="no line"), 1)
+    return next((i, *pair) for i, pair in pairs if pair[0] != pair[1])
 
 
-def stated():
+def stated_by_model():
+    """What the model says of the answers that were written by hand."""
     for name, stream, *lines in STATED:
-        expected = "".join(line + "\n" for line in lines)
-        found = model.text(bytes.fromhex(stream)).removesuffix(STATED_TAIL)
-        test(f"the paper's answer to {name}", found == expected, found)
-    test("the tail by the paper", model.text(b"") == STATED_TAIL)
+        found = model.text(bytes.fromhex(stream))
+        test(f"the paper's answer to {name}", found == model.in_lines(lines), found)
+    test("the tail by the paper", model.in_lines(line for _, line in model.tail()) == STATED_TAIL)
 
 
 # Payloads of each kind with random values, all allowed.
@@ -562,16 +334,80 @@ def stream_of(rand, family):
         data += more
 
 
+# Messages to write: values that are allowed or not, lent bytes of sizes that fit or not, rooms near the one needed.
+
+
+def some_values(rand):
+    """The values of a message of any kind."""
+    number = rand.choice([0, 1, 2, 3, 4, 5, 7, 8, FF, rand.randrange(256)])
+    counter = [*rand.choices([0, 1], k=2), rand.choice([0, 1, 2, 3, 4, FF]), rand.randrange(65536), rand.randrange(2**32)]
+    bits = [rand.randrange(2) for _ in range(8)]
+    device = [66, rand.randrange(65536)], [74, 0, rand.randrange(2**64)], [106, FF, rand.randrange(2**64)]
+    return rand.choice(
+        [
+            [rand.choice([rand.choice(model.EMPTY), number, 0x21])],
+            [0x02, *rand.choice(device)],
+            [0x03, model.CONTROL, *bits[:4], number, rand.randrange(65536)],
+            [0x03, model.READ],
+            [0x04, model.STATE, *counter, *bits[:3]],
+            [0x05, model.REPORT, *counter, *bits[:3]],
+            [0x0D, *bits[:6], number, *bits[6:]],
+            [rand.choice([0x09, 0x11, 0x12]), number],
+            [0x18, rand.randrange(65536), *rand.randbytes(5), *[rand.randrange(2**32)] * rand.randrange(2)],
+            [0x19, rand.randrange(2**32)],
+            [0x1B, rand.randrange(65536)],
+            [0x1D, rand.randrange(65536), rand.randrange(65536)],
+        ]
+    )
+
+
+# Sizes of what is lent at which something changes; of the commands not named here, 0.
+LENT = {0x02: [64, 96], 0x19: [0, 32, 1013, 1014], 0x1B: [0, 32, 1015, 1016], 0x1D: [0, 99, 1015, 1016]}
+
+
+def some_write(rand):
+    """A record and its line."""
+    values = some_values(rand)
+    fitting = LENT.get(values[0], [0])
+    lent = some_bytes(rand, rand.choice([*fitting * 3, rand.randrange(120)]))
+    needed, output = 0, model.empty_output(4096)
+    if rand.randrange(3):
+        needed = model.write_message(values, lent, 2, 0, output, len(output))[1]
+    return model.written(values, lent, max(needed + rand.choice([-1, 0, 0, 1, 40]), 0))
+
+
+def some_answer(rand):
+    """The same of a frame to be answered with little room."""
+    command, payload = rand.choice([*messages(rand), (rand.randrange(256), some_bytes(rand, rand.randrange(9)))])
+    return model.answered(command, rand.randrange(256), payload, rand.randrange(7, 13))
+
+
+def run_writes(program, seed, count):
+    """Each line is held to the model's; and all rows are seen."""
+    seen = collections.Counter()
+    families = [("writes", some_write, 50), ("answers", some_answer, 50)]
+    for place, rand, some in checks.inputs(families, seed, count, "script"):
+        pairs = [some(rand) for _ in range(200)]
+        lines = [line for _, line in pairs]
+        seen.update(tuple(line.split(" ")[:2]) for line in lines)
+        _, wrong = program.compared(b"".join(written for written, _ in pairs), model.in_lines(lines))
+        checks.test_random(place, wrong)
+    for word, rows in (("write", ("0", "21", "22", "31", "32", "33")), ("answer", ("0", "22"))):
+        for row in rows:
+            test(f"that '{word} {row}' was tried", seen[word, row] > 0)
+
+
 # The program on a stream.
 
 PATIENCE = 10  # seconds
 
 
 def run_stated(program):
-    for name, stream, *lines in STATED:
-        expected = "".join(line + "\n" for line in lines) + STATED_TAIL
-        found, wrong = program.printed(bytes.fromhex(stream))
-        test(f"the program's answer to {name}", found == expected.encode("ascii") and not wrong, wrong or f"stream {stream}")
+    for name, script, expected in stated():
+        _, wrong = program.compared(script, expected)
+        test(f"the program's answer to {name}", not wrong, wrong)
+    _, wrong = program.compared(*kinds())
+    test("a stream of each kind of message", not wrong, wrong)
 
 
 def run_families(program, seed, count):
@@ -585,7 +421,9 @@ def run_families(program, seed, count):
                 seen[word] += 1
             elif word == "read":
                 seen["read", *rest.split(" ")[:2]] += 1
-        _, wrong = program.compared(stream, expected)
+        # The reader stays from record to record, wherever the stream is cut.
+        script = streamed(stream, rand.choice([37, 500, MOST_DATA]))
+        _, wrong = program.compared(script, "fresh\n" + expected)
         checks.test_random(place, wrong)
     checks.say(f"{seen['frame']} frames and {seen['sum']} wrong sums were tried")
     # Streams without them would show nothing.
@@ -596,15 +434,32 @@ def run_families(program, seed, count):
     test("that a wrong sum was tried", seen["sum"] > 0)
 
 
+def run_device(program):
+    """As a device drives it: the lines of a record are there before the next one is sent."""
+    steps = []
+    for _, stream, *lines in STATED:
+        steps += [(record(FRESH), ["fresh"]), (record(STREAM, bytes.fromhex(stream)), lines)]
+    steps += [(written, [line]) for written, line in model.tail()]
+    wrong = drive(program.path, steps)
+    test("each record's lines before the next record", not wrong, wrong)
+
+    stream = b"".join(bytes.fromhex(stream) for _, stream, *_ in STATED)
+    lines = {end: said for _, end, said in model.blocks(stream)}
+    steps = [(record(STREAM, stream[at : at + 1]), lines.get(at + 1, [])) for at in range(len(stream))]
+    wrong = drive(program.path, steps)
+    test("a stream byte by byte, the lines of a frame before the next byte", not wrong, wrong)
+
+
 def main():
-    path, stdin, stdout, *given = sys.argv[1:]
+    path, *given = sys.argv[1:]
     seed, count = seed_and_count(given, 400)
-    checks.compare_files(stdin, stdout, difference)
-    stated()
+    stated_by_model()
     with checks.unless_dead():
         program = Program(path, PATIENCE, difference)
         run_stated(program)
         run_families(program, seed, count)
+        run_writes(program, seed, count)
+        run_device(program)
     return checks.end()
 
 

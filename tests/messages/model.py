@@ -1,13 +1,17 @@
 #!/usr/bin/env python3
-"""What the program messages has to print for a stream: a second reading of paper 01, the exact rules for the build.
+"""What the driver has to print of streams and of messages to write: a second reading of the exact rules for the build.
 
 In the paper's order: the frame on the wire, the reader, the writer, messages read, their parts, messages written, and what
-the box answers. Sentences in quotation marks are the paper's. Nothing here is taken from the Rattle code but the wording of
-the lines and the list of messages in the tail.
+the box answers. Sentences in quotation marks are the paper's. Nothing here is taken from the Rattle code but the form of
+records and lines and the list of messages in the tail.
 
-model.py < STREAM prints the text. The program is given at most 65,536 bytes.
+model.py < STREAM prints the text of a stream.
 """
+import pathlib
 import sys
+
+sys.path.insert(0, str(pathlib.Path(__file__).resolve().parent.parent / "shared"))
+from records import ANSWER, NAMES, WRITE_MESSAGE, record
 
 # The frame on the wire.
 
@@ -421,20 +425,44 @@ def blocks(stream):
             yield start, end, sum_lines(body)
 
 
-# The tail: messages that the writer refuses, and some that it does not, under number 2 and flags 0.
-
-SHOWN = 32  # bytes of the output's array
+# Messages in a record of their own, under number 2 and flags 0: also those that the writer refuses.
 
 
-def written(values, lent=b"", room=SHOWN):
-    output = empty_output(SHOWN)
+def coded(values):
+    """A message in 14 bytes: its place in the list of messages in docs/API.md, then its values."""
+    command, *rest = values
+    if not rest:
+        return bytes([0, command])
+    if command == 0x02:
+        return bytes([1]) + in_bytes(2, rest[1]) + bytes([DEVICE_SIZES.index(rest[0])]) + in_bytes(8, *rest[2:])
+    if command == 0x03:
+        return bytes([3]) if rest[0] == READ else bytes([2, *rest[1:6]]) + in_bytes(2, rest[6])
+    if command in (0x04, 0x05):
+        return bytes([command, *rest[1:4]]) + in_bytes(2, rest[4]) + in_bytes(4, rest[5]) + bytes(rest[6:])
+    if command == 0x18:
+        return bytes([10]) + in_bytes(2, rest[0]) + bytes([*rest[1:6], len(rest) > 6]) + in_bytes(4, *rest[6:])
+    if command in (0x09, 0x0D, 0x11, 0x12):
+        return bytes([{0x09: 6, 0x0D: 7, 0x11: 8, 0x12: 9}[command], *rest])
+    if command == 0x19:
+        return bytes([11]) + in_bytes(4, rest[0])
+    return bytes([12 if command == 0x1B else 13]) + in_bytes(2, *rest[:1]) + in_bytes(2, *rest[1:])
+
+
+def in_bytes(size, number=0):
+    return number.to_bytes(size, "big")
+
+
+def written(values, lent=b"", room=32):
+    """The record and its line: the row, what was written, and the first bytes of the output."""
+    output = empty_output(2 + 2 * (LIMIT + 2))
     row, count = write_message(values, lent, 2, 0, output, room)
     said = f"write {row}"
     if row == DONE:
         said += f" {count} : {hexes(output[:count])}"
     elif row in (PAYLOAD, ROOM):
         said += f" {count}"
-    return f"{said} : {hexes(output[:3])}"
+    data = in_bytes(2, room) + coded(values).ljust(14, b"\0") + lent
+    return record(WRITE_MESSAGE, data), f"{said} : {hexes(output[:3])}"
 
 
 def report(mode):
@@ -453,18 +481,21 @@ def network(strength):
     return [0x0D, 1, 0, 1, 0, 1, 0, strength, 1, 0]
 
 
-def heartbeat_answered(room):
-    return answer_line(DONE, [0x07], 0x07, 9, empty_output(SHOWN), room)
+def answered(command, number, payload, room):
+    """The same of what the box answers to a frame, where the output has so much room."""
+    row, values = read_message(command, payload)
+    line = answer_line(row, values, command, number, empty_output(ANSWER_ROOM), room)
+    return record(ANSWER, in_bytes(2, room) + bytes([command, number]) + payload), line
 
 
 # "mode (0 fold, 1 gather, 2 sew)"; "1 SoftAP or 2 AirLink"; the codes of 11 and 12 by 003: sum, command, other, file type.
-NAMES = "names 0 1 2 1 2 1 2 3 4"
+NAMED = record(NAMES), "names 0 1 2 1 2 1 2 3 4"
 
 
 def tail():
+    """Values, sizes, rooms and names: records and their lines."""
     lent = bytes([1, 2, 3])
     return [
-        "fields",
         written(report(1)),
         written(report(3)),
         written(state(255)),
@@ -477,7 +508,6 @@ def tail():
         written([0x09, 3]),
         written([0x11, 0]),
         written([0x12, 5]),
-        "sizes",
         written([0x21]),
         written([0x21], lent),
         written([0x07], lent),
@@ -486,21 +516,23 @@ def tail():
         written([0x03, READ], lent),
         written(report(3), lent),
         written([0x02, 66, 0]),
-        "rooms",
         written(report(1), room=18),
         written(report(1), room=19),
         written(report(3), room=0),
         written([0x1D, 1, 1], bytes(1016)),
         written([0x1D, 1, 1], bytes(1015)),
-        heartbeat_answered(8),
-        heartbeat_answered(9),
-        NAMES,
+        answered(0x07, 9, b"", 8),
+        answered(0x07, 9, b"", 9),
+        NAMED,
     ]
 
 
-def text(stream):
-    lines = [line for _, _, said in blocks(stream) for line in said] + tail()
+def in_lines(lines):
     return "".join(line + "\n" for line in lines)
+
+
+def text(stream):
+    return in_lines(line for _, _, said in blocks(stream) for line in said)
 
 
 if __name__ == "__main__":

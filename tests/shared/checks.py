@@ -52,19 +52,6 @@ class Checks:
             for i in range(share):
                 yield f"seed {seed}, {name}, {what} {i}", rand, family
 
-    def compare_files(self, stdin, stdout, difference):
-        """A stored output against its stored input."""
-        try:
-            with open(stdin, "rb") as file:
-                data = file.read()
-            with open(stdout, "rb") as file:
-                found = file.read()
-        except OSError as error:
-            self.test("the stored text", False, str(error))
-            return
-        wrong = difference(data, found)
-        self.test("the stored text, byte for byte", not wrong, wrong)
-
     @contextlib.contextmanager
     def unless_dead(self):
         """A dead program is one failure, and what is left to try of it is passed over."""

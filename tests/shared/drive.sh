@@ -21,10 +21,9 @@ drive() { # WORD..
     score python3 -B "$here/check.py" "$@"
 }
 
-# The same on a program and what is stored of it.
-drive_program() { # NAME [SEED [COUNT]]
-    local stored=$root/crates/$1
-    drive "$root/target/bin/$1" "$stored/stdin" "$stored/stdout" "${@:2}"
+# The same on the program that plays scripts.
+drive_program() { # WORD..
+    drive "$root/target/bin/driver" "$@"
 }
 
 # Builds or tests the second implementation, which is quiet unless that fails.

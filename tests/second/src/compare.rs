@@ -2,7 +2,7 @@
 
 use crate::families::{self, Program, Test, PROGRAMS};
 use crate::process::{self, Fault};
-use crate::{calls, links, listing, text, transcript, vectors};
+use crate::{driver, listing, text, vectors};
 use std::path::{Path, PathBuf};
 use std::sync::atomic::{AtomicBool, AtomicUsize, Ordering};
 use std::sync::Mutex;
@@ -22,8 +22,6 @@ struct Difference {
 struct Comparison {
     folder: PathBuf,
     seed: u64,
-    /// What `messages` prints behind the lines of any stream.
-    fixed_part: Vec<u8>,
     /// Programs that are not asked any more: missing, or hung once.
     out: [AtomicBool; PROGRAMS.len()],
 }
@@ -38,9 +36,9 @@ struct Score {
 /// Runs all tests; true if none failed. The last line is the score.
 pub fn compare(folder: &Path, seed: u64, count: u64) -> bool {
     println!(
-        "seed {seed}, count {count}; one test is one input on one program, a short stream in all its cuts is one input"
+        "seed {seed}, count {count}; one test is one input, played once, a short stream in all its cuts is one input"
     );
-    let mut comparison = Comparison::new(folder, seed);
+    let comparison = Comparison::new(folder, seed);
     let mut score = comparison.first_look();
     let tests = families::tests(count);
     let whole = comparison.run_all(&tests);
@@ -65,11 +63,11 @@ fn report(score: &Score) {
 
 impl Comparison {
     fn new(folder: &Path, seed: u64) -> Comparison {
-        Comparison { folder: folder.into(), seed, fixed_part: Vec::new(), out: Default::default() }
+        Comparison { folder: folder.into(), seed, out: Default::default() }
     }
 
-    /// The literal listing of both, whether the programs are there, and the fixed part of `messages`.
-    fn first_look(&mut self) -> Score {
+    /// The literal listing of both, and whether the programs are there.
+    fn first_look(&self) -> Score {
         let mut score = Score::default();
         for program in PROGRAMS {
             if !self.path(program).is_file() {
@@ -77,20 +75,11 @@ impl Comparison {
                 score.fail(0, program.name(), "missing".into());
             }
         }
-        let own = output_of(Program::List, &vectors::LISTED, &[]);
+        let own = output_of(Program::List, &vectors::LISTED);
         score.check_listing("the paper's listing, second implementation", Ok(own));
         if self.takes_part(Program::List) {
             let first = self.run(Program::List, &vectors::LISTED);
             score.check_listing("the paper's listing, first implementation", first);
-        }
-        if self.takes_part(Program::Messages) {
-            match self.run(Program::Messages, &[]) {
-                Ok(fixed_part) => self.fixed_part = fixed_part,
-                Err(fault) => {
-                    self.leave_out(Program::Messages);
-                    score.fail(0, "messages on the empty input", fault);
-                }
-            }
         }
         score
     }
@@ -101,7 +90,7 @@ impl Comparison {
         let score = Mutex::new(Score::default());
         let work = || {
             while let Some((place, test)) = next_of(tests, &next) {
-                if !self.takes_part(test.program) {
+                if !self.takes_part(test.play.program()) {
                     continue;
                 }
                 let result = self.run_test(test);
@@ -124,9 +113,10 @@ impl Comparison {
 
     fn run_test(&self, test: &Test) -> Option<Difference> {
         let input = test.input(self.seed);
-        let second = output_of(test.program, &input, &self.fixed_part);
+        let program = test.play.program();
+        let second = output_of(program, &input);
         let name = test.name(self.seed);
-        match self.run(test.program, &input) {
+        match self.run(program, &input) {
             Ok(first) if first == second => None,
             Ok(first) => {
                 let detail = describe(&input, &first, &second);
@@ -185,16 +175,11 @@ fn next_of<'a>(tests: &'a [Test], next: &AtomicUsize) -> Option<(usize, &'a Test
 }
 
 /// What this implementation prints for the input.
-fn output_of(program: Program, mut input: &[u8], fixed_part: &[u8]) -> Vec<u8> {
+fn output_of(program: Program, mut input: &[u8]) -> Vec<u8> {
     let mut output = Vec::new();
     let played = match program {
         Program::List => listing::list(&mut input, &mut output),
-        Program::Calls => calls::play(&mut input, &mut output),
-        Program::Links => links::play(&mut input, &mut output),
-        Program::Messages => {
-            output = [&transcript::lines(input), fixed_part].concat();
-            Ok(())
-        }
+        Program::Driver => driver::play(&mut input, &mut output),
     };
     played.expect("memory can be read and written");
     output

@@ -1,46 +1,72 @@
-//! The table of all tests: which inputs there are, for which programs, and how many of them.
+//! The table of all tests: which inputs there are, what they are played through, and how many of them.
 
 use crate::random::Rng;
 use crate::{link_scripts, scripts, streams, vectors};
 
+/// What an input is played through: the program `list`, or one kind of script on the program `driver`.
 #[derive(Clone, Copy, PartialEq, Eq, Debug)]
-pub enum Program {
+pub enum Play {
     List,
     Messages,
     Calls,
     Links,
 }
 
-pub const PROGRAMS: [Program; 4] = [Program::List, Program::Messages, Program::Calls, Program::Links];
+const PLAYS: [Play; 4] = [Play::List, Play::Messages, Play::Calls, Play::Links];
+
+#[derive(Clone, Copy, PartialEq, Eq, Debug)]
+pub enum Program {
+    List,
+    Driver,
+}
+
+pub const PROGRAMS: [Program; 2] = [Program::List, Program::Driver];
+
+impl Play {
+    fn name(self) -> &'static str {
+        match self {
+            Play::List => "list",
+            Play::Messages => "messages",
+            Play::Calls => "calls",
+            Play::Links => "links",
+        }
+    }
+
+    pub fn named(name: &str) -> Option<Play> {
+        PLAYS.into_iter().find(|play| play.name() == name)
+    }
+
+    pub fn program(self) -> Program {
+        if self == Play::List {
+            Program::List
+        } else {
+            Program::Driver
+        }
+    }
+}
 
 impl Program {
     pub fn name(self) -> &'static str {
         match self {
             Program::List => "list",
-            Program::Messages => "messages",
-            Program::Calls => "calls",
-            Program::Links => "links",
+            Program::Driver => "driver",
         }
-    }
-
-    pub fn named(name: &str) -> Option<Program> {
-        PROGRAMS.into_iter().find(|program| program.name() == name)
     }
 }
 
 /// Makes an input from its index; one that the index does not fix is random.
 type Make = fn(&mut Rng, u64) -> Vec<u8>;
 
-/// What a family makes, and with it the programs that it is for.
+/// What a family makes, and with it what that is played through.
 #[derive(Clone, Copy)]
 enum Kind {
-    /// A stream for `list` and `messages`, and in random cuts for `calls`.
+    /// A stream to list, to play in records, and to give to the reader in random cuts.
     Stream(Make),
-    /// A stream that is too long for `messages`.
+    /// A stream that is too long for random cuts.
     Long(Make),
-    /// A script for `calls`.
+    /// A script of single calls to the reader and the writer.
     Calls(Make),
-    /// Records for `links`.
+    /// A script of a link's records.
     Links(Make),
 }
 
@@ -88,45 +114,46 @@ const FAMILIES: [Family; 25] = [
     family("link-noise", Kind::Links(link_scripts::noise), as_asked),
 ];
 
-/// One input on one program.
+/// One input, played once.
 #[derive(Clone, Copy)]
 pub struct Test {
-    pub program: Program,
+    pub play: Play,
     family: usize,
     index: u64,
 }
 
 impl Test {
-    pub fn named(program: Program, family: &str, index: u64) -> Option<Test> {
+    pub fn named(play: Play, family: &str, index: u64) -> Option<Test> {
         let place = FAMILIES.iter().position(|known| known.name == family)?;
-        let fits = FAMILIES[place].programs().contains(&program) && index < (FAMILIES[place].inputs)(u64::MAX);
-        fits.then_some(Test { program, family: place, index })
+        let fits = FAMILIES[place].plays().contains(&play) && index < (FAMILIES[place].inputs)(u64::MAX);
+        fits.then_some(Test { play, family: place, index })
     }
 
     pub fn name(&self, seed: u64) -> String {
         let family = FAMILIES[self.family].name;
-        format!("{} seed {seed} family {family} index {}", self.program.name(), self.index)
+        format!("{} seed {seed} family {family} index {}", self.play.name(), self.index)
     }
 
     pub fn input(&self, seed: u64) -> Vec<u8> {
         let mut rng = Rng::for_test(seed, self.family as u64, self.index);
-        match FAMILIES[self.family].kind {
-            Kind::Stream(make) if self.program == Program::Calls => {
-                let stream = make(&mut rng, self.index);
-                scripts::random_cuts(&stream, &mut rng)
-            }
-            Kind::Stream(make) | Kind::Long(make) | Kind::Calls(make) | Kind::Links(make) => make(&mut rng, self.index),
+        let (Kind::Stream(make) | Kind::Long(make) | Kind::Calls(make) | Kind::Links(make)) =
+            FAMILIES[self.family].kind;
+        let made = make(&mut rng, self.index);
+        match (FAMILIES[self.family].kind, self.play) {
+            (Kind::Stream(_), Play::Calls) => scripts::random_cuts(&made, &mut rng),
+            (_, Play::Messages) => scripts::in_records(&made, &mut rng),
+            _ => made,
         }
     }
 }
 
 impl Family {
-    fn programs(&self) -> &'static [Program] {
+    fn plays(&self) -> &'static [Play] {
         match self.kind {
-            Kind::Stream(_) => &[Program::List, Program::Messages, Program::Calls],
-            Kind::Long(_) => &[Program::List],
-            Kind::Calls(_) => &[Program::Calls],
-            Kind::Links(_) => &[Program::Links],
+            Kind::Stream(_) => &[Play::List, Play::Messages, Play::Calls],
+            Kind::Long(_) => &[Play::List, Play::Messages],
+            Kind::Calls(_) => &[Play::Calls],
+            Kind::Links(_) => &[Play::Links],
         }
     }
 }
@@ -136,7 +163,7 @@ pub fn tests(count: u64) -> Vec<Test> {
     let mut tests = Vec::new();
     for (place, family) in FAMILIES.iter().enumerate() {
         for index in 0..(family.inputs)(count) {
-            tests.extend(family.programs().iter().map(|&program| Test { program, family: place, index }));
+            tests.extend(family.plays().iter().map(|&play| Test { play, family: place, index }));
         }
     }
     tests

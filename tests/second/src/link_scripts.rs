@@ -1,7 +1,8 @@
-//! Scripts for the program `links`.
+//! Scripts of a link's records.
 
+use crate::driver::{push_record, FEED, FINISH, LINK, STREAM};
 use crate::link::{Link, SENDABLE};
-use crate::links::{play_record, RECORD_SIZE};
+use crate::links::{play_record, DATA_SIZE};
 use crate::random::Rng;
 
 const OFFER: u8 = 0;
@@ -30,11 +31,9 @@ impl Script {
     }
 
     fn record(&mut self, operation: u8, fields: [u8; 4], clock: u32) {
-        let mut record = vec![operation];
-        record.extend_from_slice(&fields);
-        record.extend_from_slice(&clock.to_be_bytes());
-        play_record(&mut self.link, &record, &mut Vec::new());
-        self.records.extend(record);
+        let data = [fields, clock.to_be_bytes()].concat();
+        play_record(&mut self.link, operation, &data, &mut Vec::new());
+        push_record(&mut self.records, LINK + operation, &data);
     }
 
     fn offer(&mut self, rng: &mut Rng) {
@@ -80,6 +79,12 @@ impl Script {
         self.record(SET_WAITING, [next, command, number, repeats], sent);
     }
 
+    /// Something that must not touch the link.
+    fn reader(&mut self, rng: &mut Rng) {
+        let size = rng.between(0, 12);
+        push_record(&mut self.records, rng.pick(&[FEED, FINISH, STREAM]), &rng.bytes_from(&[0xFF, 0, 5, 7], size));
+    }
+
     fn advance(&mut self, rng: &mut Rng) {
         self.clock = self.clock.wrapping_add(step(rng));
     }
@@ -105,7 +110,8 @@ pub fn long_life(rng: &mut Rng, _index: u64) -> Vec<u8> {
         match rng.below(20) {
             0..=6 => script.offer(rng),
             7..=13 => script.tick(rng),
-            14..=18 => script.answer(rng),
+            14..=17 => script.answer(rng),
+            18 => script.reader(rng),
             _ => script.elapsed(rng),
         }
         if rng.once_in(2) {
@@ -120,7 +126,7 @@ pub fn elsewhere(rng: &mut Rng, _index: u64) -> Vec<u8> {
     let mut script = Script::new(rng);
     for _ in 0..RECORDS / 5 {
         match rng.once_in(12) {
-            true => script.record(rng.pick(&[FRESH, 8, 255]), [rng.byte(); 4], rng.next() as u32),
+            true => script.record(rng.pick(&[FRESH, 8, 127]), [rng.byte(); 4], rng.next() as u32),
             false => script.set(rng),
         }
         for _ in 0..rng.between(1, 6) {
@@ -135,15 +141,21 @@ pub fn elsewhere(rng: &mut Rng, _index: u64) -> Vec<u8> {
     script.records
 }
 
-/// Any bytes, with the operations made likely and an incomplete record at the end.
+/// Any data, some of it of another size, with the operations made likely.
+pub fn any_record(records: &mut Vec<u8>, rng: &mut Rng) {
+    let operation = if rng.once_in(20) { rng.byte() } else { rng.byte() % 8 };
+    let size = if rng.once_in(20) { rng.between(0, DATA_SIZE + 2) } else { DATA_SIZE };
+    push_record(records, LINK | operation, &rng.bytes(size));
+}
+
+/// Any records, and an incomplete one at the end.
 pub fn noise(rng: &mut Rng, _index: u64) -> Vec<u8> {
-    let mut records = rng.bytes(RECORDS * RECORD_SIZE);
-    for record in records.chunks_mut(RECORD_SIZE) {
-        if !rng.once_in(20) {
-            record[0] %= 8;
-        }
+    let mut records = Vec::new();
+    for _ in 0..RECORDS {
+        any_record(&mut records, rng);
     }
-    let rest = rng.between(0, RECORD_SIZE - 1);
-    records.extend(rng.bytes(rest));
+    push_record(&mut records, LINK, &rng.bytes(DATA_SIZE));
+    let cut = rng.between(1, DATA_SIZE + 3);
+    records.truncate(records.len() - cut);
     records
 }

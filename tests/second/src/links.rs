@@ -1,38 +1,15 @@
-//! The program `links`: records played on one link.
+//! The link's records of the program `driver`.
 
+use crate::driver::number;
 use crate::link::{self, Link, Refusal, Tick, Waiting};
-use crate::listing::read_some;
 use crate::text;
-use std::io::{self, Read, Write};
 
-pub const RECORD_SIZE: usize = 9;
+/// The data is four bytes and the clock.
+pub const DATA_SIZE: usize = 8;
 
-/// Plays the input; each line is written before more is read.
-pub fn play(input: &mut impl Read, output: &mut impl Write) -> io::Result<()> {
-    let mut link = Link::new();
-    let mut bytes = vec![0; RECORD_SIZE * 4_096];
-    let mut kept = 0;
-    loop {
-        let size = read_some(input, &mut bytes[kept..])?;
-        if size == 0 {
-            return Ok(());
-        }
-        let end = kept + size;
-        let whole = end - end % RECORD_SIZE;
-        let mut lines = Vec::new();
-        for record in bytes[..whole].chunks_exact(RECORD_SIZE) {
-            play_record(&mut link, record, &mut lines);
-        }
-        bytes.copy_within(whole..end, 0);
-        kept = end - whole;
-        output.write_all(&lines)?;
-        output.flush()?;
-    }
-}
-
-pub fn play_record(link: &mut Link, record: &[u8], out: &mut Vec<u8>) {
-    let &[operation, a, b, c, d, clock_a, clock_b, clock_c, clock_d] = record else { return };
-    let clock = u32::from_be_bytes([clock_a, clock_b, clock_c, clock_d]);
+pub fn play_record(link: &mut Link, operation: u8, data: &[u8], out: &mut Vec<u8>) {
+    let [a, b, c, d] = [0, 1, 2, 3].map(|place| number(data, place, 1) as u8);
+    let clock = number(data, 4, 4) as u32;
     match operation {
         0 => answer(out, "offer", link.offer(a, clock).map(|number| vec![number.into()])),
         1 | 6 => answer(out, "tick", link.tick(clock).map(tick_values)),

@@ -30,7 +30,7 @@ pub fn list(input: &mut impl Read, output: &mut impl Write) -> io::Result<()> {
 }
 
 /// One read that a signal does not end.
-pub fn read_some(input: &mut impl Read, bytes: &mut [u8]) -> io::Result<usize> {
+fn read_some(input: &mut impl Read, bytes: &mut [u8]) -> io::Result<usize> {
     loop {
         match input.read(bytes) {
             Err(error) if error.kind() == ErrorKind::Interrupted => {}

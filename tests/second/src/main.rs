@@ -1,9 +1,9 @@
 //! The serial protocol once more, written from the paper, to be compared with the first implementation.
 
 mod answers;
-mod calls;
 mod compare;
 mod counter;
+mod driver;
 mod families;
 mod generate;
 mod link;
@@ -23,14 +23,14 @@ mod vectors;
 mod writer;
 mod written;
 
-use std::io::{self, BufReader, BufWriter, Read, Write};
+use std::io::{self, Write};
 use std::path::Path;
 use std::process::ExitCode;
 
-const USAGE: &str = "usage: second list | messages | links | calls | written
+const USAGE: &str = "usage: second list | driver | written
        second generate reports|ff|noise SEED COUNT
        second compare FOLDER [SEED [COUNT]]
-       second input PROGRAM SEED FAMILY INDEX";
+       second input PLAY SEED FAMILY INDEX";
 
 const DEFAULT_SEED: u64 = 1;
 const DEFAULT_COUNT: u64 = 200;
@@ -40,18 +40,13 @@ fn main() -> ExitCode {
     let words: Vec<&str> = words.iter().map(String::as_str).collect();
     let done = match words[..] {
         ["list"] => listing::list(&mut io::stdin().lock(), &mut io::stdout().lock()).map_err(not_read),
-        ["messages"] => messages(),
-        ["links"] => links::play(&mut io::stdin().lock(), &mut io::stdout().lock()).map_err(not_read),
-        ["calls"] => {
-            let mut output = BufWriter::new(io::stdout().lock());
-            calls::play(&mut BufReader::new(io::stdin().lock()), &mut output).map_err(not_read)
-        }
+        ["driver"] => driver::play(&mut io::stdin().lock(), &mut io::stdout().lock()).map_err(not_read),
         ["written"] => written(),
         ["generate", kind, seed, count] => generate(kind, seed, count),
         ["compare", folder] => compare(folder, None, None),
         ["compare", folder, seed] => compare(folder, Some(seed), None),
         ["compare", folder, seed, count] => compare(folder, Some(seed), Some(count)),
-        ["input", program, seed, family, index] => input(program, seed, family, index),
+        ["input", play, seed, family, index] => input(play, seed, family, index),
         _ => Err(USAGE.into()),
     };
     match done {
@@ -67,12 +62,6 @@ fn main() -> ExitCode {
 
 fn not_read(error: io::Error) -> String {
     format!("second: {error}")
-}
-
-fn messages() -> Result<(), String> {
-    let mut stream = Vec::new();
-    io::stdin().lock().take(transcript::MOST_INPUT).read_to_end(&mut stream).map_err(not_read)?;
-    io::stdout().lock().write_all(&transcript::lines(&stream)).map_err(not_read)
 }
 
 /// Both outcomes are what this program prints.
@@ -102,9 +91,9 @@ fn compare(folder: &str, seed: Option<&str>, count: Option<&str>) -> Result<(), 
 }
 
 /// Writes the input of one test, to try it by hand.
-fn input(program: &str, seed: &str, family: &str, index: &str) -> Result<(), String> {
-    let program = families::Program::named(program).ok_or(USAGE)?;
-    let test = families::Test::named(program, family, number(index)?).ok_or("no such family or index")?;
+fn input(play: &str, seed: &str, family: &str, index: &str) -> Result<(), String> {
+    let play = families::Play::named(play).ok_or(USAGE)?;
+    let test = families::Test::named(play, family, number(index)?).ok_or("no such family or index")?;
     io::stdout().lock().write_all(&test.input(number(seed)?)).map_err(not_read)
 }
 

@@ -1,9 +1,11 @@
-//! Scripts for the program `calls`: streams cut into calls, and records for the writer.
+//! Scripts of calls: streams cut into calls or played whole, and records for the writer.
 
-use crate::calls::{FEED, FINISH, MOST_DATA, MOST_ROOM, SET, WRITE};
+use crate::driver::{push_record, FEED, FINISH, MOST_DATA, MOST_ROOM, SET, STREAM, WRITE};
+use crate::link_scripts;
 use crate::random::Rng;
 use crate::reader::{Answer, Reader};
 use crate::streams;
+use crate::transcript;
 use crate::vectors;
 use crate::writer::{wire_form, MOST_PAYLOAD};
 
@@ -25,9 +27,7 @@ impl Script {
     }
 
     fn record(&mut self, operation: u8, data: &[u8]) {
-        self.records.push(operation);
-        self.records.extend_from_slice(&(data.len() as u16).to_be_bytes());
-        self.records.extend_from_slice(data);
+        push_record(&mut self.records, operation, data);
     }
 
     /// Returns how many bytes are taken, or None where the call is refused.
@@ -53,6 +53,12 @@ impl Script {
         self.reader = Reader::having_taken(taken);
     }
 
+    /// Plays the bytes as those of a stream.
+    fn stream(&mut self, data: &[u8]) {
+        self.record(STREAM, data);
+        transcript::lines(&mut self.reader, data, &mut Vec::new());
+    }
+
     /// Offers the bytes until all are taken.
     fn feed_all(&mut self, mut bytes: &[u8]) {
         while !bytes.is_empty() {
@@ -75,6 +81,16 @@ impl Script {
     }
 }
 
+/// A stream played by one reader, in records of up to some size.
+pub fn in_records(stream: &[u8], rng: &mut Rng) -> Vec<u8> {
+    let mut records = Vec::new();
+    let size = rng.pick(&[20, 500, MOST_DATA, MOST_DATA]);
+    for piece in stream.chunks(size) {
+        push_record(&mut records, STREAM, piece);
+    }
+    records
+}
+
 /// A stream given in random pieces, with ends asked between them. Half of the scripts are steady: untaken bytes always
 /// come again first. In the others some are dropped, and the reader is replaced now and then.
 pub fn random_cuts(stream: &[u8], rng: &mut Rng) -> Vec<u8> {
@@ -87,6 +103,11 @@ pub fn random_cuts(stream: &[u8], rng: &mut Rng) -> Vec<u8> {
     }
     while place < stream.len() {
         let size = rng.between(0, most).min(stream.len() - place);
+        if rng.once_in(10) {
+            script.stream(&stream[place..place + size]);
+            place += size;
+            continue;
+        }
         match script.feed(&stream[place..place + size]) {
             Some(count) if steady || !rng.once_in(16) => place += count,
             Some(_) => place += size,
@@ -112,6 +133,7 @@ fn between_calls(script: &mut Script, rng: &mut Rng) {
             let payload = rng.bytes(3);
             script.record(WRITE, &[&[7, 1, 0, 0, 0, 30][..], &payload].concat());
         }
+        9..=10 => link_scripts::any_record(&mut script.records, rng),
         _ => {}
     }
 }
@@ -121,7 +143,7 @@ fn replace_reader(script: &mut Script, rng: &mut Rng) {
         0 => script.set(near_limit(rng)),
         1 => script.set(rng.below(1 << 40)),
         2 => short_set(script, rng),
-        _ => script.fresh(rng.pick(&[0, 5, 6, 255])),
+        _ => script.fresh(rng.pick(&[0, 9, 100, 127])),
     }
 }
 

@@ -1,4 +1,4 @@
-//! The program `messages`: each frame of the input read, written again and answered.
+//! Bytes of a stream: each frame read, written again and answered.
 
 use crate::answers::{self, Reply};
 use crate::messages::{self, Message};
@@ -6,23 +6,17 @@ use crate::reader::{Answer, Reader, Verdict};
 use crate::text;
 use crate::writer::wire_form;
 
-/// The most bytes of input that the program reads.
-pub const MOST_INPUT: u64 = 65_536;
-
-/// The lines about a stream.
-pub fn lines(mut stream: &[u8]) -> Vec<u8> {
-    let mut reader = Reader::new();
-    let mut out = Vec::new();
+/// The lines about the next bytes of a stream.
+pub fn lines(reader: &mut Reader, mut stream: &[u8], out: &mut Vec<u8>) {
     while !stream.is_empty() {
         let Answer::Decided { verdict, count, .. } = reader.feed(stream) else { break };
         stream = &stream[count..];
         match verdict {
-            Verdict::Frame => frame_lines(reader.body(), &mut out),
-            Verdict::Sum => sum_lines(reader.body(), &mut out),
+            Verdict::Frame => frame_lines(reader.body(), out),
+            Verdict::Sum => sum_lines(reader.body(), out),
             _ => {}
         }
     }
-    out
 }
 
 fn frame_lines(body: &[u8], out: &mut Vec<u8>) {

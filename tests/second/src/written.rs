@@ -1,6 +1,6 @@
 //! Checks what the C export of the writer did, line by line.
 
-use crate::calls::UNTOUCHED;
+use crate::driver::UNTOUCHED;
 use crate::text;
 use crate::writer;
 use std::io::BufRead;

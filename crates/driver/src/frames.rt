@@ -1,0 +1,132 @@
+// The reader's calls and the frame writer: the row's number and its values, then the bytes held or written.
+use super::text;
+use frame::Answer;
+use frame::BodyPlace;
+use frame::Ending;
+use frame::Phase;
+use frame::Reader;
+use frame::Scan;
+use frame::WirePlace;
+use frame::Written;
+
+// The reader after a record, and whether its lines were written.
+pub(crate) struct Read {
+    pub reader: Reader,
+    pub written: bool,
+}
+
+// A row of the reader's table.
+pub(crate) struct Row {
+    pub number: u64,
+    pub count: usize,
+    pub start: u64,
+    pub end: u64,
+}
+
+fn decided(number: u64, count: usize, start: WirePlace, end: WirePlace) -> Row {
+    Row {
+        number,
+        count,
+        start: start.0,
+        end: end.0,
+    }
+}
+
+pub(crate) fn row_of(a: Answer) -> Row {
+    match a {
+        Answer::More { count } => decided(0, count, WirePlace(0), WirePlace(0)),
+        Answer::Frame { count, start, end } => decided(1, count, start, end),
+        Answer::Short { count, start, end } => decided(11, count, start, end),
+        Answer::Long { count, start, end } => decided(12, count, start, end),
+        Answer::Stuff { count, start, end } => decided(13, count, start, end),
+        Answer::Cut { count, start, end } => decided(14, count, start, end),
+        Answer::Sum { count, start, end } => decided(15, count, start, end),
+        Answer::State => decided(17, 0, WirePlace(0), WirePlace(0)),
+        Answer::Used => decided(18, 0, WirePlace(0), WirePlace(0)),
+    }
+}
+
+// A body's first L + 2 bytes.
+fn held(body: &[u8]) -> &[u8] {
+    base::part(body, 0, frame::payload(body).len() + 7)
+}
+
+fn answered(r: Row, body: &[u8]) -> bool {
+    let number = r.number;
+    let count = r.count as u64;
+    match number {
+        0 | 17 | 18 => text::line(b"feed", &[number, count]),
+        1 | 15 => text::line_with(b"feed", &[number, count, r.start, r.end], held(body)),
+        _ => text::line(b"feed", &[number, count, r.start, r.end]),
+    }
+}
+
+pub(crate) fn feed(reader: Reader, data: &[u8]) -> Read {
+    let fed = frame::feed(reader, data);
+    let next = fed.reader;
+    let answer = fed.answer;
+    Read {
+        reader: next,
+        written: answered(row_of(answer), &next.body),
+    }
+}
+
+fn ending(e: Ending) -> bool {
+    match e {
+        Ending::Clean { taken } => text::line(b"end 2", &[taken.0]),
+        Ending::Open { taken, start } => text::line(b"end 16", &[taken.0, start.0]),
+        Ending::State => text::line(b"end 17 0", &[]),
+    }
+}
+
+pub(crate) fn finish(reader: Reader) -> Read {
+    let finished = frame::finish(reader);
+    let answer = finished.answer;
+    let same = finished.reader;
+    Read {
+        reader: same,
+        written: ending(answer),
+    }
+}
+
+// A fresh reader, but for the bytes taken so far.
+pub(crate) fn having_taken(data: &[u8]) -> Reader {
+    let high = base::four_at(data, 0) as u64;
+    let low = base::four_at(data, 4) as u64;
+    Reader {
+        scan: Scan {
+            phase: Phase::Idle,
+            taken: WirePlace(high * 4294967296 + low),
+            start: WirePlace(0),
+            have: BodyPlace(0),
+            length: 0,
+            sum: 0,
+        },
+        body: [0; 1026],
+    }
+}
+
+// The first bytes of an output, as many as are to be lent.
+pub(crate) fn lent(out: &mut [u8], room: usize) -> &mut [u8] {
+    let size = base::least(room, out.len());
+    &mut out[..size]
+}
+
+// Command, number, flags and room stand before the payload; a room above 2,100 counts as that.
+pub(crate) fn write(data: &[u8]) -> bool {
+    let room = base::two_at(data, 4) as usize;
+    let mut out = [170u8; 2100];
+    let w = frame::write(
+        base::byte_at(data, 0),
+        base::byte_at(data, 1),
+        base::two_at(data, 2),
+        base::part(data, 6, data.len()),
+        lent(&mut out, room),
+    );
+    let shown = base::part(&out, 0, room);
+    match w {
+        Written::Wrote { count } => text::line_with(b"write 0", &[count as u64], shown),
+        Written::Payload => text::line_with(b"write 21 0", &[], shown),
+        Written::Room => text::line_with(b"write 22 0", &[], shown),
+    }
+}

@@ -1,0 +1,132 @@
+// The link's calls: the word with the row's number and its values, then the link.
+use super::place::tick_in_place;
+use super::text;
+use link::Acceptance;
+use link::Arrival;
+use link::Link;
+use link::Retry;
+use link::Ticked;
+use link::Wait;
+
+// The link after a record, and whether its line was written.
+pub(crate) struct Linked {
+    pub link: Link,
+    pub written: bool,
+}
+
+fn waiting(next: u8, w: Wait) -> bool {
+    match w {
+        Wait::Idle => text::line(b" :", &[next as u64]),
+        Wait::Waiting {
+            command,
+            number,
+            sent,
+            repeats,
+        } => {
+            text::line(
+                b" :",
+                &[
+                    next as u64,
+                    command as u64,
+                    number as u64,
+                    sent as u64,
+                    repeats as u64,
+                ],
+            )
+        }
+    }
+}
+
+// Writes the link after a line's first part.
+fn ended(front: bool, link: Link) -> Linked {
+    let wait = link.wait;
+    Linked {
+        link,
+        written: front && waiting(link.next, wait),
+    }
+}
+
+fn acceptance(a: Acceptance) -> bool {
+    match a {
+        Acceptance::Accepted { number } => text::front(b"offer 0", &[number as u64]),
+        Acceptance::State => text::text(b"offer 17 0"),
+        Acceptance::Unsent => text::text(b"offer 42"),
+        Acceptance::Busy => text::text(b"offer 41"),
+    }
+}
+
+fn offer(link: Link, command: u8, clock: u32) -> Linked {
+    let o = link::offer(link, command, clock);
+    let answer = o.answer;
+    ended(acceptance(answer), o.link)
+}
+
+fn retry(r: Retry) -> bool {
+    match r {
+        Retry::Nothing => text::text(b"tick 0"),
+        Retry::Again { command, number } => text::front(
+            b"tick 0 1",
+            &[command as u64, number as u64],
+        ),
+        Retry::GivenUp { command, number } => {
+            text::front(b"tick 0 2", &[command as u64, number as u64])
+        }
+        Retry::State => text::text(b"tick 17 0"),
+    }
+}
+
+fn ticked(t: Ticked) -> Linked {
+    let answer = t.answer;
+    ended(retry(answer), t.link)
+}
+
+fn arrival(a: Arrival) -> bool {
+    match a {
+        Arrival::Answered { command, number } => {
+            text::front(b"answer 0", &[command as u64, number as u64])
+        }
+        Arrival::State => text::text(b"answer 17 0"),
+        Arrival::Stray => text::text(b"answer 43"),
+    }
+}
+
+fn arrive(link: Link, command: u8, number: u8) -> Linked {
+    let a = link::arrive(link, command, number);
+    let answer = a.answer;
+    ended(arrival(answer), a.link)
+}
+
+fn set(next: u8, wait: Wait) -> Linked {
+    ended(text::text(b"set"), Link { next, wait })
+}
+
+fn time(link: Link, clock: u32, since: u32) -> Linked {
+    let span = link::elapsed(clock, since) as u64;
+    let due = link::is_due(clock, since) as u64;
+    ended(text::front(b"elapsed", &[span, due]), link)
+}
+
+// The data is four bytes and the clock.
+pub(crate) fn act(link: Link, operation: u8, data: &[u8]) -> Linked {
+    let a = base::byte_at(data, 0);
+    let b = base::byte_at(data, 1);
+    let clock = base::four_at(data, 4);
+    match operation {
+        128 => offer(link, a, clock),
+        129 => ticked(link::tick_by_value(link, clock)),
+        130 => arrive(link, a, b),
+        131 => set(a, Wait::Idle),
+        132 => set(
+            a,
+            Wait::Waiting {
+                command: b,
+                number: base::byte_at(data, 2),
+                sent: clock,
+                repeats: base::byte_at(data, 3),
+            },
+        ),
+        133 => time(link, clock, base::four_at(data, 0)),
+        134 => ticked(tick_in_place(link, clock)),
+        _ => ended(text::text(b"fresh"), Link::new()),
+    }
+}

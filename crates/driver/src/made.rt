@@ -1,0 +1,167 @@
+// Messages made of a record's bytes: also those that the writer refuses, which no stream carries, and short outputs.
+use super::frames::lent;
+use super::messages;
+use super::text;
+use base::byte_at;
+use base::four_at;
+use base::two_at;
+use message::Control;
+use message::Extra;
+use message::Flags;
+use message::Message;
+use message::Network;
+use message::Status;
+use message::Time;
+use message::Unix;
+
+fn bit_at(data: &[u8], at: usize) -> bool {
+    byte_at(data, at) != 0
+}
+
+fn status(data: &[u8]) -> Status {
+    Status {
+        feeding: bit_at(data, 3),
+        lamp: bit_at(data, 4),
+        mode: byte_at(data, 5),
+        volume: two_at(data, 6),
+        leaf: four_at(data, 8),
+        double: bit_at(data, 12),
+        skipped: bit_at(data, 13),
+        fault: bit_at(data, 14),
+    }
+}
+
+fn control(data: &[u8]) -> Control {
+    Control {
+        flags: Flags {
+            lamp: bit_at(data, 3),
+            mode: bit_at(data, 4),
+            volume: bit_at(data, 5),
+        },
+        lamp: bit_at(data, 6),
+        mode: byte_at(data, 7),
+        volume: two_at(data, 8),
+    }
+}
+
+fn network(data: &[u8]) -> Network {
+    Network {
+        softap: bit_at(data, 3),
+        station: bit_at(data, 4),
+        onboarding: bit_at(data, 5),
+        binding: bit_at(data, 6),
+        router: bit_at(data, 7),
+        server: bit_at(data, 8),
+        strength: byte_at(data, 9),
+        app: bit_at(data, 10),
+        testing: bit_at(data, 11),
+    }
+}
+
+fn time(data: &[u8]) -> Time {
+    let mut unix = Unix::Absent;
+    if bit_at(data, 10) {
+        unix = Unix::Seconds {
+            seconds: four_at(data, 11),
+        };
+    }
+    Time {
+        year: two_at(data, 3),
+        month: byte_at(data, 5),
+        day: byte_at(data, 6),
+        hour: byte_at(data, 7),
+        minute: byte_at(data, 8),
+        second: byte_at(data, 9),
+        unix,
+    }
+}
+
+fn extra(data: &[u8]) -> Extra {
+    let attributes = four_at(data, 6) as u64 * 4294967296 + four_at(data, 10) as u64;
+    match byte_at(data, 5) {
+        0 => Extra::Absent,
+        1 => Extra::Attributes { attributes },
+        _ => Extra::AttributesAndSecret { attributes },
+    }
+}
+
+// The third byte is the message's place in `Message`; its values follow.
+fn message_of(data: &[u8]) -> Message {
+    let value = byte_at(data, 3);
+    let two = two_at(data, 3);
+    match byte_at(data, 2) {
+        0 => Message::Empty { command: value },
+        1 => Message::Information {
+            timeout: two,
+            extra: extra(data),
+        },
+        2 => Message::Control {
+            control: control(data),
+        },
+        3 => Message::Query,
+        4 => Message::Status {
+            status: status(data),
+        },
+        5 => Message::Report {
+            status: status(data),
+        },
+        6 => Message::Onboarding { way: value },
+        7 => Message::Network {
+            network: network(data),
+        },
+        8 => Message::ModuleReject { code: value },
+        9 => Message::BoxReject { code: value },
+        10 => Message::Time { time: time(data) },
+        11 => Message::Announcement {
+            size: four_at(data, 3),
+        },
+        12 => Message::Ready { piece: two },
+        _ => Message::Piece {
+            index: two,
+            total: two_at(data, 5),
+        },
+    }
+}
+
+// Room in two bytes and the message in fourteen; what is lent follows. Number 2, flags 0. A refusal leaves the output.
+pub(crate) fn write(data: &[u8]) -> bool {
+    let mut out = [170u8; 2054];
+    let s = message::write(
+        message_of(data),
+        base::part(data, 16, data.len()),
+        2,
+        0,
+        lent(&mut out, two_at(data, 0) as usize),
+    );
+    messages::sent(s, &out) && text::bytes(base::part(&out, 0, 3)) && text::text(b"\n")
+}
+
+// The box's answer to a frame, into so many bytes: room in two, command, number, payload.
+pub(crate) fn answer(data: &[u8]) -> bool {
+    let mut out = [170u8; 16];
+    let r = message::answer_frame(
+        byte_at(data, 2),
+        byte_at(data, 3),
+        base::part(data, 4, data.len()),
+        lent(&mut out, two_at(data, 0) as usize),
+    );
+    messages::reply(r, &out) && text::text(b"\n")
+}
+
+// The numbers that the names of modes, ways and codes stand for.
+pub(crate) fn names() -> bool {
+    text::line(
+        b"names",
+        &[
+            message::FOLD as u64,
+            message::GATHER as u64,
+            message::SEW as u64,
+            message::SOFT_AP as u64,
+            message::AIR_LINK as u64,
+            message::BAD_SUM as u64,
+            message::BAD_COMMAND as u64,
+            message::OTHER_FAULT as u64,
+            message::WRONG_FILE_TYPE as u64,
+        ],
+    )
+}

@@ -1,0 +1,267 @@
+#!/usr/bin/env python3
+"""The answers that paper 01 itself names, for streams and for the tail of model.py, written by hand from the paper.
+
+stated.py script prints them as a script for the driver, with a stream of each kind of message behind them; stated.py text
+what the driver has to print for it, of that stream by model.py.
+"""
+import pathlib
+import sys
+
+import model
+
+sys.path.insert(0, str(pathlib.Path(__file__).resolve().parent.parent / "shared"))
+from records import print_part, streamed
+
+# A name, the stream and its lines.
+
+STATED = [
+    (
+        "example 1, a heartbeat, gets 08 with its number",
+        "FF FF 00 05 07 01 00 00 0D",
+        "frame 7 1 0 0",
+        "read 0 7",
+        "write 0 9 : ff ff 00 05 07 01 00 00 0d",
+        "answer 0 9 : ff ff 00 05 08 01 00 00 0e",
+    ),
+    (
+        "example 2, number FF",
+        "FF FF 00 05 07 FF 55 00 00 0B",
+        "frame 7 255 0 0",
+        "read 0 7",
+        "write 0 10 : ff ff 00 05 07 ff 55 00 00 0b",
+        "answer 0 10 : ff ff 00 05 08 ff 55 00 00 0c",
+    ),
+    (
+        "example 3, sum FF",
+        "FF FF 00 05 07 F3 00 00 FF 55",
+        "frame 7 243 0 0",
+        "read 0 7",
+        "write 0 10 : ff ff 00 05 07 f3 00 00 ff 55",
+        "answer 0 9 : ff ff 00 05 08 f3 00 00 00",
+    ),
+    ("example 3, one byte less", "FF FF 00 05 07 F3 00 00 FF"),
+    (
+        "example 4; 05 is one that only the box sends",
+        "FF FF 00 0E 05 02 00 00 04 05 00 03 00 00 00 FF 55 00 20",
+        "frame 5 2 0 9",
+        "read 0 5 4 1 0 1 3 255 0 0 0",
+        "write 0 19 : ff ff 00 0e 05 02 00 00 04 05 00 03 00 00 00 ff 55 00 20",
+        "answer 0 10 18 2 : ff ff 00 06 12 02 00 00 02 1c",
+    ),
+    ("example 6, length 4", "FF FF 00 04"),
+    ("example 7, length 1025", "FF FF 04 01"),
+    ("example 8", "FF FF FF 55 00"),
+    ("example 9", "FF FF 00 05 07 FF 00"),
+    (
+        "example 10, a wrong sum, gets code 1",
+        "FF FF 00 05 07 01 00 00 0E",
+        "sum 1",
+        "answer 0 10 18 1 : ff ff 00 06 12 01 00 00 01 1a",
+    ),
+    (
+        "the paper's listing",
+        "FF FF FF 00 05 07 01 00 00 0D FF FF 00 05 07 FF FF 00 05 07 F3 00 00 FF 55",
+        "frame 7 1 0 0",
+        "read 0 7",
+        "write 0 9 : ff ff 00 05 07 01 00 00 0d",
+        "answer 0 9 : ff ff 00 05 08 01 00 00 0e",
+        "frame 7 243 0 0",
+        "read 0 7",
+        "write 0 10 : ff ff 00 05 07 f3 00 00 ff 55",
+        "answer 0 9 : ff ff 00 05 08 f3 00 00 00",
+    ),
+    (
+        "flags refuse nothing",
+        "FF FF 00 05 07 01 01 02 10",
+        "frame 7 1 258 0",
+        "read 0 7",
+        "write 0 9 : ff ff 00 05 07 01 01 02 10",
+        "answer 0 9 : ff ff 00 05 08 01 00 00 0e",
+    ),
+    (
+        "01 asks the caller for device information",
+        "FF FF 00 05 01 03 00 00 09",
+        "frame 1 3 0 0",
+        "read 0 1",
+        "write 0 9 : ff ff 00 05 01 03 00 00 09",
+        "answer 0 0 2 3",
+    ),
+    (
+        "03 read asks the caller for status",
+        "FF FF 00 06 03 04 00 00 02 0F",
+        "frame 3 4 0 1",
+        "read 0 3 2",
+        "write 0 10 : ff ff 00 06 03 04 00 00 02 0f",
+        "answer 0 0 4 4",
+    ),
+    (
+        "control: mode 3 and lamp are ignored where their flags are 0, and written as 0",
+        "FF FF 00 0A 03 06 00 00 01 04 07 02 01 22",
+        "frame 3 6 0 5",
+        "read 0 3 1 0 0 1 0 0 513",
+        "write 0 14 : ff ff 00 0a 03 06 00 00 01 04 00 02 01 1b",
+        "answer 0 9 : ff ff 00 05 04 06 00 00 0f",
+    ),
+    (
+        "control: mode 3 is FIELD where its flag is set",
+        "FF FF 00 0A 03 06 00 00 01 06 07 02 01 24",
+        "frame 3 6 0 5",
+        "read 33",
+        "answer 0 10 18 3 : ff ff 00 06 12 06 00 00 03 21",
+    ),
+    (
+        "control: one of the other bits is FIELD, flag or not",
+        "FF FF 00 0A 03 06 00 00 01 00 08 00 00 1C",
+        "frame 3 6 0 5",
+        "read 33",
+        "answer 0 10 18 3 : ff ff 00 06 12 06 00 00 03 21",
+    ),
+    (
+        "03: another first byte is FIELD",
+        "FF FF 00 06 03 06 00 00 03 12",
+        "frame 3 6 0 1",
+        "read 33",
+        "answer 0 10 18 3 : ff ff 00 06 12 06 00 00 03 21",
+    ),
+    (
+        "03 read with a byte behind it is SIZE",
+        "FF FF 00 07 03 06 00 00 02 00 12",
+        "frame 3 6 0 2",
+        "read 32",
+        "answer 0 10 18 3 : ff ff 00 06 12 06 00 00 03 21",
+    ),
+    (
+        "a command not listed is COMMAND and gets code 2",
+        "FF FF 00 06 21 07 00 00 00 2E",
+        "frame 33 7 0 1",
+        "read 31",
+        "answer 0 10 18 2 : ff ff 00 06 12 07 00 00 02 21",
+    ),
+    (
+        "09 with way 3 is FIELD, but only the box sends it, so code 2",
+        "FF FF 00 06 09 08 00 00 03 1A",
+        "frame 9 8 0 1",
+        "read 33",
+        "answer 0 10 18 2 : ff ff 00 06 12 08 00 00 02 22",
+    ),
+    (
+        "a heartbeat with a payload is SIZE and gets code 3",
+        "FF FF 00 06 07 0A 00 00 00 17",
+        "frame 7 10 0 1",
+        "read 32",
+        "answer 0 10 18 3 : ff ff 00 06 12 0a 00 00 03 25",
+    ),
+    (
+        "0D: the reserved bits are ignored",
+        "FF FF 00 07 0D 0B 00 00 FF 55 FF 55 1D",
+        "frame 13 11 0 2",
+        "read 0 13 1 1 1 1 1 1 7 1 1",
+        "write 0 11 : ff ff 00 07 0d 0b 00 00 1f 3f 7d",
+        "answer 0 9 : ff ff 00 05 0e 0b 00 00 1e",
+    ),
+    (
+        "11 with code 4, the last allowed, gets no answer",
+        "FF FF 00 06 11 0E 00 00 04 29",
+        "frame 17 14 0 1",
+        "read 0 17 4",
+        "write 0 10 : ff ff 00 06 11 0e 00 00 04 29",
+        "answer 0",
+    ),
+    (
+        "18 with the seconds since 1970",
+        "FF FF 00 10 18 02 00 00 07 DF 07 01 0C 1E 2D 55 93 DE ED 22",
+        "frame 24 2 0 11",
+        "read 0 24 2015 7 1 12 30 45 1435754221",
+        "write 0 20 : ff ff 00 10 18 02 00 00 07 df 07 01 0c 1e 2d 55 93 de ed 22",
+        "answer 0",
+    ),
+    (
+        "19 with a check code of 2 bytes",
+        "FF FF 00 0D 19 0C 00 00 00 00 04 00 00 02 61 62 FB",
+        "frame 25 12 0 8",
+        "read 0 25 1024",
+        "part 6 : 61 62",
+        "write 0 17 : ff ff 00 0d 19 0c 00 00 00 00 04 00 00 02 61 62 fb",
+        "answer 0",
+    ),
+    (
+        "19 with a byte more than its n",
+        "FF FF 00 0D 19 0C 00 00 00 00 04 00 00 01 61 62 FA",
+        "frame 25 12 0 8",
+        "read 32",
+        "answer 0 10 18 3 : ff ff 00 06 12 0c 00 00 03 27",
+    ),
+    (
+        "1B with a check code of 1 byte and pieces of 128",
+        "FF FF 00 0A 1B 0D 00 00 00 01 61 00 80 14",
+        "frame 27 13 0 5",
+        "read 0 27 128",
+        "part 6 : 61",
+        "write 0 14 : ff ff 00 0a 1b 0d 00 00 00 01 61 00 80 14",
+        "answer 0 10 18 2 : ff ff 00 06 12 0d 00 00 02 27",
+    ),
+    (
+        "1D, piece 1 of 2 with the data FF 55",
+        "FF FF 00 0B 1D 05 00 00 00 01 00 02 FF 55 55 84",
+        "frame 29 5 0 6",
+        "read 0 29 1 2",
+        "part 7 : ff 55",
+        "write 0 16 : ff ff 00 0b 1d 05 00 00 00 01 00 02 ff 55 55 84",
+        "answer 0",
+    ),
+]
+
+# What the tail of model.py has to print: the first line is example 4, the last two lines of writes are example 12.
+STATED_TAIL = """\
+write 0 19 : ff ff 00 0e 05 02 00 00 04 05 00 03 00 00 00 ff 55 00 20 : ff ff 00
+write 33 : aa aa aa
+write 33 : aa aa aa
+write 0 14 : ff ff 00 0a 03 02 00 00 01 02 04 00 00 16 : ff ff 00
+write 33 : aa aa aa
+write 0 14 : ff ff 00 0a 03 02 00 00 01 00 00 00 00 10 : ff ff 00
+write 0 11 : ff ff 00 07 0d 02 00 00 0f 15 3a : ff ff 00
+write 33 : aa aa aa
+write 33 : aa aa aa
+write 33 : aa aa aa
+write 33 : aa aa aa
+write 33 : aa aa aa
+write 31 : aa aa aa
+write 31 : aa aa aa
+write 32 : aa aa aa
+write 0 9 : ff ff 00 05 04 02 00 00 0b : ff ff 00
+write 32 : aa aa aa
+write 32 : aa aa aa
+write 32 : aa aa aa
+write 32 : aa aa aa
+write 22 0 : aa aa aa
+write 0 19 : ff ff 00 0e 05 02 00 00 04 05 00 03 00 00 00 ff 55 00 20 : ff ff 00
+write 33 : aa aa aa
+write 21 0 : aa aa aa
+write 22 0 : aa aa aa
+answer 22 0 : aa aa aa
+answer 0 9 : ff ff 00 05 08 09 00 00 16
+names 0 1 2 1 2 1 2 3 4
+"""
+
+KINDS = pathlib.Path(__file__).resolve().parent / "kinds.hex"
+
+
+def stated():
+    """Of each of them the name, the script and the text."""
+    for name, stream, *lines in STATED:
+        yield name, streamed(bytes.fromhex(stream)), "fresh\n" + model.in_lines(lines)
+    yield "values, sizes, rooms and names that no stream has", b"".join(record for record, _ in model.tail()), STATED_TAIL
+
+
+def kinds():
+    """The script and the text of a stream with each kind of message."""
+    stream = bytes.fromhex(KINDS.read_text(encoding="ascii"))
+    return streamed(stream), "fresh\n" + model.text(stream)
+
+
+def parts():
+    return [*((script, text) for _, script, text in stated()), kinds()]
+
+
+if __name__ == "__main__":
+    print_part(lambda: b"".join(script for script, _ in parts()), lambda: "".join(text for _, text in parts()))
