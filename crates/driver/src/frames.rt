@@ -6,6 +6,7 @@ use frame::Ending;
 use frame::Phase;
 use frame::Reader;
 use frame::Scan;
+use frame::Verdict;
 use frame::WirePlace;
 use frame::Written;
 
@@ -32,15 +33,27 @@ fn decided(number: u64, count: usize, start: WirePlace, end: WirePlace) -> Row {
     }
 }
 
+// A verdict's number in paper 01's table.
+fn code_of(v: Verdict) -> u64 {
+    match v {
+        Verdict::Frame => 1,
+        Verdict::Short => 11,
+        Verdict::Long => 12,
+        Verdict::Stuff => 13,
+        Verdict::Cut => 14,
+        Verdict::Sum => 15,
+    }
+}
+
 pub(crate) fn row_of(a: Answer) -> Row {
     match a {
         Answer::More { count } => decided(0, count, WirePlace(0), WirePlace(0)),
-        Answer::Frame { count, start, end } => decided(1, count, start, end),
-        Answer::Short { count, start, end } => decided(11, count, start, end),
-        Answer::Long { count, start, end } => decided(12, count, start, end),
-        Answer::Stuff { count, start, end } => decided(13, count, start, end),
-        Answer::Cut { count, start, end } => decided(14, count, start, end),
-        Answer::Sum { count, start, end } => decided(15, count, start, end),
+        Answer::Decided {
+            count,
+            start,
+            end,
+            verdict,
+        } => decided(code_of(verdict), count, start, end),
         Answer::State => decided(17, 0, WirePlace(0), WirePlace(0)),
         Answer::Used => decided(18, 0, WirePlace(0), WirePlace(0)),
     }

@@ -10,8 +10,9 @@ use lib.Dec.{eqb}
 use Rattle.frame.specs.Wire.{frameLimit, commandOf, numberOf, flagsOf, payloadOf}
 use Rattle.frame.specs.Frames.{frontBody}
 use Rattle.base.specs.Rows.{Row, row}
-use Rattle.frame.specs.Calls.{Reply, zeros, freshOf, feedOf, writeOf}
-use Rattle.base.specs.Outcomes.{Write}
+use Rattle.frame.specs.State.{State}
+use Rattle.frame.specs.Calls.{zeros, freshOf, feedOf, writeOf}
+use Rattle.base.specs.Outcomes.{Reply, Write}
 use Rattle.message.specs.Reading.{readOf}
 use Rattle.message.specs.Writing.{sendOf}
 use Rattle.message.specs.declared.values.Message.{Message}
@@ -49,10 +50,10 @@ pub data Answer : Type 0 where
   due : (yes : Bool) → Answer
 
 -- the reader's answer; FRAME is 1 and SUM 15
-abbrev pub readerAnswer : Reply → Answer
+abbrev pub readerAnswer : Reply State → Answer
 readerAnswer a =
     cond (eqb (a .row .number) 1 || eqb (a .row .number) 15)
-    (held (a .row) (frontBody (a .reader .body)) (commandOf (a .reader .body)) (numberOf (a .reader .body)) (flagsOf (a .reader .body)) (payloadOf (a .reader .body)))
+    (held (a .row) (frontBody (a .state .body)) (commandOf (a .state .body)) (numberOf (a .state .body)) (flagsOf (a .state .body)) (payloadOf (a .state .body)))
     (said (a .row))
 
 -- a writer's
@@ -61,8 +62,8 @@ writerAnswer w = output (w .row) (w .out)
 
 -- each question's
 abbrev pub answerTo : Question → Answer
-answerTo (bytesGiven bytes) = readerAnswer (feedOf 1024 (freshOf 1024) bytes)
-answerTo (frameWritten command number flags payload out) = writerAnswer (writeOf 1024 command number flags payload out)
+answerTo (bytesGiven bytes) = readerAnswer (feedOf frameLimit (freshOf frameLimit) bytes)
+answerTo (frameWritten command number flags payload out) = writerAnswer (writeOf frameLimit command number flags payload out)
 answerTo (messageWritten m number flags lent out) = writerAnswer (sendOf frameLimit m number flags lent out)
 answerTo (messageRead command payload) = said (readOf command payload)
 answerTo (timeElapsed clock since) = milliseconds (elapsedOf clock since)
