@@ -2,7 +2,7 @@
 use mathlib.Core.Path.{_≡_, sym, ap, _∙_}
 use borrow.Author.Needs.{needs}
 use Rattle.base.specs.Outcomes.{Write}
-use Rattle.message.specs.Commands.{kindIn}
+use Rattle.message.specs.Commands.{table, lineIn}
 use Rattle.frame.specs.Wire.{frameLimit}
 use Rattle.base.specs.Keys.{among}
 use Rattle.message.specs.Writing.{sendOf}
@@ -20,7 +20,7 @@ module _ (s : tie.Start) where
   arm told e = e ∙ ap sends (sym told)
 
 pub write-information-spec : {M : Type 1} → statement M
-unfolding kindIn among
+unfolding table lineIn among
 write-information-spec =
     tie.close
     (tie.spec
