@@ -5,28 +5,29 @@ use frame::Answer;
 use frame::Reader;
 use message::Extra;
 use message::Message;
-use message::Part;
+use message::Parts;
+use message::Place;
 use message::Reading;
 
-fn part(which: Part, place: u64, command: u8, payload: &[u8]) {
-    let bytes = message::part_of(which, command, payload);
+fn part(at: u64, place: Place, payload: &[u8]) {
+    let bytes = message::part(payload, place);
     if 0 < bytes.len() {
         print::text(b"part");
-        print::number(place);
+        print::number(at);
         print::list(bytes);
         print::text(b"\n");
     }
 }
 
-fn parts(command: u8, payload: &[u8]) {
-    part(Part::SerialVersion, 0, command, payload);
-    part(Part::ProtocolVersion, 1, command, payload);
-    part(Part::HardwareVersion, 2, command, payload);
-    part(Part::SoftwareVersion, 3, command, payload);
-    part(Part::ProductKey, 4, command, payload);
-    part(Part::Secret, 5, command, payload);
-    part(Part::CheckCode, 6, command, payload);
-    part(Part::Data, 7, command, payload);
+fn parts(p: Parts, payload: &[u8]) {
+    part(0, p.serial, payload);
+    part(1, p.protocol, payload);
+    part(2, p.hardware, payload);
+    part(3, p.software, payload);
+    part(4, p.key, payload);
+    part(5, p.secret, payload);
+    part(6, p.code, payload);
+    part(7, p.piece, payload);
 }
 
 fn sent(m: Message, lent: &[u8], number: u8, flags: u16) {
@@ -56,47 +57,28 @@ fn join(front: &[u8], back: &[u8], out: &mut [u8]) {
 }
 
 // The texts and the key, which lie together, and the secret where there is one: it lies apart, and is lent behind them.
-fn information(m: Message, extra: Extra, payload: &[u8], number: u8, flags: u16) {
+fn information(m: Message, extra: Extra, secret: Place, payload: &[u8], number: u8, flags: u16) {
     let texts = print::first(payload, 64);
     match extra {
         Extra::Absent => sent(m, texts, number, flags),
         Extra::Attributes { .. } => sent(m, texts, number, flags),
         Extra::AttributesAndSecret { .. } => {
             let mut lent = [0u8; 96];
-            join(texts, message::part_of(Part::Secret, 2, payload), &mut lent);
+            join(texts, message::part(payload, secret), &mut lent);
             sent(m, &lent, number, flags);
         }
     }
 }
 
 // The message that was read, written again.
-fn again(m: Message, command: u8, payload: &[u8], number: u8, flags: u16) {
+fn again(m: Message, p: Parts, payload: &[u8], number: u8, flags: u16) {
     match m {
-        Message::Information { timeout: _, extra } => information(m, extra, payload, number, flags),
-        Message::Announcement { .. } => {
-            sent(
-                m,
-                message::part_of(Part::CheckCode, command, payload),
-                number,
-                flags,
-            )
+        Message::Information { timeout: _, extra } => {
+            information(m, extra, p.secret, payload, number, flags)
         }
-        Message::Ready { .. } => {
-            sent(
-                m,
-                message::part_of(Part::CheckCode, command, payload),
-                number,
-                flags,
-            )
-        }
-        Message::Piece { .. } => {
-            sent(
-                m,
-                message::part_of(Part::Data, command, payload),
-                number,
-                flags,
-            )
-        }
+        Message::Announcement { .. } => sent(m, message::part(payload, p.code), number, flags),
+        Message::Ready { .. } => sent(m, message::part(payload, p.code), number, flags),
+        Message::Piece { .. } => sent(m, message::part(payload, p.piece), number, flags),
         _ => sent(m, &payload[..0], number, flags),
     }
 }
@@ -114,9 +96,12 @@ fn received(body: &[u8]) {
     print::text(b"\n");
     let r = message::read(command, payload);
     show::reading(r);
-    parts(command, payload);
-    if let Reading::Got { message: m } = r {
-        again(m, command, payload, number, flags);
+    if let Reading::Got {
+        message: m,
+        parts: p,
+    } = r {
+        parts(p, payload);
+        again(m, p, payload, number, flags);
     }
 }
 

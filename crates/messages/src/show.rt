@@ -121,7 +121,7 @@ fn values(m: Message) {
 
 pub(crate) fn reading(r: Reading) {
     match r {
-        Reading::Got { message: m } => {
+        Reading::Got { message: m, .. } => {
             print::text(b"read 0");
             values(m);
         }
