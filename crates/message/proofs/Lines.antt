@@ -41,32 +41,8 @@ none-of ks e c h =
 
 -- ---- the kinds
 
--- of a kind that one command has, that command; of another, the command that is given
-abbrev pub soleOf : Kind → ℕ → ℕ
-soleOf kind.Unlisted c = c
-soleOf kind.Empty c = c
-soleOf kind.Information c = 0x02
-soleOf kind.Action c = 0x03
-soleOf kind.Status c = 0x04
-soleOf kind.Report c = 0x05
-soleOf kind.Onboarding c = 0x09
-soleOf kind.Network c = 0x0D
-soleOf kind.ModuleReject c = 0x11
-soleOf kind.BoxReject c = 0x12
-soleOf kind.Time c = 0x18
-soleOf kind.Announcement c = 0x19
-soleOf kind.Ready c = 0x1B
-soleOf kind.Piece c = 0x1D
-
--- of a kind that one command has, the command is that one
-pub only : (c : ℕ) (k : Kind) (n : ℕ) → soleOf k c ≡ n → kindOf c ≡ k → c ≡ n
-unfolding among table lineIn
-only c k n e f =
-    let sole : soleOf (kindOf c) c ≡ c = every (λ c. soleOf (kindOf c) c) (λ c. c) refl (λ c none _. ap (λ (l : Line). soleOf (l .kind) c) none) c in
-    sym sole ∙ ap (λ (k : Kind). soleOf k c) f ∙ e
-
 -- what holds of each kind, in the enum's order, holds of all
-pub by-kind :
+abbrev pub by-kind :
     (P : Kind → Type 0) → P kind.Unlisted → P kind.Empty → P kind.Information → P kind.Action → P kind.Status → P kind.Report
     → P kind.Onboarding → P kind.Network → P kind.ModuleReject → P kind.BoxReject → P kind.Time → P kind.Announcement
     → P kind.Ready → P kind.Piece → (k : Kind) → P k
@@ -84,6 +60,17 @@ by-kind P u e i a s r o n m b t c y d kind.Time = t
 by-kind P u e i a s r o n m b t c y d kind.Announcement = c
 by-kind P u e i a s r o n m b t c y d kind.Ready = y
 by-kind P u e i a s r o n m b t c y d kind.Piece = d
+
+-- of a kind that one command has, that command; of another, the command that is given
+abbrev pub soleOf : Kind → ℕ → ℕ
+soleOf k c = by-kind (λ _. ℕ) c c 0x02 0x03 0x04 0x05 0x09 0x0D 0x11 0x12 0x18 0x19 0x1B 0x1D k
+
+-- of a kind that one command has, the command is that one
+pub only : (c : ℕ) (k : Kind) (n : ℕ) → soleOf k c ≡ n → kindOf c ≡ k → c ≡ n
+unfolding among table lineIn
+only c k n e f =
+    let sole : soleOf (kindOf c) c ≡ c = every (λ c. soleOf (kindOf c) c) (λ c. c) refl (λ c none _. ap (λ (l : Line). soleOf (l .kind) c) none) c in
+    sym sole ∙ ap (λ (k : Kind). soleOf k c) f ∙ e
 
 -- ---- the claims
 

@@ -11,13 +11,14 @@ use Rattle.base.specs.Rows.{Row, row}
 use Rattle.base.specs.Outcomes.{Write, outcome}
 use Rattle.frame.specs.Wire.{frameLimit}
 use Rattle.frame.specs.Calls.{writeOf}
-use Rattle.message.specs.Commands.{kindOf, isListed, sizeFits}
+use Rattle.message.specs.Commands.{table, lineIn, kindOf, isListed, sizeFits}
 use Rattle.message.specs.Parts.{noParts}
 use Rattle.message.specs.Reading.{Read, got, refusal, decodeOf}
-use Rattle.message.specs.Writing.{sendAs, sendOf, informationBytes, timeBytes, unixBytes}
+use Rattle.message.specs.Writing.{sendAs, sendOf, informationBytes, informationNumbers, informationLent, timeBytes, unixBytes}
 use Rattle.message.specs.declared.parts.Parts.{Parts}
 use Rattle.message.specs.declared.values.Message.{Message}
 use Rattle.message.specs.declared.values.Message.the-variants as message
+use Rattle.message.specs.declared.values.Extra.{Extra}
 use Rattle.message.specs.declared.values.Unix.{Unix}
 use Rattle.message.specs.declared.values.Time.{Time}
 use Rattle.message.proofs.Tests.{and-true, and-false}
@@ -83,9 +84,20 @@ pub joined : {a b r s : List ℕ} → a ≡ b → r ≡ s → a ++ r ≡ b ++ s
 joined p q = rw (p, q)
 
 -- numbers between the lent texts and key and the rest that is lent
-pub between : (numbers lent : List ℕ) {others : List ℕ} → numbers ≡ others
-    → take 64 lent ++ (numbers ++ take (length lent - 64) (drop 64 lent)) ≡ informationBytes others lent
-between numbers lent e = rw (e, take-all (length lent - 64) (drop 64 lent) (omega (arith, length-drop 64 lent)))
+pub between : (numbers lent : List ℕ)
+    → take 64 lent ++ (numbers ++ take (length lent - 64) (drop 64 lent)) ≡ informationBytes numbers lent
+between numbers lent = rw (take-all (length lent - 64) (drop 64 lent) (omega (arith, length-drop 64 lent)))
+
+-- information by what it has beside timeout, texts and key
+pub informed :
+    (timeout number flags : ℕ) (lent out : List ℕ) (more : Extra) {told : Extra} {numbers : List ℕ} {w : Write} → told ≡ more
+    → numbers ≡ informationNumbers timeout more
+    → w ≡ sendAs frameLimit true (eqb (length lent) (informationLent more)) true 2 number flags (informationBytes numbers lent) out
+    → w ≡ sendOf frameLimit (message.Information timeout told) number flags lent out
+unfolding table lineIn
+informed timeout number flags lent out more e p f =
+    f ∙ ap (λ (n : List ℕ). sendAs frameLimit true (eqb (length lent) (informationLent more)) true 2 number flags (informationBytes n lent) out) p
+    ∙ ap (λ (x : Extra). sendOf frameLimit (message.Information timeout x) number flags lent out) (sym e)
 
 -- a time's bytes, by what it has behind the second
 pub dated : (time : Time) {u : Unix} → time .unix ≡ u → timeBytes time (unixBytes u) ≡ timeBytes time (unixBytes (time .unix))

@@ -105,38 +105,17 @@ back (message.Time time) lent w = time-back (time .unix)
     time-back unix.Absent = plain refl refl refl refl (all-same _ _ (omega arith))
     time-back (unix.Seconds seconds) = plain refl refl refl refl (all-same _ _ (omega arith))
 back (message.Announcement size) lent w =
-    record {
-      values =
-          record {
-            listed = refl;
-            sized = counted-size (payloadIn (message.Announcement size) lent) 4 0 (omega arith);
-            allows = refl;
-            values = all-same _ _ (omega arith);
-          };
-      parts = ap (λ (l : List ℕ). alone l []) (rw (two-back (length lent)) (take-length lent));
-    }
+    plain refl (counted-size (payloadIn (message.Announcement size) lent) 4 0 (omega arith))
+    (ap (λ (l : List ℕ). alone l []) (rw (two-back (length lent)) (take-length lent))) refl (all-same _ _ (omega arith))
 back (message.Ready size) lent w =
-    record {
-      values =
-          record {
-            listed = refl;
-            sized = counted-size (payloadIn (message.Ready size) lent) 0 2 (omega (arith, length-append lent (two size [])));
-            allows = refl;
-            values = rw (two-back (length lent), two-behind (two (length lent) lent) {k = 2 + length lent} (omega arith) size []);
-          };
-      parts = ap (λ (l : List ℕ). alone l []) (take-at lent (two size []) _ (sym (two-back (length lent))));
-    }
+    plain refl
+    (counted-size (payloadIn (message.Ready size) lent) 0 2 (omega (arith, length-append lent (two size []))))
+    (ap (λ (l : List ℕ). alone l []) (take-at lent (two size []) _ (sym (two-back (length lent))))) refl
+    (rw (two-back (length lent), two-behind (two (length lent) lent) {k = 2 + length lent} (omega arith) size []))
 back (message.Piece index total) lent w =
-    record {
-      values =
-          record {
-            listed = refl;
-            sized = least-size (payloadIn (message.Piece index total) lent) 4 (omega arith);
-            allows = refl;
-            values = all-same _ _ (omega arith);
-          };
-      parts = ap (alone []) (take-all (length (payloadIn (message.Piece index total) lent) - 4) lent (omega arith));
-    }
+    plain refl (least-size (payloadIn (message.Piece index total) lent) 4 (omega arith))
+    (ap (alone []) (take-all (length (payloadIn (message.Piece index total) lent) - 4) lent (omega arith))) refl
+    (all-same _ _ (omega arith))
 
 pub written-read : WrittenRead
 written-read m lent w = read-back m lent (back m lent w)

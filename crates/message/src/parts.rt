@@ -1,6 +1,6 @@
 // The parts of a message that are no values: texts, key, secret, check code and data. Reading tells their places; they are handed out where they lie.
 ghost use mathlib.Core.Path.{_≡_};
-ghost use Rattle.message.specs.Parts.{textsAnd, noTexts, noParts, PartAt};
+ghost use Rattle.message.specs.Parts.{place, textsAnd, noTexts, noParts, PartAt};
 
 // Where a part lies: its first byte in the payload, and how many it has; both are 0 where the message has no such part.
 pub struct Place {
@@ -20,9 +20,9 @@ pub struct Parts {
     pub piece: Place,
 }
 
-// Of the device's information.
-pub(crate) fn texts_and(secret: Place) -> Parts
-    ensures { λ r. ⌜ r ≡ textsAnd secret ⌝ }
+// Of the device's information: texts and key, and the secret's place.
+pub(crate) fn texts_and(start: usize, size: usize) -> Parts
+    ensures { λ r. ⌜ r ≡ textsAnd (place start size) ⌝ }
 {
     let nowhere = Place { start: 0, size: 0 };
     Parts {
@@ -34,15 +34,15 @@ pub(crate) fn texts_and(secret: Place) -> Parts
             start: 32,
             size: 32,
         },
-        secret,
+        secret: Place { start, size },
         code: nowhere,
         piece: nowhere,
     }
 }
 
-// Of any other message.
-pub(crate) fn no_texts(code: Place, piece: Place) -> Parts
-    ensures { λ r. ⌜ r ≡ noTexts code piece ⌝ }
+// Of any other message: the places of a check code and of data.
+pub(crate) fn no_texts(code: usize, count: usize, piece: usize, size: usize) -> Parts
+    ensures { λ r. ⌜ r ≡ noTexts (place code count) (place piece size) ⌝ }
 {
     let nowhere = Place { start: 0, size: 0 };
     Parts {
@@ -52,8 +52,14 @@ pub(crate) fn no_texts(code: Place, piece: Place) -> Parts
         software: nowhere,
         key: nowhere,
         secret: nowhere,
-        code,
-        piece,
+        code: Place {
+            start: code,
+            size: count,
+        },
+        piece: Place {
+            start: piece,
+            size: size,
+        },
     }
 }
 
@@ -61,8 +67,7 @@ pub(crate) fn no_texts(code: Place, piece: Place) -> Parts
 pub(crate) fn no_parts() -> Parts
     ensures { λ r. ⌜ r ≡ noParts ⌝ }
 {
-    let nowhere = Place { start: 0, size: 0 };
-    no_texts(nowhere, nowhere)
+    no_texts(0, 0, 0, 0)
 }
 
 // The part of the lent payload at a place, as far as the payload goes.

@@ -8,7 +8,6 @@ use super::counter::status_of;
 use super::kind::Kind;
 use super::kind::line_of;
 use super::parts::Parts;
-use super::parts::Place;
 use super::parts::no_parts;
 use super::parts::no_texts;
 use super::parts::texts_and;
@@ -61,14 +60,13 @@ fn read_information(payload: &[u8]) -> Reading
 {
     let size = payload.len();
     let timeout = base::two_at(payload, 64);
-    let nowhere = Place { start: 0, size: 0 };
     if size == 66 {
         return Reading::Got {
             message: Message::Information {
                 timeout,
                 extra: Extra::Absent,
             },
-            parts: texts_and(nowhere),
+            parts: texts_and(0, 0),
         };
     }
     let attributes = eight_at(payload, 66);
@@ -78,7 +76,7 @@ fn read_information(payload: &[u8]) -> Reading
                 timeout,
                 extra: Extra::Attributes { attributes },
             },
-            parts: texts_and(nowhere),
+            parts: texts_and(0, 0),
         };
     }
     if size == 106 {
@@ -87,10 +85,7 @@ fn read_information(payload: &[u8]) -> Reading
                 timeout,
                 extra: Extra::AttributesAndSecret { attributes },
             },
-            parts: texts_and(Place {
-                start: 74,
-                size: 32,
-            }),
+            parts: texts_and(74, 32),
         };
     }
     Reading::Size
@@ -262,16 +257,11 @@ fn read_announcement(payload: &[u8]) -> Reading
 {
     let size = base::four_at(payload, 0);
     let count = base::two_at(payload, 4) as usize;
-    let code = Place {
-        start: 6,
-        size: count,
-    };
-    let nowhere = Place { start: 0, size: 0 };
     judged_with(
         payload.len() == 6 + count,
         true,
         Message::Announcement { size },
-        no_texts(code, nowhere),
+        no_texts(6, count, 0, 0),
     )
 }
 
@@ -281,16 +271,11 @@ fn read_ready(payload: &[u8]) -> Reading
 {
     let count = base::two_at(payload, 0) as usize;
     let piece = base::two_at(payload, 2 + count);
-    let code = Place {
-        start: 2,
-        size: count,
-    };
-    let nowhere = Place { start: 0, size: 0 };
     judged_with(
         payload.len() == 4 + count,
         true,
         Message::Ready { piece },
-        no_texts(code, nowhere),
+        no_texts(2, count, 0, 0),
     )
 }
 
@@ -304,14 +289,9 @@ fn read_piece(payload: &[u8]) -> Reading
     }
     let index = base::two_at(payload, 0);
     let total = base::two_at(payload, 2);
-    let nowhere = Place { start: 0, size: 0 };
-    let data = Place {
-        start: 4,
-        size: size - 4,
-    };
     Reading::Got {
         message: Message::Piece { index, total },
-        parts: no_texts(nowhere, data),
+        parts: no_texts(0, 0, 4, size - 4),
     }
 }
 

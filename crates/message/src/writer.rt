@@ -100,18 +100,6 @@ fn write_empty(command: u8, lent: &[u8], number: u8, flags: u16, out: &mut [u8])
     }
 }
 
-// Information without attributes, between the lent texts and key.
-fn write_short(timeout: u16, lent: &[u8], number: u8, flags: u16, out: &mut [u8]) -> Sent
-    ensures { λ r. ⌜ outcome (sentRowOf r) (now (out .exit))
-        ≡ sendOf frameLimit (message.Information timeout extra.Absent) number flags (now (lent .entry)) (now (out .entry)) ⌝ }
-{
-    if lent.len() != 64 {
-        return Sent::Size;
-    }
-    let numbers = base::two_bytes(timeout);
-    passed_on(frame::write_parts(0x02, number, flags, &lent[..64], &numbers, &lent[64..], out))
-}
-
 // Timeout and attributes.
 fn attribute_bytes(timeout: u16, attributes: u64) -> [u8; 10]
     ensures { λ r. ⌜ r ≡ two timeout (eight attributes []) ⌝ }
@@ -132,11 +120,10 @@ fn attribute_bytes(timeout: u16, attributes: u64) -> [u8; 10]
     ]
 }
 
-// Information with attributes, between the lent texts and key and what else is lent.
-fn write_long(
+// Information: its numbers between the lent texts and key and what else is lent.
+fn write_between(
     size: usize,
-    timeout: u16,
-    attributes: u64,
+    numbers: &[u8],
     lent: &[u8],
     number: u8,
     flags: u16,
@@ -144,13 +131,13 @@ fn write_long(
 ) -> Sent
     requires { ⌜ 64 ≤ size ⌝ }
     ensures { λ r. ⌜ outcome (sentRowOf r) (now (out .exit))
-        ≡ sendAs frameLimit true (eqb (length (now (lent .entry))) size) true 2 number flags (informationBytes (two timeout (eight attributes [])) (now (lent .entry))) (now (out .entry)) ⌝ }
+        ≡ sendAs frameLimit true (eqb (length (now (lent .entry))) size) true 2 number flags
+        (informationBytes (now (numbers .entry)) (now (lent .entry))) (now (out .entry)) ⌝ }
 {
     if lent.len() != size {
         return Sent::Size;
     }
-    let numbers = attribute_bytes(timeout, attributes);
-    passed_on(frame::write_parts(0x02, number, flags, &lent[..64], &numbers, &lent[64..], out))
+    passed_on(frame::write_parts(0x02, number, flags, &lent[..64], numbers, &lent[64..], out))
 }
 
 // Information in one of its three sizes.
@@ -166,12 +153,17 @@ fn write_information(
         ≡ sendOf frameLimit (message.Information timeout extra) number flags (now (lent .entry)) (now (out .entry)) ⌝ }
 {
     match extra {
-        Extra::Absent => write_short(timeout, lent, number, flags, out),
+        Extra::Absent => {
+            let numbers = base::two_bytes(timeout);
+            write_between(64, &numbers, lent, number, flags, out)
+        }
         Extra::Attributes { attributes } => {
-            write_long(64, timeout, attributes, lent, number, flags, out)
+            let numbers = attribute_bytes(timeout, attributes);
+            write_between(64, &numbers, lent, number, flags, out)
         }
         Extra::AttributesAndSecret { attributes } => {
-            write_long(96, timeout, attributes, lent, number, flags, out)
+            let numbers = attribute_bytes(timeout, attributes);
+            write_between(96, &numbers, lent, number, flags, out)
         }
     }
 }
@@ -203,14 +195,6 @@ fn write_byte(
 {
     let bytes = [byte];
     write_bare(command, &bytes, allowed, lent, number, flags, out)
-}
-
-// The counter asked for its status.
-fn write_query(lent: &[u8], number: u8, flags: u16, out: &mut [u8]) -> Sent
-    ensures { λ r. ⌜ outcome (sentRowOf r) (now (out .exit))
-        ≡ sendOf frameLimit message.Query number flags (now (lent .entry)) (now (out .entry)) ⌝ }
-{
-    write_byte(0x03, 2, true, lent, number, flags, out)
 }
 
 // A status, under its command and the payload's first byte.
@@ -377,7 +361,7 @@ pub fn write(message: Message, lent: &[u8], number: u8, flags: u16, out: &mut [u
             write_information(timeout, extra, lent, number, flags, out)
         }
         Message::Control { control } => write_control(control, lent, number, flags, out),
-        Message::Query => write_query(lent, number, flags, out),
+        Message::Query => write_byte(0x03, 2, true, lent, number, flags, out),
         Message::Status { status } => write_status(0x04, 3, status, lent, number, flags, out),
         Message::Report { status } => write_status(0x05, 4, status, lent, number, flags, out),
         Message::Onboarding { way } => write_onboarding(way, lent, number, flags, out),
