@@ -1,12 +1,15 @@
 -- What may wait, what only the box sends, and what the module answers:
 -- each list looked up in the tables of the messages. Assumes nothing.
 use Prim.Native.Nat.{_+_}
-use mathlib.Core.Path.{_≡_, refl, sym}
+use mathlib.Core.Path.{_≡_, refl, sym, _∙_}
+use mathlib.Core.List.{_∷_}
 use mathlib.Core.Bool.{Bool, true, false, _&&_, _||_}
 use Rattle.base.specs.Keys.{among}
-use Rattle.message.specs.Commands.{boxCommands, kindIn, kindOf, isListed, fromBox}
+use Rattle.message.specs.Commands.{table, lineIn, kindOf, isListed, fromBox}
+use Rattle.message.specs.Claims.{boxCommands}
+use Rattle.message.proofs.Lines.{paper-lists}
 use Rattle.message.specs.Answers.{dueFor}
-use Rattle.message.specs.declared.replies.Due.the-variants.{Nothing}
+use Rattle.message.specs.declared.kind.Due.the-variants.{Nothing}
 use Rattle.base.proofs.Keys.{agree}
 use Rattle.link.specs.Sending.{waitCommands, mayWait}
 use Rattle.link.specs.Claims.{answersModule, BoxCommands, ModuleAnswers}
@@ -24,21 +27,21 @@ apart true d f = f refl
 apart false d f = refl
 
 pub box-commands : BoxCommands
-unfolding among
+unfolding among table lineIn
 box-commands command =
     record {
       either = joined (fromBox command) (mayWait command) (among command answersModule)
-          (agree (λ c. mayWait c || among c answersModule) (λ _. true) boxCommands command refl)
+          (λ h. agree (λ c. mayWait c || among c answersModule) (λ _. true) boxCommands command refl (sym (paper-lists .from-box command) ∙ h))
           (agree fromBox (λ _. true) waitCommands command refl)
           (agree fromBox (λ _. true) answersModule command refl);
       not-both = apart (mayWait command) _ (agree (λ c. among c answersModule) (λ _. false) waitCommands command refl);
     }
 
 pub module-answers : ModuleAnswers
-unfolding among kindIn
+unfolding among table lineIn
 module-answers command h =
     record {
       listed = agree (λ c. isListed (kindOf (c + 1))) (λ _. true) waitCommands command refl h;
       not-box = agree (λ c. fromBox (c + 1)) (λ _. false) waitCommands command refl h;
-      no-answer = λ payload. agree (λ c. dueFor (c + 1) payload) (λ _. Nothing) waitCommands command refl h;
+      no-answer = λ values. agree (λ c. dueFor ((c + 1) ∷ values)) (λ _. Nothing) waitCommands command refl h;
     }

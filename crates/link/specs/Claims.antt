@@ -9,7 +9,7 @@ use Rattle.base.specs.Rows.{Row, row}
 use Rattle.base.specs.Keys.{among}
 use Rattle.message.specs.Commands.{kindOf, isListed, fromBox}
 use Rattle.message.specs.Answers.{dueFor}
-use Rattle.message.specs.declared.replies.Due.the-variants.{Nothing}
+use Rattle.message.specs.declared.kind.Due.the-variants.{Nothing}
 use Rattle.link.specs.Sending.{firstNumber, mostRepeats, mayWait, numberAt}
 use Rattle.link.specs.Clock.{elapsedOf, isDue}
 use Rattle.link.specs.Table.{nothingRow, againRow, acceptanceRowOf, retryRowOf, arrivalRowOf}
@@ -46,7 +46,7 @@ BoxCommands = (command : ℕ) → BoxCommand command
 pub record ModuleAnswer (command : ℕ) : Type 0 where
   pub listed : isListed (kindOf (command + 1)) ≡ true
   pub not-box : fromBox (command + 1) ≡ false
-  pub no-answer : (payload : List ℕ) → dueFor (command + 1) payload ≡ Nothing
+  pub no-answer : (values : List ℕ) → dueFor ((command + 1) ∷ values) ≡ Nothing
 
 -- of every command that may wait
 abbrev pub ModuleAnswers : Type 0

@@ -1,25 +1,28 @@
 -- The box's answers: the frame writer takes them all, and each is a message that reading accepts. Assumes nothing.
 use Prim.Native.Nat.{ℕ, _+_, _≤_}
-use mathlib.Core.Path.{_≡_, refl, sym, ap, _∙_}
+use mathlib.Core.Path.{_≡_, refl, sym, ap, subst, _∙_}
+use mathlib.Core.Bool.{_&&_}
 use mathlib.Core.List.{List, [], _∷_}
 use native.Mathlib.Omega.{arith}
-use borrow.Author.Tests.{le-ltb, eqb-true, eqb-false}
+use borrow.Author.Tests.{le-ltb, eqb-false}
 use lib.ListN.{length, getD}
 use lib.Dec.{eqb, ltb}
 use Rattle.frame.specs.Wire.{wire, bodyOf, commandOf, numberOf, payloadOf}
 use Rattle.base.specs.Rows.{row}
 use Rattle.base.specs.Outcomes.{Write, outcome}
 use Rattle.frame.specs.Calls.{writeOf}
-use Rattle.base.proofs.Tests.{by-test}
+use Rattle.base.proofs.Tests.{by-test, either-way}
 use Rattle.base.specs.Keys.{among}
-use Rattle.message.specs.Commands.{kindIn, fits, sizeFits, fromBox}
-use Rattle.message.specs.Reading.{readOf}
-use Rattle.message.specs.Answers.{dueForAction, dueFor, dueOf, rejectOf, answerFrameOf}
+use Rattle.message.specs.Commands.{table, lineIn, kindOf, isListed, fits, sizeFits, allowed, valuesOf, fromBox, owedOf}
+use Rattle.message.specs.Reading.{Read, decodeOf}
+use Rattle.message.specs.Answers.{dueAfter, rejectOf, answerFrameOf}
 use Rattle.message.specs.Claims.{BoxSends, AnswersAreRead}
-use Rattle.message.specs.declared.replies.Due.{Due}
-use Rattle.message.specs.declared.replies.Due.the-variants as due
+use Rattle.message.specs.declared.kind.Kind.{Kind}
+use Rattle.message.specs.declared.kind.Due.{Due}
+use Rattle.message.specs.declared.kind.Due.the-variants as due
 use Rattle.message.specs.declared.values.Message.the-variants as message
-use Rattle.base.proofs.Keys.{among-holds}
+use Rattle.base.proofs.Keys.{Each, among-holds}
+use Rattle.message.proofs.Lines.{paper-lists}
 
 -- so short a payload is not too long
 pub short-enough :
@@ -42,37 +45,55 @@ module _ (limit : ℕ) (body out : List ℕ) {w : Write} where
 
 -- ---- what is due is read
 
-abbrev Acknowledges : ℕ → ℕ → Type 0
-Acknowledges command c = (c ≡ command + 1) × BoxSends c [] (message.Empty c)
+abbrev Rejects : ℕ → Type 0
+Rejects code = BoxSends 0x12 (code ∷ []) (message.BoxReject code)
 
-abbrev Read : ℕ → Due → Type 0
-Read command due.Nothing = Unit
-Read command due.AskInformation = Unit
-Read command due.AskStatus = Unit
-Read command (due.Acknowledge c) = Acknowledges command c
-Read command (due.Reject code) = BoxSends 0x12 (code ∷ []) (message.BoxReject code)
+abbrev Answered : ℕ → Due → Type 0
+Answered command due.Nothing = Unit
+Answered command due.AskInformation = Unit
+Answered command due.AskStatus = Unit
+Answered command (due.Acknowledge c) = (c ≡ command + 1) × BoxSends c [] (message.Empty c)
+Answered command (due.Reject code) = Rejects code
 
-module _ (command : ℕ) (p : List ℕ) where
-  action-read : command ≡ 3 → Read command (dueForAction p)
-  unfolding among kindIn fits sizeFits
-  action-read e = by-test (Read command) (eqb (getD p 0 0) 1) (λ _. rw e (refl, (refl, refl))) (λ _. tt)
+abbrev answered : List ℕ
+answered = 0x01 ∷ 0x03 ∷ 0x07 ∷ 0x0D ∷ 0x0F ∷ []
 
-  faultless-read : Read command (dueFor command p)
-  unfolding among kindIn fits sizeFits
-  faultless-read =
-      by-test (Read command) (among command (0x07 ∷ 0x0D ∷ 0x0F ∷ []))
-      (among-holds (λ (c : ℕ). Acknowledges c (c + 1)) command (0x07 ∷ 0x0D ∷ 0x0F ∷ []) ((refl, (refl, refl)), ((refl, (refl, refl)), ((refl, (refl, refl)), tt))))
-      (λ _. by-test (Read command) (eqb command 0x03) (λ e. action-read (eqb-true _ _ e))
-      (λ _. by-test (Read command) (eqb command 0x01) (λ _. tt) (λ _. tt)))
+-- the lines that are owed an answer
+lines-read : Each (λ c. Answered c (owedOf c)) answered
+unfolding table lineIn among fits sizeFits
+lines-read = (tt, ((refl, (refl, refl)), ((refl, (refl, refl)), ((refl, (refl, refl)), ((refl, (refl, refl)), tt)))))
 
-  due-read : Read command (dueOf command p)
-  unfolding among kindIn fits sizeFits
-  due-read =
-      by-test (Read command) (fromBox command) (λ _. (refl, refl))
-      (λ _. by-test (Read command) (eqb (readOf command p .number) 31) (λ _. (refl, refl))
-      (λ _. by-test (Read command) (eqb (readOf command p .number) 0) (λ _. faultless-read) (λ _. (refl, refl))))
+reject-read : Rejects 1 × Rejects 2 × Rejects 3
+unfolding table lineIn among fits sizeFits
+reject-read = ((refl, refl), (refl, refl), (refl, refl))
+
+owed-read : (command : ℕ) → Answered command (owedOf command)
+owed-read command =
+    either-way (among command answered) (among-holds (λ c. Answered c (owedOf c)) command answered lines-read)
+    (λ h. subst (Answered command) (sym (paper-lists .no-answer command h)) tt)
+
+module _ (command : ℕ) where
+  abbrev Due-read : Read → Type 0
+  Due-read r = Answered command (dueAfter command (r .row))
+
+  due-read : (p : List ℕ) → Due-read (decodeOf command p)
+  due-read p =
+      let code-2 = reject-read .1 in
+      let code-3 = reject-read .2 in
+      let k : Kind = kindOf command in
+      by-test Due-read (isListed k)
+      (λ _. by-test Due-read (sizeFits k p)
+      (λ _. by-test Due-read (allowed k p)
+      (λ _. by-test (Answered command) (fromBox command) (λ _. code-2)
+      (λ _. by-test (Answered command) (eqb command 0x03 && eqb (getD (valuesOf k p) 0 0) 2) (λ _. tt) (λ _. owed-read command)))
+      (λ _. by-test (Answered command) (fromBox command) (λ _. code-2) (λ _. code-3)))
+      (λ _. by-test (Answered command) (fromBox command) (λ _. code-2) (λ _. code-3)))
+      (λ _. by-test (Answered command) (fromBox command) (λ _. code-2) (λ _. code-2))
 
 pub answers-are-read : AnswersAreRead
-unfolding among kindIn fits sizeFits
 answers-are-read command p =
-    record { acknowledged = λ c e. rw e at (due-read command p); rejected = λ code e. rw e at (due-read command p); wrong-sum = (refl, refl) }
+    record {
+      acknowledged = λ c e. rw e at (due-read command p);
+      rejected = λ code e. rw e at (due-read command p);
+      wrong-sum = reject-read .0;
+    }

@@ -10,9 +10,8 @@ use lib.ListN.{getD}
 use Rattle.message.specs.Numbers.{num, bit, bits}
 use Rattle.base.specs.Numbers.{twoAt}
 use Rattle.message.specs.Counter.{statusValues, statusAllowed, statusIn, statusBytes, controlValues, controlAllowed, controlIn, controlBytes, modeAllowed}
-use Rattle.message.specs.Table.{networkIn}
-use Rattle.message.specs.Reading.{networkValues}
-use Rattle.message.specs.Writing.{networkBytes}
+use Rattle.message.specs.Commands.{networkValues}
+use Rattle.message.specs.Writing.{networkIn, networkBytes}
 use Rattle.message.specs.Claims.{effectiveControl}
 use Rattle.message.specs.declared.counter.Status.{Status}
 use Rattle.message.specs.declared.counter.Control.{Control}

@@ -1,7 +1,7 @@
 -- Device information is read back from what is written: numbers, between texts and key before them and the secret behind. Assumes nothing.
 use Prim.Native.Nat.{ℕ, _+_, _≤_}
 use mathlib.Core.Path.{_≡_, refl, sym, ap, _∙_}
-use mathlib.Core.Bool.{true, cond}
+use mathlib.Core.Bool.{true, false, cond}
 use mathlib.Core.List.{List, [], _∷_, _++_, append-assoc}
 use native.Mathlib.Omega.{arith}
 use borrow.Author.Tests.{eqb-true, le-leb, lt-leb}
@@ -11,16 +11,13 @@ use lib.Seq.{length-take-le, take-append-le, drop-append-le, drop-at, take-all}
 use Rattle.base.specs.Numbers.{two}
 use Rattle.message.specs.Numbers.{eightAt, eight}
 use Rattle.base.specs.Keys.{among}
-use Rattle.message.specs.Commands.{sizeFits, fits}
-use Rattle.message.specs.Table.{informationIn}
-use Rattle.message.specs.Parts.{spanIn, informationSpan, bytesOf}
-use Rattle.message.specs.Writing.{informationBytes, informationNumbers, informationLent}
-use Rattle.message.specs.Claims.{lentPart}
+use Rattle.message.specs.Commands.{sizeFits, fits, partsIn}
+use Rattle.message.specs.Parts.{place, nowhere, bytesOf, bytesIn}
+use Rattle.message.specs.Writing.{informationIn, informationBytes, informationNumbers, informationLent}
+use Rattle.message.specs.Claims.{lentParts}
 use Rattle.message.specs.declared.kind.Kind.the-variants as kind
 use Rattle.message.specs.declared.values.Extra.{Extra}
 use Rattle.message.specs.declared.values.Extra.the-variants as extra
-use Rattle.message.specs.declared.parts.Part.{Part}
-use Rattle.message.specs.declared.parts.Part.the-variants as part
 use Rattle.base.proofs.Numbers.{two-behind}
 use Rattle.message.proofs.Numbers.{eight-behind}
 use Rattle.message.proofs.Accepted.{Accepted, Back}
@@ -72,26 +69,24 @@ module _ {timeout size : ℕ} {more lent : List ℕ} (s : Shape timeout more len
 
   -- ---- parts
 
-  text : (start count : ℕ) → start + count ≤ 64 → bytesOf (informationSpan 0x02 payload 66 start count) payload ≡ take count (drop start lent)
-  text start count h = rw (payload-length, le-leb 66 size (omega arith)) (in-front lent _ 64 start count h (s .enough))
+  text : (start count : ℕ) → start + count ≤ 64 → bytesOf (place start count) payload ≡ take count (drop start lent)
+  text start count h = in-front lent _ 64 start count h (s .enough)
 
-  no-secret : size ≤ 105 → length lent ≡ 64 → bytesOf (informationSpan 0x02 payload 106 74 32) payload ≡ drop 64 lent
-  no-secret short e = rw (payload-length, lt-leb 106 size (omega arith)) (sym (drop-of-length-le lent {i = 64} (omega arith)))
+  abbrev secret : List ℕ
+  secret = bytesOf (cond (eqb (length payload) 106) (place 74 32) nowhere) payload
 
-  secret-back : size ≡ 106 → length lent ≡ 96 → bytesOf (informationSpan 0x02 payload 106 74 32) payload ≡ drop 64 lent
+  no-secret : eqb size 106 ≡ false → length lent ≡ 64 → secret ≡ drop 64 lent
+  no-secret short e = rw (payload-length, short) (sym (drop-of-length-le lent {i = 64} (omega arith)))
+
+  secret-back : eqb size 106 ≡ true → length lent ≡ 96 → secret ≡ drop 64 lent
   secret-back e n =
-      rw (payload-length, le-leb 106 size (omega arith), ← append-assoc (take 64 lent) (two timeout more) (drop 64 lent))
-      (rw (drop-at (take 64 lent ++ two timeout more) (drop 64 lent) 74 (simp (length-append, front) (omega arith))) (take-all 32 (drop 64 lent) (omega (arith, length-drop 64 lent))))
+      rw (payload-length, e, ← append-assoc (take 64 lent) (two timeout more) (drop 64 lent))
+      (rw (drop-at (take 64 lent ++ two timeout more) (drop 64 lent) 74 (simp (length-append, front) (omega (arith, eqb-true))))
+      (take-all 32 (drop 64 lent) (omega (arith, length-drop 64 lent))))
 
-  parts-back : bytesOf (informationSpan 0x02 payload 106 74 32) payload ≡ drop 64 lent → (which : Part) → bytesOf (spanIn which 0x02 payload) payload ≡ lentPart which 0x02 lent
-  parts-back secret part.SerialVersion = text 0 8 (omega arith)
-  parts-back secret part.ProtocolVersion = text 8 8 (omega arith)
-  parts-back secret part.HardwareVersion = text 16 8 (omega arith)
-  parts-back secret part.SoftwareVersion = text 24 8 (omega arith)
-  parts-back secret part.ProductKey = text 32 32 (omega arith)
-  parts-back secret part.Secret = secret
-  parts-back secret part.CheckCode = refl
-  parts-back secret part.Data = refl
+  parts-back : secret ≡ drop 64 lent → bytesIn (partsIn kind.Information payload) payload ≡ lentParts 0x02 lent
+  parts-back e =
+      cc (text 0 8 (omega arith), text 8 8 (omega arith), text 16 8 (omega arith), text 24 8 (omega arith), text 32 32 (omega arith))
 
 -- ---- each shape
 
@@ -102,11 +97,11 @@ unfolding among
 information-back timeout extra.Absent lent h =
     let n : length lent ≡ 64 = eqb-true _ _ h in
     let s : Shape timeout [] lent 66 = omega arith in
-    record { values = values-back s refl refl; parts = parts-back s (no-secret s (omega arith) n) }
+    record { values = values-back s refl refl; parts = parts-back s (no-secret s refl n) }
 information-back timeout (extra.Attributes attributes) lent h =
     let n : length lent ≡ 64 = eqb-true _ _ h in
     let s : Shape timeout (eight attributes []) lent 74 = omega arith in
-    record { values = values-back s refl (rw (attributes-back s attributes refl)); parts = parts-back s (no-secret s (omega arith) n) }
+    record { values = values-back s refl (rw (attributes-back s attributes refl)); parts = parts-back s (no-secret s refl n) }
 information-back timeout (extra.AttributesAndSecret attributes) lent h =
     let n : length lent ≡ 96 = eqb-true _ _ h in
     let s : Shape timeout (eight attributes []) lent 106 = omega arith in

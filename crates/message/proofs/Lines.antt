@@ -1,34 +1,115 @@
--- The tables of specs/Commands.antt looked up: what a command's line says of the command, and what the code's tests of a command say of its line.
-use Prim.Native.Nat.{ℕ}
-use mathlib.Core.Path.{_≡_, refl, sym}
-use mathlib.Core.Bool.{true, false, true≢false}
-use mathlib.Core.List.{List, [], _∷_}
-use borrow.Author.Tests.{eqb-true}
+-- The table of specs/Commands.antt looked up: what holds of each of its commands and off the table holds of every command. Assumes nothing.
+use Prim.Native.Nat.{ℕ, _+_}
+use mathlib.Core.Path.{_≡_, refl, sym, ap, _∙_}
+use mathlib.Core.Bool.{Bool, true, false, cond, _&&_, _||_, true≢false}
+use mathlib.Core.List.{List, [], _∷_, map}
 use lib.Dec.{eqb}
 use Rattle.base.proofs.Keys.{agree}
-use Rattle.base.proofs.Tests.{by-test}
+use Rattle.base.proofs.Tests.{by-test, either-way, cond-same, both}
 use Rattle.base.specs.Keys.{among}
-use Rattle.message.specs.Commands.{commandsOf, boxCommands, kinds, kindIn, kindOf, isListed}
-use Rattle.message.specs.Claims.{BoxListed}
+use Rattle.message.specs.Commands.{CommandLine, table, unlisted, lineIn, lineOf, kindOf, fromBox, owedOf, isListed}
+use Rattle.message.specs.Claims.{BoxListed, PaperLists, boxCommands, emptyCommands, otherCommands}
 use Rattle.message.specs.declared.kind.Kind.{Kind}
-use Rattle.message.specs.declared.kind.Kind.the-variants.{Unlisted}
+use Rattle.message.specs.declared.kind.Kind.the-variants as kind
+use Rattle.message.specs.declared.kind.Line.{Line}
+use Rattle.message.specs.declared.kind.Due.{Due}
+use Rattle.message.specs.declared.kind.Due.the-variants as due
 
--- ---- from a command's line to the command
+-- ---- from the table to every command
 
--- what holds of Unlisted, and of each line that has the command, holds of the command's line
-pub by-line : (P : Kind → Type 0) (c : ℕ) → P Unlisted → ((k : Kind) → among c (commandsOf k) ≡ true → P k) → (ks : List Kind) → P (kindIn ks c)
-unfolding kindIn
-by-line P c none line [] = none
-by-line P c none line (k ∷ ks) = by-test P (among c (commandsOf k)) (line k) λ _. by-line P c none line ks
+abbrev keysIn : List CommandLine → List ℕ
+keysIn es = map (λ (e : CommandLine). e .command) es
 
-one : (x n : ℕ) → among x (n ∷ []) ≡ true → x ≡ n
-unfolding among
-one x n = by-test (λ b. b ≡ true → x ≡ n) (eqb x n) (λ e _. eqb-true x n e) λ _ h. absurd (true≢false (sym h))
+-- a command that has no line
+off : (es : List CommandLine) (c : ℕ) → among c (keysIn es) ≡ false → lineIn es c ≡ unlisted
+unfolding among lineIn
+off [] c h = refl
+off (e ∷ es) c h =
+    by-test (λ l. cond (eqb c (e .command)) true (among c (keysIn es)) ≡ false → l ≡ unlisted) (eqb c (e .command))
+    (λ t q. absurd (true≢false (rw t at q))) (λ t q. off es c (rw t at q)) h
 
--- of a line with one command, the command is that one
-pub only : (c : ℕ) (k : Kind) (n : ℕ) → commandsOf k ≡ n ∷ [] → kindOf c ≡ k → c ≡ n
-only c k n e f = (rw f at (by-line (λ k. commandsOf k ≡ n ∷ [] → c ≡ n) c (λ h. cc) (λ k h e. one c n (rw e at h)) kinds)) e
+-- two functions of a command that are the same at the table's commands, and at those that have no line
+pub every : {A : Type 0} (f g : ℕ → A) → map f (keysIn table) ≡ map g (keysIn table)
+    → ((c : ℕ) → lineOf c ≡ unlisted → among c (keysIn table) ≡ false → f c ≡ g c) → (c : ℕ) → f c ≡ g c
+every f g e none c =
+    either-way (among c (keysIn table)) (agree f g (keysIn table) c e) (λ h. none c (off table c h) h)
+
+-- a command that has no line is none of some that have one
+none-of : (ks : List ℕ) → map (λ c. among c (keysIn table)) ks ≡ map (λ _. true) ks → (c : ℕ) → among c (keysIn table) ≡ false → among c ks ≡ false
+none-of ks e c h =
+    either-way (among c ks) (λ t. absurd (true≢false (sym (agree (λ c. among c (keysIn table)) (λ _. true) ks c e t) ∙ h))) (λ f. f)
+
+-- ---- the kinds
+
+-- what holds of each kind, in the enum's order, holds of all
+abbrev pub by-kind :
+    (P : Kind → Type 0) → P kind.Unlisted → P kind.Empty → P kind.Information → P kind.Action → P kind.Status → P kind.Report
+    → P kind.Onboarding → P kind.Network → P kind.ModuleReject → P kind.BoxReject → P kind.Time → P kind.Announcement
+    → P kind.Ready → P kind.Piece → (k : Kind) → P k
+by-kind P u e i a s r o n m b t c y d kind.Unlisted = u
+by-kind P u e i a s r o n m b t c y d kind.Empty = e
+by-kind P u e i a s r o n m b t c y d kind.Information = i
+by-kind P u e i a s r o n m b t c y d kind.Action = a
+by-kind P u e i a s r o n m b t c y d kind.Status = s
+by-kind P u e i a s r o n m b t c y d kind.Report = r
+by-kind P u e i a s r o n m b t c y d kind.Onboarding = o
+by-kind P u e i a s r o n m b t c y d kind.Network = n
+by-kind P u e i a s r o n m b t c y d kind.ModuleReject = m
+by-kind P u e i a s r o n m b t c y d kind.BoxReject = b
+by-kind P u e i a s r o n m b t c y d kind.Time = t
+by-kind P u e i a s r o n m b t c y d kind.Announcement = c
+by-kind P u e i a s r o n m b t c y d kind.Ready = y
+by-kind P u e i a s r o n m b t c y d kind.Piece = d
+
+-- of a kind that one command has, that command; of another, the command that is given
+abbrev pub soleOf : Kind → ℕ → ℕ
+soleOf k c = by-kind (λ _. ℕ) c c 0x02 0x03 0x04 0x05 0x09 0x0D 0x11 0x12 0x18 0x19 0x1B 0x1D k
+
+-- of a kind that one command has, the command is that one
+pub only : (c : ℕ) (k : Kind) (n : ℕ) → soleOf k c ≡ n → kindOf c ≡ k → c ≡ n
+unfolding among table lineIn
+only c k n e f =
+    let sole : soleOf (kindOf c) c ≡ c = every (λ c. soleOf (kindOf c) c) (λ c. c) refl (λ c none _. ap (λ (l : Line). soleOf (l .kind) c) none) c in
+    sym sole ∙ ap (λ (k : Kind). soleOf k c) f ∙ e
+
+-- ---- the claims
+
+neither : {a b : Bool} → a ≡ false → b ≡ false → false ≡ (a || b)
+neither p q = rw (p, q)
+
+unless : {A : Type 0} {t : Bool} (x : A) {y z : A} → t ≡ false → cond t x y ≡ z → y ≡ z
+unless x h e = rw h at e
+
+abbrev answered : List ℕ
+answered = 0x01 ∷ 0x03 ∷ 0x07 ∷ 0x0D ∷ 0x0F ∷ []
+
+abbrev owedUnless : ℕ → Due
+owedUnless c = cond (among c answered) due.Nothing (owedOf c)
+
+pub paper-lists : PaperLists
+unfolding among table lineIn
+paper-lists =
+    record {
+      box = refl;
+      from-box = every fromBox (λ c. among c boxCommands) refl (λ c none h. ap (λ (l : Line). l .outward) none ∙ sym (none-of boxCommands refl c h));
+      listed =
+          every (λ c. isListed (kindOf c)) (λ c. among c emptyCommands || among c otherCommands) refl
+          (λ c none h.
+          ap (λ (l : Line). isListed (l .kind)) none ∙ neither (none-of emptyCommands refl c h) (none-of otherCommands refl c h));
+      empty = λ c. agree kindOf (λ _. kind.Empty) emptyCommands c refl;
+      others = refl;
+      acknowledged = λ c. agree owedOf (λ c. due.Acknowledge (c + 1)) (0x03 ∷ 0x07 ∷ 0x0D ∷ 0x0F ∷ []) c refl;
+      asked = refl;
+      no-answer = λ c h.
+          unless due.Nothing h
+          (every owedUnless (λ _. due.Nothing) refl
+          (λ c none _. ap (λ (l : Line). cond (among c answered) due.Nothing (l .owed)) none ∙ cond-same (among c answered) due.Nothing) c);
+    }
 
 pub box-listed : BoxListed
-unfolding among kindIn
-box-listed command h = agree (λ c. isListed (kindOf c)) (λ _. true) boxCommands command refl h
+unfolding among table lineIn
+box-listed c h =
+    let listed : (fromBox c && isListed (kindOf c)) ≡ fromBox c =
+    every (λ c. fromBox c && isListed (kindOf c)) fromBox refl
+    (λ c none _. ap (λ (l : Line). l .outward && isListed (l .kind)) none ∙ sym (ap (λ (l : Line). l .outward) none)) c in
+    both (fromBox c) (listed ∙ h) .1

@@ -11,12 +11,10 @@ use lib.Seq.{take-nil, drop-nil}
 use Rattle.base.proofs.Tests.{both, cond-same}
 use Rattle.message.specs.Numbers.{num}
 use Rattle.base.specs.Numbers.{twoAt}
-use Rattle.message.specs.Commands.{kindOf, kindIn, sizeFits, fits}
+use Rattle.message.specs.Commands.{kindOf, table, lineIn, sizeFits, fits}
 use Rattle.base.specs.Keys.{among}
 use Rattle.message.specs.Counter.{statusValues, statusAllowed, statusIn, controlValues, controlAllowed, controlIn, modeAllowed}
-use Rattle.message.specs.Table.{messageIn}
-use Rattle.message.specs.Reading.{valuesOf}
-use Rattle.message.specs.Writing.{commandIn}
+use Rattle.message.specs.Writing.{commandIn, messageIn}
 use Rattle.message.specs.Claims.{Writable, lentOf, ReadWritten, ReadsWritten}
 use Rattle.message.specs.declared.counter.Status.{Status}
 use Rattle.message.specs.declared.counter.Control.{Control}
@@ -25,11 +23,10 @@ use Rattle.message.specs.declared.kind.Kind.the-variants as kind
 use Rattle.message.specs.declared.values.Extra.the-variants as extra
 use Rattle.message.specs.declared.values.Message.{Message}
 use Rattle.message.specs.declared.values.Message.the-variants as message
-use Rattle.message.specs.declared.parts.Part.the-variants as part
 use Rattle.message.proofs.Numbers.{value}
-use Rattle.message.proofs.Accepted.{Accepted, accept, accepted, span-read}
+use Rattle.message.proofs.Accepted.{Accepted, accepted}
 use Rattle.message.proofs.Written.{written-read}
-use Rattle.message.proofs.Again.{control-read, read-again}
+use Rattle.message.proofs.Again.{empty-payload, lent-none, control-read, read-again}
 
 -- ---- modes
 
@@ -49,58 +46,15 @@ filled : (t : Bool) (l : List ℕ) {v : ℕ} {vs : List ℕ} → cond t [] l ≡
 filled true l e = absurd (cons≢nil (sym e))
 filled false l e = refl
 
--- ---- lent bytes
-
-zero-length : (p : List ℕ) → (eqb (length p) 0 ≡ false → ⊥) → p ≡ []
-zero-length [] h = refl
-zero-length (x ∷ p) h = absurd (h (eqb·suc-zero (length p)))
-
--- a payload that has no values is empty
-empty-payload : (k : Kind) (p : List ℕ) → sizeFits k p ≡ true → valuesOf k p ≡ [] → p ≡ []
-unfolding sizeFits fits among
-empty-payload kind.Unlisted p h e = absurd (true≢false (sym h))
-empty-payload kind.Empty p h e = zero-length p (λ q. true≢false (sym (rw q at h)))
-empty-payload kind.Status p h e = zero-length p (λ q. cons≢nil (rw q at e))
-empty-payload kind.Information p h e = absurd (cons≢nil e)
-empty-payload kind.Action p h e = absurd (cons≢nil e)
-empty-payload kind.Report p h e = absurd (cons≢nil e)
-empty-payload kind.Onboarding p h e = absurd (cons≢nil e)
-empty-payload kind.Network p h e = absurd (cons≢nil e)
-empty-payload kind.ModuleReject p h e = absurd (cons≢nil e)
-empty-payload kind.BoxReject p h e = absurd (cons≢nil e)
-empty-payload kind.Time p h e = absurd (cons≢nil e)
-empty-payload kind.Announcement p h e = absurd (cons≢nil e)
-empty-payload kind.Ready p h e = absurd (cons≢nil e)
-empty-payload kind.Piece p h e = absurd (cons≢nil e)
-
-lent-none : (c : ℕ) → lentOf c [] ≡ []
-lent-none c = simp (take-nil, drop-nil, cond-same)
-
 -- of device information
 lent-length : (p : List ℕ) (size : ℕ) → length p ≡ size → eqb (length (lentOf 0x02 p)) (min 64 size + (size - 74)) ≡ true
 lent-length p size e = eq-eqb (length (lentOf 0x02 p)) (min 64 size + (size - 74)) (simp (length-append, length-take, length-drop, e))
 
 -- ---- each message
 
-command-first : (m : Message) → getD (messageIn m) 0 0 ≡ commandIn m
-command-first (message.Empty command) = refl
-command-first (message.Information timeout more) = refl
-command-first (message.Control control) = refl
-command-first message.Query = refl
-command-first (message.Status status) = refl
-command-first (message.Report status) = refl
-command-first (message.Onboarding way) = refl
-command-first (message.Network network) = refl
-command-first (message.ModuleReject code) = refl
-command-first (message.BoxReject code) = refl
-command-first (message.Time time) = refl
-command-first (message.Announcement size) = refl
-command-first (message.Ready size) = refl
-command-first (message.Piece index total) = refl
-
 module _ (p : List ℕ) (bytes : (i : ℕ) → getD p i 0 < 256) where
   may-write : (m : Message) → Accepted (kindOf (commandIn m)) (commandIn m) p (messageIn m) → Writable m (lentOf (commandIn m) p)
-  unfolding kindIn among sizeFits fits
+  unfolding table lineIn among sizeFits fits
   may-write (message.Empty c) a =
       let e : p ≡ [] = empty-payload (kindOf c) p (a .sized) (tail-eq-of-cons-eq (a .values)) in
       record { listed = a .listed; sized = rw (e, lent-none c) (rw e at (a .sized)); allows = refl }
@@ -126,7 +80,7 @@ module _ (p : List ℕ) (bytes : (i : ℕ) → getD p i 0 < 256) where
       record { listed = refl; sized = le-leb (length (drop 6 p)) 65535 (omega (arith, length-drop 6 p, bytes 4, bytes 5)); allows = refl }
   may-write (message.Ready size) a =
       let most : length (take (twoAt p 0) (drop 2 p)) ≤ 65535 = omega (arith, length-take (twoAt p 0) (drop 2 p), bytes 0, bytes 1) in
-      record { listed = refl; sized = rw (span-read part.CheckCode 0x1B p (accept a)) (le-leb _ 65535 most); allows = refl }
+      record { listed = refl; sized = le-leb _ 65535 most; allows = refl }
   may-write (message.Piece index total) a = record { listed = refl; sized = refl; allows = refl }
 
   -- the payload and what is written again are read alike
@@ -135,10 +89,10 @@ module _ (p : List ℕ) (bytes : (i : ℕ) → getD p i 0 < 256) where
       let w : Writable m (lentOf (commandIn m) p) = may-write m a in
       let written = written-read m (lentOf (commandIn m) p) w in
       let read = read-again p m a in
-      record { command-is = refl; writable = w; message = written .message ∙ sym (read .message); parts = λ which. written .parts which ∙ sym (read .parts which) }
+      record { command-is = refl; writable = w; message = written .message ∙ sym (read .message); parts = written .parts ∙ sym (read .parts) }
 
 pub read-written : ReadsWritten
 read-written command p bytes m e =
     let a : Accepted (kindOf command) command p (messageIn m) = accepted e in
-    let same : command ≡ commandIn m = value 0 (a .values) ∙ command-first m in
+    let same : command ≡ commandIn m = value 0 (a .values) in
     rw same (again p bytes m (rw same at a))

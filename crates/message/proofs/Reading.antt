@@ -7,14 +7,15 @@ use native.Mathlib.Omega.{arith}
 use lib.ListN.{length, getD, List·getD-eq-default}
 use lib.Dec.{eqb, leb, leb·zero, leb·suc-suc, eqb·suc-zero}
 use Rattle.base.proofs.Keys.{among-none, among-next}
-use Rattle.base.specs.Rows.{Row}
 use Rattle.base.proofs.Tests.{tests}
 use Rattle.base.specs.Numbers.{twoAt}
-use Rattle.message.specs.Commands.{exactly, from, counted, fits, sizesOf, layoutOf, sizeFits, isListed, commandsOf, kindOf}
+use Rattle.message.specs.Commands.{exactly, from, counted, fits, sizesOf, chosenOf, sizeFits, isListed, allowed, valuesOf, partsIn, kindOf}
 use Rattle.base.specs.Keys.{among}
-use Rattle.message.specs.Reading.{allowed, valuesOf, judgedOf, readAs, readOf}
+use Rattle.message.specs.Reading.{Read, judgedOf, decodeAs, decodeOf}
 use Rattle.message.specs.declared.kind.Kind.{Kind}
-use Rattle.message.proofs.Lines.{only}
+use Rattle.message.specs.declared.parts.Parts.{Parts}
+use Rattle.message.proofs.Lines.{soleOf, only}
+use Rattle.message.proofs.Tests.{and-true}
 
 -- ---- a payload's size, as tests of its length
 
@@ -42,11 +43,11 @@ pub fits-counted : (before behind : ℕ) (p : List ℕ) → fits (counted before
 unfolding fits
 fits-counted before behind p = ap (eqb (length p)) (omega arith)
 
-pub size-fits : (k : Kind) (p : List ℕ) → sizeFits k p ≡ (fits (sizesOf k) p && fits (layoutOf k (getD p 0 0)) p)
+pub size-fits : (k : Kind) (p : List ℕ) → sizeFits k p ≡ (fits (sizesOf k) p && fits (chosenOf k (getD p 0 0)) p)
 unfolding sizeFits
 size-fits k p = refl
 
--- with these `search` takes what the tests on the way told into a kind's sizes, and so into `readAs`
+-- with these `search` takes what the tests on the way told into a kind's sizes, and so into `decodeAs`
 pub ruleset sizes = (size-fits, fits-any, fits-some, fits-from, fits-exactly, fits-counted, among-none, among-next, tests)
 
 -- the first byte of a payload that has none counts 0
@@ -59,11 +60,7 @@ whole : (t : Bool) → cond t true false ≡ t
 whole true = refl
 whole false = refl
 
-and-true : (t : Bool) → (t && true) ≡ t
-and-true true = refl
-and-true false = refl
-
-module _ (k : Kind) (p : List ℕ) (any : layoutOf k (getD p 0 0) ≡ from 0) where
+module _ (k : Kind) (p : List ℕ) (any : chosenOf k (getD p 0 0) ≡ from 0) where
   pub sized-one : (n : ℕ) → sizesOf k ≡ exactly (n ∷ []) → eqb (length p) n ≡ sizeFits k p
   sized-one n e = sym (simp (size-fits, any, e, fits-any, fits-exactly, among-next, among-none, and-true, whole))
 
@@ -76,22 +73,22 @@ module _ (k : Kind) (p : List ℕ) (any : layoutOf k (getD p 0 0) ≡ from 0) wh
 -- ---- a layout that the first byte chooses
 
 -- a payload of one of its line's sizes is judged by the size of that layout
-pub chosen : (k : Kind) (command n : ℕ) (p : List ℕ) {r : Row} (a : Bool) (values : List ℕ)
-    → r ≡ judgedOf (eqb (length p) n) a (command ∷ values)
-    → isListed k ≡ true → fits (sizesOf k) p ≡ true → layoutOf k (getD p 0 0) ≡ exactly (n ∷ []) → a ≡ allowed k p → values ≡ valuesOf k p
-    → r ≡ readAs k command p
+pub chosen : (k : Kind) (command n : ℕ) (p : List ℕ) {r : Read} (a : Bool) (values : List ℕ)
+    → r ≡ judgedOf (eqb (length p) n) a (command ∷ values) (partsIn k p)
+    → isListed k ≡ true → fits (sizesOf k) p ≡ true → chosenOf k (getD p 0 0) ≡ exactly (n ∷ []) → a ≡ allowed k p → values ≡ valuesOf k p
+    → r ≡ decodeAs k command p
 chosen k command n p a values f listed size layout allows e =
     f ∙ simp (listed, size-fits, size, layout, fits-exactly, among-next, among-none, whole, allows, e)
 
 -- ---- a command's line
 
-module _ (k : Kind) {kind : Kind} {r : Row} (command : ℕ) (p : List ℕ) (of : kind ≡ kindOf command) (told : kind ≡ k) where
+module _ (k : Kind) {kind : Kind} {r : Read} (command : ℕ) (p : List ℕ) (of : kind ≡ kindOf command) (told : kind ≡ k) where
   -- a payload is read as the command's line reads it
-  pub read-kind : r ≡ readAs k command p → r ≡ readOf command p
+  pub read-kind : r ≡ decodeAs k command p → r ≡ decodeOf command p
   read-kind e = rw (← of, told) e
 
   -- a line that has one command reads as that one
-  pub read-line : (n : ℕ) → commandsOf k ≡ n ∷ [] → r ≡ readAs k n p → r ≡ readOf command p
+  pub read-line : (n : ℕ) → soleOf k command ≡ n → r ≡ decodeAs k n p → r ≡ decodeOf command p
   read-line n one e = read-kind (rw (only command k n one (sym of ∙ told)) e)
 
 pub ruleset lines = (read-kind, read-line)

@@ -9,7 +9,9 @@ use Rattle.base.specs.Rows.{Row}
 use Rattle.base.proofs.Rows.{told-apart}
 use Rattle.message.specs.Numbers.{num}
 use Rattle.message.specs.Counter.{statusIn, controlIn}
-use Rattle.message.specs.Table.{networkIn, unixIn, timeIn, messageIn, readingRowOf, sentRowOf, replyRowOf}
+use Rattle.message.specs.Reading.{Read}
+use Rattle.message.specs.Writing.{networkIn, unixIn, timeIn, messageIn}
+use Rattle.message.specs.Table.{readingOf, sentRowOf, replyRowOf}
 use Rattle.message.specs.Claims.{RowsTell}
 use Rattle.message.specs.declared.counter.Control.{Control}
 use Rattle.message.specs.declared.counter.Status.{Status}
@@ -158,14 +160,14 @@ message-back (message.Piece index total) = refl
 
 -- ---- the answers
 
-abbrev readingFrom : Row → Reading
+abbrev readingFrom : Read → Reading
 readingFrom r =
-    under (r .number) 0 (reading.Got (messageFrom (r .values)))
-    (under (r .number) 31 reading.Command
-    (under (r .number) 32 reading.Size reading.Field))
+    under (r .row .number) 0 (reading.Got (messageFrom (r .row .values)) (r .parts))
+    (under (r .row .number) 31 reading.Command
+    (under (r .row .number) 32 reading.Size reading.Field))
 
-reading-back : (a : Reading) → readingFrom (readingRowOf a) ≡ a
-reading-back (reading.Got m) = ap reading.Got (message-back m)
+reading-back : (a : Reading) → readingFrom (readingOf a) ≡ a
+reading-back (reading.Got m parts) = ap (λ (m : Message). reading.Got m parts) (message-back m)
 reading-back reading.Command = refl
 reading-back reading.Size = refl
 reading-back reading.Field = refl
@@ -210,7 +212,7 @@ pub rows-tell : RowsTell
 rows-tell =
     record {
       messages = told-apart messageIn messageFrom message-back;
-      readings = told-apart readingRowOf readingFrom reading-back;
+      readings = told-apart readingOf readingFrom reading-back;
       sendings = told-apart sentRowOf sentFrom sent-back;
       replies = told-apart replyRowOf replyFrom reply-back;
     }

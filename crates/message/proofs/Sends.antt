@@ -1,17 +1,29 @@
 -- A message that is written: its tests passed, and its payload from the parts that the frame writer is handed. Assumes nothing.
 use Prim.Native.Nat.{ℕ, _-_}
-use mathlib.Core.Path.{_≡_, ap, _∙_}
-use mathlib.Core.Bool.{Bool, true, cond}
-use mathlib.Core.List.{List, _++_}
+use mathlib.Core.Path.{_≡_, sym, ap, _∙_}
+use mathlib.Core.Bool.{Bool, true, false, cond, _&&_}
+use mathlib.Core.List.{List, [], _∷_, _++_, cons≢nil}
 use native.Mathlib.Omega.{arith}
 use lib.ListN.{length, take, drop, length-drop}
 use lib.Seq.{take-all}
-use Rattle.base.specs.Rows.{Row}
+use lib.Dec.{eqb}
+use Rattle.base.specs.Rows.{Row, row}
 use Rattle.base.specs.Outcomes.{Write, outcome}
+use Rattle.frame.specs.Wire.{frameLimit}
 use Rattle.frame.specs.Calls.{writeOf}
-use Rattle.message.specs.Writing.{sendAs, informationBytes, timeBytes, unixBytes}
+use Rattle.message.specs.Commands.{table, lineIn, kindOf, isListed, sizeFits}
+use Rattle.message.specs.Parts.{noParts}
+use Rattle.message.specs.Reading.{Read, got, refusal, decodeOf}
+use Rattle.message.specs.Writing.{sendAs, sendOf, informationBytes, informationNumbers, informationLent, timeBytes, unixBytes}
+use Rattle.message.specs.declared.parts.Parts.{Parts}
+use Rattle.message.specs.declared.values.Message.{Message}
+use Rattle.message.specs.declared.values.Message.the-variants as message
+use Rattle.message.specs.declared.values.Extra.{Extra}
 use Rattle.message.specs.declared.values.Unix.{Unix}
 use Rattle.message.specs.declared.values.Time.{Time}
+use Rattle.message.proofs.Tests.{and-true, and-false}
+use Rattle.message.proofs.Accepted.{accepted}
+use Rattle.message.proofs.Written.{empty-read}
 
 -- ---- answers
 
@@ -29,6 +41,42 @@ pub sent : {listed sized allows : Bool} (limit command number flags : ℕ) {byte
     → outcome b left ≡ writeOf limit command number flags bytes out → outcome a left ≡ sendAs limit listed sized allows command number flags payload out
 sent limit command number flags out l s a p q e = onward q e ∙ ap (λ (b : List ℕ). writeOf limit command number flags b out) p ∙ passed _ _ _ _ l s a
 
+-- a message that takes nothing lent: its bytes are its payload, and its values are allowed as was tested
+pub bare :
+    (command number flags : ℕ) (lent out : List ℕ) {bytes payload : List ℕ} {a b : Bool} {w : Write} → bytes ≡ payload → a ≡ b
+    → w ≡ sendAs frameLimit true (eqb (length lent) 0) a command number flags bytes out
+    → w ≡ sendAs frameLimit true (eqb (length lent) 0) b command number flags payload out
+bare command number flags lent out {bytes} {payload} {a} {b} p q e =
+    e ∙ ap (λ (x : Bool). sendAs frameLimit true (eqb (length lent) 0) x command number flags bytes out) q
+    ∙ ap (λ (x : List ℕ). sendAs frameLimit true (eqb (length lent) 0) b command number flags x out) p
+
+-- the message that was told
+pub arm :
+    (m : Message) {message : Message} {w : Write} (limit number flags : ℕ) (lent out : List ℕ) → message ≡ m
+    → w ≡ sendOf limit m number flags lent out → w ≡ sendOf limit message number flags lent out
+arm m limit number flags lent out told e = e ∙ ap (λ (x : Message). sendOf limit x number flags lent out) (sym told)
+
+pub ruleset arms = (arm)
+
+-- ---- no payload, by what reading says of it
+
+module _ (limit c number flags : ℕ) (lent out : List ℕ) where
+  pub empty-got :
+      {vs : List ℕ} {s : Parts} {w : Write} → got vs s ≡ decodeOf c []
+      → w ≡ sendAs limit true (eqb (length lent) 0) true c number flags [] out → w ≡ sendOf limit (message.Empty c) number flags lent out
+  empty-got e f =
+      let a = accepted {k = kindOf c} {command = c} (sym (ap (λ (r : Read). r .row) e)) in
+      rw (a .listed, a .sized, and-true) f
+
+  pub empty-refused : (n : ℕ) → refusal n ≡ decodeOf c [] → outcome (row n []) out ≡ sendOf limit (message.Empty c) number flags lent out
+  empty-refused n e = go (isListed (kindOf c)) (sizeFits (kindOf c) []) (e ∙ empty-read (kindOf c) c)
+    where
+      go : (l s : Bool) → refusal n ≡ cond l (cond s (got (c ∷ []) noParts) (refusal 32)) (refusal 31)
+          → outcome (row n []) out ≡ sendAs limit l (eqb (length lent) 0 && s) true c number flags [] out
+      go true true e = absurd (cons≢nil (sym (ap (λ (r : Read). r .row .values) e)))
+      go true false e = rw and-false (ap (λ (r : Read). outcome (r .row) out) e)
+      go false s e = ap (λ (r : Read). outcome (r .row) out) e
+
 -- ---- payloads
 
 -- two parts that are two others
@@ -36,9 +84,20 @@ pub joined : {a b r s : List ℕ} → a ≡ b → r ≡ s → a ++ r ≡ b ++ s
 joined p q = rw (p, q)
 
 -- numbers between the lent texts and key and the rest that is lent
-pub between : (numbers lent : List ℕ) {others : List ℕ} → numbers ≡ others
-    → take 64 lent ++ (numbers ++ take (length lent - 64) (drop 64 lent)) ≡ informationBytes others lent
-between numbers lent e = rw (e, take-all (length lent - 64) (drop 64 lent) (omega (arith, length-drop 64 lent)))
+pub between : (numbers lent : List ℕ)
+    → take 64 lent ++ (numbers ++ take (length lent - 64) (drop 64 lent)) ≡ informationBytes numbers lent
+between numbers lent = rw (take-all (length lent - 64) (drop 64 lent) (omega (arith, length-drop 64 lent)))
+
+-- information by what it has beside timeout, texts and key
+pub informed :
+    (timeout number flags : ℕ) (lent out : List ℕ) (more : Extra) {told : Extra} {numbers : List ℕ} {w : Write} → told ≡ more
+    → numbers ≡ informationNumbers timeout more
+    → w ≡ sendAs frameLimit true (eqb (length lent) (informationLent more)) true 2 number flags (informationBytes numbers lent) out
+    → w ≡ sendOf frameLimit (message.Information timeout told) number flags lent out
+unfolding table lineIn
+informed timeout number flags lent out more e p f =
+    f ∙ ap (λ (n : List ℕ). sendAs frameLimit true (eqb (length lent) (informationLent more)) true 2 number flags (informationBytes n lent) out) p
+    ∙ ap (λ (x : Extra). sendOf frameLimit (message.Information timeout x) number flags lent out) (sym e)
 
 -- a time's bytes, by what it has behind the second
 pub dated : (time : Time) {u : Unix} → time .unix ≡ u → timeBytes time (unixBytes u) ≡ timeBytes time (unixBytes (time .unix))

@@ -1,10 +1,19 @@
 -- Tests in a row: what each refusal rules out, and what all of them let pass. Assumes nothing.
 use Prim.Native.Nat.{ℕ}
 use mathlib.Core.Path.{_≡_, refl, sym, _∙_}
-use mathlib.Core.Bool.{Bool, true, false, cond}
+use mathlib.Core.Bool.{Bool, true, false, cond, _&&_}
 use mathlib.Core.List.{List, []}
 use Rattle.base.proofs.Rows.{refused}
 use Rattle.base.specs.Rows.{Row, row}
+
+-- a test beside one that always passes, or never
+pub and-true : (t : Bool) → (t && true) ≡ t
+and-true true = refl
+and-true false = refl
+
+pub and-false : (t : Bool) → (t && false) ≡ false
+and-false true = refl
+and-false false = refl
 
 -- "31, 32, 33": what is given where none of the three is
 module _ {A : Type 0} (rowIn : A → Row) (refusal : ℕ → A) (h : (n : ℕ) → rowIn (refusal n) ≡ row n []) where

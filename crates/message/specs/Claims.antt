@@ -2,36 +2,40 @@
 use Prim.Native.Nat.{ℕ, _+_, _*_, _≤_, _<_}
 use mathlib.Core.Path.{_≡_}
 use mathlib.Core.Bool.{true, false, cond, _&&_, _||_}
-use mathlib.Core.List.{List, [], _∷_, _++_}
+use mathlib.Core.List.{List, [], _∷_, _++_, map}
 use lib.ListN.{length, getD, take, drop}
 use lib.Dec.{eqb}
 use Rattle.frame.specs.Wire.{widest, commandOf, payloadOf}
 use Rattle.base.specs.Rows.{row}
 use Rattle.base.specs.Outcomes.{outcome}
+use Rattle.base.specs.Parts.{IsPart}
+use Rattle.base.specs.Numbers.{twoAt}
+use Rattle.base.specs.Keys.{among}
+use denote.Ref.{RefT, now}
 use Rattle.frame.specs.Calls.{freshOf}
 use Rattle.frame.specs.Logs.{Call, Entry, logOf, stateAfter, stream}
 use Rattle.frame.specs.Claims.{ReadBack}
 use Rattle.message.specs.Numbers.{num}
-use Rattle.message.specs.Commands.{kindOf, isListed, fromBox}
-use Rattle.message.specs.Table.{messageIn, readingRowOf, sentRowOf, replyRowOf}
-use Rattle.message.specs.Reading.{readOf}
-use Rattle.message.specs.Parts.{spanOf, bytesOf}
-use Rattle.message.specs.Writing.{commandIn, payloadIn, lentFits, allowedIn, sendOf}
+use Rattle.message.specs.Commands.{CommandLine, table, kindOf, isListed, fromBox, owedOf}
+use Rattle.message.specs.Table.{readingOf, sentRowOf, replyRowOf}
+use Rattle.message.specs.Reading.{readOf, partsOf}
+use Rattle.message.specs.Parts.{EachPlace, bytesIn, PartAt}
+use Rattle.message.specs.Writing.{commandIn, messageIn, payloadIn, lentFits, allowedIn, sendOf}
 use Rattle.message.specs.Answers.{dueOf}
 use Rattle.message.specs.declared.counter.Control.{Control}
 use Rattle.message.specs.declared.values.Message.{Message}
 use Rattle.message.specs.declared.values.Message.the-variants as message
-use Rattle.message.specs.declared.parts.Part.{Part}
-use Rattle.message.specs.declared.parts.Part.the-variants as part
+use Rattle.message.specs.declared.parts.Place.{Place}
 use Rattle.message.specs.declared.reader.Reading.{Reading}
 use Rattle.message.specs.declared.writer.Sent.{Sent}
-use Rattle.message.specs.declared.replies.Due.the-variants as due
+use Rattle.message.specs.declared.kind.Kind.the-variants as kind
+use Rattle.message.specs.declared.kind.Due.the-variants as due
 use Rattle.message.specs.declared.replies.Reply.{Reply}
 
 -- ---- rows-tell: two messages, or two answers of one enum, never have the same number and values, so an equation of rows fixes the answer
 pub record RowsTell : Type 0 where
   pub messages : (a b : Message) → messageIn a ≡ messageIn b → a ≡ b
-  pub readings : (a b : Reading) → readingRowOf a ≡ readingRowOf b → a ≡ b
+  pub readings : (a b : Reading) → readingOf a ≡ readingOf b → a ≡ b
   pub sendings : (a b : Sent) → sentRowOf a ≡ sentRowOf b → a ≡ b
   pub replies : (a b : Reply) → replyRowOf a ≡ replyRowOf b → a ≡ b
 
@@ -39,9 +43,60 @@ pub record RowsTell : Type 0 where
 abbrev pub BoxListed : Type 0
 BoxListed = (command : ℕ) → fromBox command ≡ true → isListed (kindOf command) ≡ true
 
+-- ---- paper-lists: the table against the lists that paper 01 gives apart
+
+-- the commands of some lines that only the box sends
+abbrev pub sentByBox : List CommandLine → List ℕ
+sentByBox [] = []
+sentByBox (e ∷ es) = cond (e .line .outward) (e .command ∷ sentByBox es) (sentByBox es)
+
+-- "a listed command that only the box sends"
+abbrev pub boxCommands : List ℕ
+boxCommands =
+    0x02 ∷ 0x04 ∷ 0x05 ∷ 0x08 ∷ 0x09 ∷ 0x0B ∷ 0x0E ∷ 0x10 ∷ 0x12
+    ∷ 0x13 ∷ 0x15 ∷ 0x17 ∷ 0x1A ∷ 0x1B ∷ 0x1E ∷ 0x20 ∷ 0x27 ∷ 0x29 ∷ []
+
+-- the commands without a payload
+abbrev pub emptyCommands : List ℕ
+emptyCommands =
+    0x01 ∷ 0x06 ∷ 0x07 ∷ 0x08 ∷ 0x0A ∷ 0x0B ∷ 0x0C ∷ 0x0E ∷ 0x0F ∷ 0x10 ∷ 0x13 ∷ 0x14
+    ∷ 0x15 ∷ 0x16 ∷ 0x17 ∷ 0x1A ∷ 0x1C ∷ 0x1E ∷ 0x1F ∷ 0x20 ∷ 0x27 ∷ 0x28 ∷ 0x29 ∷ 0x2A ∷ []
+
+-- the others
+abbrev pub otherCommands : List ℕ
+otherCommands = 0x02 ∷ 0x03 ∷ 0x04 ∷ 0x05 ∷ 0x09 ∷ 0x0D ∷ 0x11 ∷ 0x12 ∷ 0x18 ∷ 0x19 ∷ 0x1B ∷ 0x1D ∷ []
+
+-- of every command
+pub record PaperLists : Type 0 where
+  pub box : sentByBox table ≡ boxCommands
+  pub from-box : (command : ℕ) → fromBox command ≡ among command boxCommands
+  pub listed : (command : ℕ) → isListed (kindOf command) ≡ (among command emptyCommands || among command otherCommands)
+  pub empty : (command : ℕ) → among command emptyCommands ≡ true → kindOf command ≡ kind.Empty
+  pub others :
+      map kindOf otherCommands
+      ≡ kind.Information ∷ kind.Action ∷ kind.Status ∷ kind.Report ∷ kind.Onboarding ∷ kind.Network
+      ∷ kind.ModuleReject ∷ kind.BoxReject ∷ kind.Time ∷ kind.Announcement ∷ kind.Ready ∷ kind.Piece ∷ []
+  -- "07, 0D, 0F and 03 control get command plus 1 ..; 01 asks the caller for device information .. All else gets no answer"
+  pub acknowledged : (command : ℕ) → among command (0x03 ∷ 0x07 ∷ 0x0D ∷ 0x0F ∷ []) ≡ true → owedOf command ≡ due.Acknowledge (command + 1)
+  pub asked : owedOf 0x01 ≡ due.AskInformation
+  pub no-answer : (command : ℕ) → among command (0x01 ∷ 0x03 ∷ 0x07 ∷ 0x0D ∷ 0x0F ∷ []) ≡ false → owedOf command ≡ due.Nothing
+
 -- ---- parts-within: each part lies in its payload, whatever that is
 abbrev pub PartsWithin : Type 0
-PartsWithin = (which : Part) (command : ℕ) (p : List ℕ) → spanOf which command p .start + spanOf which command p .size ≤ length p
+PartsWithin = (command : ℕ) (p : List ℕ) → EachPlace (λ s. s .start + s .size ≤ length p) (partsOf command p)
+
+-- ---- handed-out: what is handed out for a place that reading gave is the whole part there
+
+-- the part that a place names, all of it in the payload
+pub record WholePart (payload part : RefT (List ℕ)) (s : Place) : Type 0 where
+  pub part-is : IsPart payload part (s .start) (s .size)
+  pub within : s .start + s .size ≤ length (now payload)
+
+-- of each of the eight places, and whatever is handed out for it
+abbrev pub HandedOut : Type 0
+HandedOut =
+    (command : ℕ) (payload : RefT (List ℕ))
+    → EachPlace (λ s. (part : RefT (List ℕ)) → PartAt payload part s → WholePart payload part s) (partsOf command (now payload))
 
 -- ---- written-read: what may be written is read as the same message, with the same parts
 
@@ -78,21 +133,19 @@ effective (message.Announcement size) = message.Announcement size
 effective (message.Ready piece) = message.Ready piece
 effective (message.Piece index total) = message.Piece index total
 
--- the part of the lent bytes that a reader of the message is to find
-abbrev pub lentPart : Part → ℕ → List ℕ → List ℕ
-lentPart part.SerialVersion command lent = cond (eqb command 0x02) (take 8 lent) []
-lentPart part.ProtocolVersion command lent = cond (eqb command 0x02) (take 8 (drop 8 lent)) []
-lentPart part.HardwareVersion command lent = cond (eqb command 0x02) (take 8 (drop 16 lent)) []
-lentPart part.SoftwareVersion command lent = cond (eqb command 0x02) (take 8 (drop 24 lent)) []
-lentPart part.ProductKey command lent = cond (eqb command 0x02) (take 32 (drop 32 lent)) []
-lentPart part.Secret command lent = cond (eqb command 0x02) (drop 64 lent) []
-lentPart part.CheckCode command lent = cond (eqb command 0x19 || eqb command 0x1B) lent []
-lentPart part.Data command lent = cond (eqb command 0x1D) lent []
+-- the parts of the lent bytes that a reader of the message is to find
+abbrev pub lentParts : ℕ → List ℕ → List (List ℕ)
+lentParts command lent =
+    cond (eqb command 0x02)
+    (take 8 lent ∷ take 8 (drop 8 lent) ∷ take 8 (drop 16 lent) ∷ take 8 (drop 24 lent) ∷ take 32 (drop 32 lent)
+    ∷ drop 64 lent ∷ [] ∷ [] ∷ [])
+    ([] ∷ [] ∷ [] ∷ [] ∷ [] ∷ [] ∷ cond (eqb command 0x19 || eqb command 0x1B) lent []
+    ∷ cond (eqb command 0x1D) lent [] ∷ [])
 
 -- a command and a payload are this message, with these parts
 pub record Decodes (m : Message) (lent : List ℕ) (command : ℕ) (p : List ℕ) : Type 0 where
   pub message : readOf command p ≡ row 0 (messageIn (effective m))
-  pub parts : (which : Part) → bytesOf (spanOf which command p) p ≡ lentPart which (commandIn m) lent
+  pub parts : bytesIn (partsOf command p) p ≡ lentParts (commandIn m) lent
 
 -- of every message
 abbrev pub WrittenRead : Type 0
@@ -105,7 +158,7 @@ abbrev pub lentOf : ℕ → List ℕ → List ℕ
 lentOf command p =
     cond (eqb command 0x02) (take 64 p ++ drop 74 p)
     (cond (eqb command 0x19) (drop 6 p)
-    (cond (eqb command 0x1B) (bytesOf (spanOf part.CheckCode command p) p)
+    (cond (eqb command 0x1B) (take (twoAt p 0) (drop 2 p))
     (cond (eqb command 0x1D) (drop 4 p) [])))
 
 -- of every message that reading gives: it may be written, and what is written is read as the same message, with the same parts
@@ -113,8 +166,8 @@ pub record ReadWritten (command : ℕ) (p : List ℕ) (m : Message) : Type 0 whe
   pub command-is : commandIn m ≡ command
   pub writable : Writable m (lentOf command p)
   pub message : readOf command (payloadIn m (lentOf command p)) ≡ readOf command p
-  pub parts : (which : Part)
-      → bytesOf (spanOf which command (payloadIn m (lentOf command p))) (payloadIn m (lentOf command p)) ≡ bytesOf (spanOf which command p) p
+  pub parts :
+      bytesIn (partsOf command (payloadIn m (lentOf command p))) (payloadIn m (lentOf command p)) ≡ bytesIn (partsOf command p) p
 
 -- of every command and payload of bytes
 abbrev pub ReadsWritten : Type 0

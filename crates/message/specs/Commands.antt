@@ -1,14 +1,168 @@
--- Paper 01, "Messages", "Payload sizes (003, 000); commands in hex", as tables: commands, sizes, and who sends them. A kind is a line of the
--- paper's list; commands that share a line and not a layout (03 and 05, 11 and 12, 19 and 1B) have a kind each.
-use Prim.Native.Nat.{ℕ, _+_}
-use mathlib.Core.Bool.{Bool, true, false, cond, _&&_}
+-- Paper 01, "Messages": every listed command on one line, and the layout of each kind of payload.
+use Prim.Native.Nat.{ℕ, _+_, _-_}
+use mathlib.Core.Bool.{Bool, true, false, cond, _&&_, _||_}
 use mathlib.Core.List.{List, [], _∷_}
-use lib.ListN.{length, getD}
+use lib.ListN.{length, getD, drop}
 use lib.Dec.{eqb, leb}
 use Rattle.base.specs.Keys.{among}
-use Rattle.base.specs.Numbers.{twoAt}
+use Rattle.base.specs.Numbers.{twoAt, fourAt}
+use Rattle.message.specs.Numbers.{bit, bits, eightAt}
+use Rattle.message.specs.Parts.{place, nowhere, textsAnd, noTexts, noParts}
+use Rattle.message.specs.Counter.{statusValues, statusAllowed, controlValues, controlAllowed}
+use Rattle.message.specs.declared.parts.Parts.{Parts}
 use Rattle.message.specs.declared.kind.Kind.{Kind}
-use Rattle.message.specs.declared.kind.Kind.the-variants.{Unlisted, Empty, Information, Action, Status, Report, Onboarding, Network, ModuleReject, BoxReject, Time, Announcement, Ready, Piece}
+use Rattle.message.specs.declared.kind.Kind.the-variants.{
+  Unlisted,
+  Empty,
+  Information,
+  Action,
+  Status,
+  Report,
+  Onboarding,
+  Network,
+  ModuleReject,
+  BoxReject,
+  Time,
+  Announcement,
+  Ready,
+  Piece,
+}
+use Rattle.message.specs.declared.kind.Line.{Line}
+use Rattle.message.specs.declared.kind.Due.{Due}
+use Rattle.message.specs.declared.kind.Due.the-variants.{Nothing, AskInformation, Acknowledge}
+
+-- ---- the table
+
+-- a command, and its line
+pub record CommandLine : Type 0 where
+  pub command : ℕ
+  pub line : Line
+
+-- a line: the payload's kind, whether only the box sends it, and what the box answers to it without a fault
+abbrev pub lineWith : Kind → Bool → Due → Line
+lineWith kind outward owed = record { kind = kind; outward = outward; owed = owed }
+
+-- a command's
+abbrev pub entry : ℕ → Kind → Bool → Due → CommandLine
+entry command kind outward owed = record { command = command; line = lineWith kind outward owed }
+
+-- only the box sends it
+abbrev pub byBox : Bool
+byBox = true
+
+-- the module sends it
+abbrev pub toBox : Bool
+toBox = false
+
+-- the listed commands. 03's answer is a control's; a query asks for the status instead (see `dueFor`)
+unfoldable pub table : List CommandLine
+table =
+    entry 0x01 Empty toBox AskInformation
+    ∷ entry 0x02 Information byBox Nothing
+    ∷ entry 0x03 Action toBox (Acknowledge 0x04)
+    ∷ entry 0x04 Status byBox Nothing
+    ∷ entry 0x05 Report byBox Nothing
+    ∷ entry 0x06 Empty toBox Nothing
+    ∷ entry 0x07 Empty toBox (Acknowledge 0x08)
+    ∷ entry 0x08 Empty byBox Nothing
+    ∷ entry 0x09 Onboarding byBox Nothing
+    ∷ entry 0x0A Empty toBox Nothing
+    ∷ entry 0x0B Empty byBox Nothing
+    ∷ entry 0x0C Empty toBox Nothing
+    ∷ entry 0x0D Network toBox (Acknowledge 0x0E)
+    ∷ entry 0x0E Empty byBox Nothing
+    ∷ entry 0x0F Empty toBox (Acknowledge 0x10)
+    ∷ entry 0x10 Empty byBox Nothing
+    ∷ entry 0x11 ModuleReject toBox Nothing
+    ∷ entry 0x12 BoxReject byBox Nothing
+    ∷ entry 0x13 Empty byBox Nothing
+    ∷ entry 0x14 Empty toBox Nothing
+    ∷ entry 0x15 Empty byBox Nothing
+    ∷ entry 0x16 Empty toBox Nothing
+    ∷ entry 0x17 Empty byBox Nothing
+    ∷ entry 0x18 Time toBox Nothing
+    ∷ entry 0x19 Announcement toBox Nothing
+    ∷ entry 0x1A Empty byBox Nothing
+    ∷ entry 0x1B Ready byBox Nothing
+    ∷ entry 0x1C Empty toBox Nothing
+    ∷ entry 0x1D Piece toBox Nothing
+    ∷ entry 0x1E Empty byBox Nothing
+    ∷ entry 0x1F Empty toBox Nothing
+    ∷ entry 0x20 Empty byBox Nothing
+    ∷ entry 0x27 Empty byBox Nothing
+    ∷ entry 0x28 Empty toBox Nothing
+    ∷ entry 0x29 Empty byBox Nothing
+    ∷ entry 0x2A Empty toBox Nothing
+    ∷ []
+
+-- ---- the table looked up
+
+-- the line of a command that is not there
+abbrev pub unlisted : Line
+unlisted = lineWith Unlisted toBox Nothing
+
+-- a command's line among some
+unfoldable pub lineIn : List CommandLine → ℕ → Line
+lineIn [] c = unlisted
+lineIn (e ∷ es) c = cond (eqb c (e .command)) (e .line) (lineIn es c)
+
+-- in the table
+abbrev pub lineOf : ℕ → Line
+lineOf c = lineIn table c
+
+-- a command's kind
+abbrev pub kindOf : ℕ → Kind
+kindOf c = lineOf c .kind
+
+-- "a listed command that only the box sends"
+abbrev pub fromBox : ℕ → Bool
+fromBox c = lineOf c .outward
+
+-- what the box answers to it without a fault
+abbrev pub owedOf : ℕ → Due
+owedOf c = lineOf c .owed
+
+-- ---- fields and values
+
+-- "1 SoftAP or 2 AirLink, else FIELD"
+abbrev pub wayAllowed : ℕ → Bool
+wayAllowed way = eqb way 1 || eqb way 2
+
+-- "one byte, 1 to 4, else FIELD"
+abbrev pub codeAllowed : ℕ → Bool
+codeAllowed code = leb 1 code && leb code 4
+
+-- "Another first byte is FIELD."
+abbrev pub actionAllowed : List ℕ → Bool
+actionAllowed p = cond (eqb (getD p 0 0) 1) (controlAllowed (drop 1 p)) (eqb (getD p 0 0) 2)
+
+-- a first byte, and a status behind it
+abbrev pub statusAllowedAfter : ℕ → List ℕ → Bool
+statusAllowedAfter action p = eqb (getD p 0 0) action && statusAllowed (drop 1 p)
+
+-- the first byte, and the values of a control
+abbrev pub actionValues : List ℕ → List ℕ
+actionValues p = getD p 0 0 ∷ cond (eqb (getD p 0 0) 1) (controlValues (drop 1 p)) []
+
+-- the first byte, and the values of a status
+abbrev pub reportValues : List ℕ → List ℕ
+reportValues p = getD p 0 0 ∷ statusValues (drop 1 p)
+
+-- "timeout 2, then perhaps attributes 8, then perhaps secret 32", behind 64 bytes of texts and key
+abbrev pub informationValues : List ℕ → List ℕ
+informationValues p = length p ∷ twoAt p 64 ∷ cond (eqb (length p) 66) [] (eightAt p 66 ∷ [])
+
+-- "bits 0 to 5, strength bits 8 to 10, bits 11 and 12 are read, the reserved ones ignored"
+abbrev pub networkValues : List ℕ → List ℕ
+networkValues p =
+    bit 0 (twoAt p 0) ∷ bit 1 (twoAt p 0) ∷ bit 2 (twoAt p 0) ∷ bit 3 (twoAt p 0) ∷ bit 4 (twoAt p 0) ∷ bit 5 (twoAt p 0)
+    ∷ bits 8 3 (twoAt p 0) ∷ bit 11 (twoAt p 0) ∷ bit 12 (twoAt p 0) ∷ []
+
+-- "year 2, month, day, hour, minute, second", then others
+abbrev pub timeValues : List ℕ → List ℕ → List ℕ
+timeValues p more = twoAt p 0 ∷ getD p 2 0 ∷ getD p 3 0 ∷ getD p 4 0 ∷ getD p 5 0 ∷ getD p 6 0 ∷ more
+
+-- ---- the layout of each kind
 
 -- what the sizes of a payload may be
 pub data Sizes : Type 0 where
@@ -19,105 +173,101 @@ pub data Sizes : Type 0 where
   -- bytes before a count, the count n in 2, n bytes, and bytes behind them, no more
   counted : ℕ → ℕ → Sizes
 
--- ---- the list of payload sizes
+-- what a payload of a kind has to be, and what it says
+pub record Layout : Type 0 where
+  -- 31: whether there are such commands
+  pub listed : Bool
+  -- 32: its sizes, and the sizes of the whole payload that its first byte asks for
+  pub sizes : Sizes
+  pub chosen : ℕ → Sizes
+  -- 33: of a payload whose size fits, whether each value is allowed
+  pub allowed : List ℕ → Bool
+  -- its values, without texts, key, secret, check code and data
+  pub values : List ℕ → List ℕ
+  -- where these lie
+  pub parts : List ℕ → Parts
 
--- a kind's commands
-abbrev pub commandsOf : Kind → List ℕ
-commandsOf Unlisted = []
-commandsOf Empty =
-    0x01 ∷ 0x06 ∷ 0x07 ∷ 0x08 ∷ 0x0A ∷ 0x0B ∷ 0x0C ∷ 0x0E ∷ 0x0F ∷ 0x10 ∷ 0x13 ∷ 0x14
-    ∷ 0x15 ∷ 0x16 ∷ 0x17 ∷ 0x1A ∷ 0x1C ∷ 0x1E ∷ 0x1F ∷ 0x20 ∷ 0x27 ∷ 0x28 ∷ 0x29 ∷ 0x2A ∷ []
-commandsOf Information = 0x02 ∷ []
-commandsOf Action = 0x03 ∷ []
-commandsOf Status = 0x04 ∷ []
-commandsOf Report = 0x05 ∷ []
-commandsOf Onboarding = 0x09 ∷ []
-commandsOf Network = 0x0D ∷ []
-commandsOf ModuleReject = 0x11 ∷ []
-commandsOf BoxReject = 0x12 ∷ []
-commandsOf Time = 0x18 ∷ []
-commandsOf Announcement = 0x19 ∷ []
-commandsOf Ready = 0x1B ∷ []
-commandsOf Piece = 0x1D ∷ []
+-- of listed commands
+abbrev pub layout : Sizes → (ℕ → Sizes) → (List ℕ → Bool) → (List ℕ → List ℕ) → (List ℕ → Parts) → Layout
+layout sizes chosen allowed values parts =
+    record { listed = true; sizes = sizes; chosen = chosen; allowed = allowed; values = values; parts = parts }
 
--- a kind's sizes
-abbrev pub sizesOf : Kind → Sizes
-sizesOf Unlisted = exactly []
-sizesOf Empty = exactly (0 ∷ [])
-sizesOf Information = exactly (66 ∷ 74 ∷ 106 ∷ [])
-sizesOf Action = from 1
-sizesOf Status = from 0
-sizesOf Report = from 1
-sizesOf Onboarding = exactly (1 ∷ [])
-sizesOf Network = exactly (2 ∷ [])
-sizesOf ModuleReject = exactly (1 ∷ [])
-sizesOf BoxReject = exactly (1 ∷ [])
-sizesOf Time = exactly (7 ∷ 11 ∷ [])
-sizesOf Announcement = counted 4 0
-sizesOf Ready = counted 0 2
-sizesOf Piece = from 4
+-- a first byte that asks for no size
+abbrev pub any : ℕ → Sizes
+any first = from 0
 
--- "First payload byte: 03 has 01 control or 02 read (nothing behind it); 04 is empty or 03 and status; 05 is 04 and status." The size of the
--- whole payload that a first byte asks for, or any where it asks for none
-abbrev pub layoutOf : Kind → ℕ → Sizes
-layoutOf Action first = cond (eqb first 1) (exactly (5 ∷ [])) (cond (eqb first 2) (exactly (1 ∷ [])) (from 0))
-layoutOf Status first = cond (eqb first 3) (exactly (9 ∷ [])) (from 0)
-layoutOf Report first = cond (eqb first 4) (exactly (9 ∷ [])) (from 0)
-layoutOf Unlisted first = from 0
-layoutOf Empty first = from 0
-layoutOf Information first = from 0
-layoutOf Onboarding first = from 0
-layoutOf Network first = from 0
-layoutOf ModuleReject first = from 0
-layoutOf BoxReject first = from 0
-layoutOf Time first = from 0
-layoutOf Announcement first = from 0
-layoutOf Ready first = from 0
-layoutOf Piece first = from 0
+-- a first byte that asks for a status
+abbrev pub ninth : ℕ → ℕ → Sizes
+ninth action first = cond (eqb first action) (exactly (9 ∷ [])) (from 0)
 
--- "a listed command that only the box sends"
-abbrev pub boxCommands : List ℕ
-boxCommands =
-    0x02 ∷ 0x04 ∷ 0x05 ∷ 0x08 ∷ 0x09 ∷ 0x0B ∷ 0x0E ∷ 0x10 ∷ 0x12
-    ∷ 0x13 ∷ 0x15 ∷ 0x17 ∷ 0x1A ∷ 0x1B ∷ 0x1E ∷ 0x20 ∷ 0x27 ∷ 0x29 ∷ []
+-- "First payload byte: 03 has 01 control or 02 read (nothing behind it)"
+abbrev pub actionSizes : ℕ → Sizes
+actionSizes first = cond (eqb first 1) (exactly (5 ∷ [])) (cond (eqb first 2) (exactly (1 ∷ [])) (from 0))
 
--- ---- the tables looked up
+-- values that are all allowed
+abbrev pub always : List ℕ → Bool
+always p = true
 
--- the kinds, in the order of the list
-abbrev pub kinds : List Kind
-kinds =
-    Empty ∷ Information ∷ Action ∷ Status ∷ Report ∷ Onboarding ∷ Network
-    ∷ ModuleReject ∷ BoxReject ∷ Time ∷ Announcement ∷ Ready ∷ Piece ∷ []
+-- one byte
+abbrev pub byte : List ℕ → List ℕ
+byte p = getD p 0 0 ∷ []
 
--- the first of some kinds that has a command
-unfoldable pub kindIn : List Kind → ℕ → Kind
-kindIn [] c = Unlisted
-kindIn (k ∷ ks) c = cond (among c (commandsOf k)) k (kindIn ks c)
+-- no parts
+abbrev pub none : List ℕ → Parts
+none p = noParts
 
--- a command's kind
-abbrev pub kindOf : ℕ → Kind
-kindOf c = kindIn kinds c
+-- each kind's: its sizes, the sizes that its first byte asks for, its allowed values, its values, its parts. "four 8-byte texts, product
+-- key 32, timeout 2, then perhaps attributes 8, then perhaps secret 32"; "19: size 4, n in 2, n bytes"; "1B: n in 2, n bytes"
+abbrev pub layoutOf : Kind → Layout
+layoutOf Unlisted =
+    record { listed = false; sizes = exactly []; chosen = any; allowed = λ p. false; values = λ p. []; parts = none }
+layoutOf Empty = layout (exactly (0 ∷ [])) any always (λ p. []) none
+layoutOf Information =
+    layout (exactly (66 ∷ 74 ∷ 106 ∷ [])) any always informationValues
+    (λ p. textsAnd (cond (eqb (length p) 106) (place 74 32) nowhere))
+layoutOf Action = layout (from 1) actionSizes actionAllowed actionValues none
+layoutOf Status =
+    layout (from 0) (ninth 3) (λ p. cond (eqb (length p) 0) true (statusAllowedAfter 3 p))
+    (λ p. cond (eqb (length p) 0) [] (reportValues p)) none
+layoutOf Report = layout (from 1) (ninth 4) (statusAllowedAfter 4) reportValues none
+layoutOf Onboarding = layout (exactly (1 ∷ [])) any (λ p. wayAllowed (getD p 0 0)) byte none
+layoutOf Network = layout (exactly (2 ∷ [])) any always networkValues none
+layoutOf ModuleReject = layout (exactly (1 ∷ [])) any (λ p. codeAllowed (getD p 0 0)) byte none
+layoutOf BoxReject = layout (exactly (1 ∷ [])) any (λ p. codeAllowed (getD p 0 0)) byte none
+layoutOf Time =
+    layout (exactly (7 ∷ 11 ∷ [])) any always (λ p. timeValues p (cond (eqb (length p) 7) [] (fourAt p 7 ∷ []))) none
+layoutOf Announcement =
+    layout (counted 4 0) any always (λ p. fourAt p 0 ∷ []) (λ p. noTexts (place 6 (twoAt p 4)) nowhere)
+layoutOf Ready =
+    layout (counted 0 2) any always (λ p. twoAt p (2 + twoAt p 0) ∷ []) (λ p. noTexts (place 2 (twoAt p 0)) nowhere)
+layoutOf Piece =
+    layout (from 4) any always (λ p. twoAt p 0 ∷ twoAt p 2 ∷ []) (λ p. noTexts nowhere (place 4 (length p - 4)))
+
+-- ---- the layout looked up
 
 -- "COMMAND: command not listed below"
 abbrev pub isListed : Kind → Bool
-isListed Unlisted = false
-isListed Empty = true
-isListed Information = true
-isListed Action = true
-isListed Status = true
-isListed Report = true
-isListed Onboarding = true
-isListed Network = true
-isListed ModuleReject = true
-isListed BoxReject = true
-isListed Time = true
-isListed Announcement = true
-isListed Ready = true
-isListed Piece = true
+isListed k = layoutOf k .listed
 
--- a command is one of the box's
-abbrev pub fromBox : ℕ → Bool
-fromBox c = among c boxCommands
+-- a kind's sizes
+abbrev pub sizesOf : Kind → Sizes
+sizesOf k = layoutOf k .sizes
+
+-- those that a first byte asks for
+abbrev pub chosenOf : Kind → ℕ → Sizes
+chosenOf k first = layoutOf k .chosen first
+
+-- of a payload whose size fits, whether each value is allowed
+abbrev pub allowed : Kind → List ℕ → Bool
+allowed k p = layoutOf k .allowed p
+
+-- the values of a payload
+abbrev pub valuesOf : Kind → List ℕ → List ℕ
+valuesOf k p = layoutOf k .values p
+
+-- where its parts lie
+abbrev pub partsIn : Kind → List ℕ → Parts
+partsIn k p = layoutOf k .parts p
 
 -- whether a payload has one of some sizes
 unfoldable pub fits : Sizes → List ℕ → Bool
@@ -127,4 +277,4 @@ fits (counted before behind) p = eqb (length p) (before + 2 + twoAt p before + b
 
 -- "SIZE: payload size not as listed", in the list and for the layout that the first byte chooses
 unfoldable pub sizeFits : Kind → List ℕ → Bool
-sizeFits k p = fits (sizesOf k) p && fits (layoutOf k (getD p 0 0)) p
+sizeFits k p = fits (sizesOf k) p && fits (chosenOf k (getD p 0 0)) p

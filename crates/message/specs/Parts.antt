@@ -1,49 +1,67 @@
--- "The data of 1D and the check code of 19 and 1B are returned as the part of the lent payload that holds them." So are texts, key and secret of 02.
-use Prim.Native.Nat.{ℕ, _-_}
-use mathlib.Core.Bool.{cond}
-use mathlib.Core.List.{List}
+-- Where the texts, the key, the secret, the check code and the data of a message lie in its payload, and what handing one out returns.
+use Prim.Native.Nat.{ℕ, min}
+use mathlib.Core.List.{List, [], _∷_}
 use lib.ListN.{length, take, drop}
-use lib.Dec.{eqb, leb}
-use denote.Ref.{RefT}
+use denote.Ref.{RefT, now}
 use Rattle.base.specs.Parts.{IsPart}
-use Rattle.base.specs.Numbers.{twoAt}
-use Rattle.message.specs.Reading.{readOf}
-use Rattle.message.specs.declared.parts.Part.{Part}
-use Rattle.message.specs.declared.parts.Part.the-variants.{SerialVersion, ProtocolVersion, HardwareVersion, SoftwareVersion, ProductKey, Secret, CheckCode, Data}
-use Rattle.message.specs.declared.parts.Span.{Span}
+use Rattle.message.specs.declared.parts.Place.{Place}
+use Rattle.message.specs.declared.parts.Parts.{Parts}
 
--- where a part lies
-abbrev pub span : ℕ → ℕ → Span
-span start size = record { start = start; size = size }
+-- a first byte, and how many
+abbrev pub place : ℕ → ℕ → Place
+place start size = record { start = start; size = size }
 
 -- no part: no bytes, at the front
-abbrev pub nowhere : Span
-nowhere = span 0 0
+abbrev pub nowhere : Place
+nowhere = place 0 0
 
--- a part of 02, in payloads of some least size
-abbrev pub informationSpan : ℕ → List ℕ → ℕ → ℕ → ℕ → Span
-informationSpan command p least start size = cond (eqb command 0x02) (cond (leb least (length p)) (span start size) nowhere) nowhere
+-- "four 8-byte texts, product key 32", and a secret
+abbrev pub textsAnd : Place → Parts
+textsAnd secret =
+    record {
+      serial = place 0 8;
+      protocol = place 8 8;
+      hardware = place 16 8;
+      software = place 24 8;
+      key = place 32 32;
+      secret = secret;
+      code = nowhere;
+      piece = nowhere;
+    }
 
--- of a payload that reading accepts. "four 8-byte texts, product key 32, timeout 2, then perhaps attributes 8, then perhaps secret 32";
--- "19: size 4, n in 2, n bytes"; "1B: n in 2, n bytes"; "1D: piece number 2, total 2, data"
-abbrev pub spanIn : Part → ℕ → List ℕ → Span
-spanIn SerialVersion command p = informationSpan command p 66 0 8
-spanIn ProtocolVersion command p = informationSpan command p 66 8 8
-spanIn HardwareVersion command p = informationSpan command p 66 16 8
-spanIn SoftwareVersion command p = informationSpan command p 66 24 8
-spanIn ProductKey command p = informationSpan command p 66 32 32
-spanIn Secret command p = informationSpan command p 106 74 32
-spanIn CheckCode command p = cond (eqb command 0x19) (span 6 (twoAt p 4)) (cond (eqb command 0x1B) (span 2 (twoAt p 0)) nowhere)
-spanIn Data command p = cond (eqb command 0x1D) (span 4 (length p - 4)) nowhere
+-- none of these, but a check code or data
+abbrev pub noTexts : Place → Place → Parts
+noTexts code piece =
+    record {
+      serial = nowhere;
+      protocol = nowhere;
+      hardware = nowhere;
+      software = nowhere;
+      key = nowhere;
+      secret = nowhere;
+      code = code;
+      piece = piece;
+    }
 
--- of any payload: one that reading refuses has no parts
-abbrev pub spanOf : Part → ℕ → List ℕ → Span
-spanOf which command p = cond (eqb (readOf command p .number) 0) (spanIn which command p) nowhere
+-- none at all
+abbrev pub noParts : Parts
+noParts = noTexts nowhere nowhere
 
--- the bytes of a part
-abbrev pub bytesOf : Span → List ℕ → List ℕ
+-- what holds of each of the eight
+abbrev pub EachPlace : (Place → Type 0) → Parts → Type 0
+EachPlace P s =
+    P (s .serial) × P (s .protocol) × P (s .hardware) × P (s .software) × P (s .key) × P (s .secret) × P (s .code) × P (s .piece)
+
+-- the bytes at a place
+abbrev pub bytesOf : Place → List ℕ → List ℕ
 bytesOf s p = take (s .size) (drop (s .start) p)
 
--- what is returned is that part of the lent payload: its bytes, at their place
-abbrev pub PartAt : RefT (List ℕ) → RefT (List ℕ) → Span → Type 0
-PartAt payload part s = IsPart payload part (s .start) (s .size)
+-- the bytes of the eight parts
+abbrev pub bytesIn : Parts → List ℕ → List (List ℕ)
+bytesIn s p =
+    bytesOf (s .serial) p ∷ bytesOf (s .protocol) p ∷ bytesOf (s .hardware) p ∷ bytesOf (s .software) p
+    ∷ bytesOf (s .key) p ∷ bytesOf (s .secret) p ∷ bytesOf (s .code) p ∷ bytesOf (s .piece) p ∷ []
+
+-- what is handed out for a place: the bytes there, where they lie, as far as the payload goes; none, at its end, for a place behind it
+abbrev pub PartAt : RefT (List ℕ) → RefT (List ℕ) → Place → Type 0
+PartAt payload part s = IsPart payload part (min (s .start) (length (now payload))) (s .size)

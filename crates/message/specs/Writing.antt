@@ -1,4 +1,4 @@
--- Paper 01, "Messages": a message's values as a payload and a frame. "A call that writes a message tests 31 to 33 before 21 and 22."
+-- Paper 01, "Messages": a message's values, as a row has them, as a payload and as a frame. "A call that writes a message tests 31 to 33 before 21 and 22."
 use Prim.Native.Nat.{ℕ, _+_, _*_}
 use mathlib.Core.Bool.{Bool, true, cond, _&&_}
 use mathlib.Core.List.{List, [], _∷_, _++_}
@@ -9,9 +9,8 @@ use Rattle.base.specs.Rows.{row}
 use Rattle.base.specs.Outcomes.{Write, outcome}
 use Rattle.frame.specs.Calls.{writeOf}
 use Rattle.message.specs.Numbers.{num, eight}
-use Rattle.message.specs.Commands.{isListed, kindOf, sizeFits}
-use Rattle.message.specs.Counter.{statusBytes, controlBytes, modeAllowed}
-use Rattle.message.specs.Reading.{wayAllowed, codeAllowed}
+use Rattle.message.specs.Commands.{isListed, kindOf, sizeFits, wayAllowed, codeAllowed}
+use Rattle.message.specs.Counter.{statusIn, controlIn, statusBytes, controlBytes, modeAllowed}
 use Rattle.message.specs.declared.values.Extra.{Extra}
 use Rattle.message.specs.declared.values.Extra.the-variants as extra
 use Rattle.message.specs.declared.values.Unix.{Unix}
@@ -49,81 +48,103 @@ abbrev pub unixBytes : Unix → List ℕ
 unixBytes unix.Absent = []
 unixBytes (unix.Seconds seconds) = four seconds []
 
--- each message's payload
-abbrev pub payloadIn : Message → List ℕ → List ℕ
-payloadIn (message.Empty command) lent = []
-payloadIn (message.Information timeout more) lent = informationBytes (informationNumbers timeout more) lent
-payloadIn (message.Control control) lent = 1 ∷ controlBytes control
-payloadIn message.Query lent = 2 ∷ []
-payloadIn (message.Status status) lent = 3 ∷ statusBytes status
-payloadIn (message.Report status) lent = 4 ∷ statusBytes status
-payloadIn (message.Onboarding way) lent = way ∷ []
-payloadIn (message.Network network) lent = networkBytes network
-payloadIn (message.ModuleReject code) lent = code ∷ []
-payloadIn (message.BoxReject code) lent = code ∷ []
-payloadIn (message.Time time) lent = timeBytes time (unixBytes (time .unix))
-payloadIn (message.Announcement size) lent = four size (two (length lent) lent)
-payloadIn (message.Ready piece) lent = two (length lent) (lent ++ two piece [])
-payloadIn (message.Piece index total) lent = two index (two total lent)
-
--- ---- commands, sizes and fields
-
--- each message's command
-abbrev pub commandIn : Message → ℕ
-commandIn (message.Empty command) = command
-commandIn (message.Information timeout more) = 0x02
-commandIn (message.Control control) = 0x03
-commandIn message.Query = 0x03
-commandIn (message.Status status) = 0x04
-commandIn (message.Report status) = 0x05
-commandIn (message.Onboarding way) = 0x09
-commandIn (message.Network network) = 0x0D
-commandIn (message.ModuleReject code) = 0x11
-commandIn (message.BoxReject code) = 0x12
-commandIn (message.Time time) = 0x18
-commandIn (message.Announcement size) = 0x19
-commandIn (message.Ready piece) = 0x1B
-commandIn (message.Piece index total) = 0x1D
-
 -- 02: texts and key have 64 bytes, the secret 32
 abbrev pub informationLent : Extra → ℕ
 informationLent extra.Absent = 64
 informationLent (extra.Attributes attributes) = 64
 informationLent (extra.AttributesAndSecret attributes) = 96
 
--- whether a message is lent as many bytes as it takes; 65,535 is the most that a count in 2 bytes can say
-abbrev pub lentFits : Message → ℕ → Bool
-lentFits (message.Empty command) n = eqb n 0 && sizeFits (kindOf command) []
-lentFits (message.Information timeout more) n = eqb n (informationLent more)
-lentFits (message.Control control) n = eqb n 0
-lentFits message.Query n = eqb n 0
-lentFits (message.Status status) n = eqb n 0
-lentFits (message.Report status) n = eqb n 0
-lentFits (message.Onboarding way) n = eqb n 0
-lentFits (message.Network network) n = eqb n 0
-lentFits (message.ModuleReject code) n = eqb n 0
-lentFits (message.BoxReject code) n = eqb n 0
-lentFits (message.Time time) n = eqb n 0
-lentFits (message.Announcement size) n = leb n 65535
-lentFits (message.Ready piece) n = leb n 65535
-lentFits (message.Piece index total) n = true
+-- 65,535 is the most that a count in 2 bytes can say
+abbrev pub countable : ℕ → Bool
+countable n = leb n 65535
 
--- whether each value is allowed: modes, ways and codes as in reading, and a strength that has three bits
+-- ---- values, as a row has them behind the command
+
+-- 02: the payload's size, the timeout, the attributes where it has them
+abbrev pub informationIn : ℕ → Extra → List ℕ
+informationIn timeout extra.Absent = 66 ∷ timeout ∷ []
+informationIn timeout (extra.Attributes attributes) = 74 ∷ timeout ∷ attributes ∷ []
+informationIn timeout (extra.AttributesAndSecret attributes) = 106 ∷ timeout ∷ attributes ∷ []
+
+-- 0D: bits 0 to 5, strength, bits 11 and 12
+abbrev pub networkIn : Network → List ℕ
+networkIn n =
+    num (n .softap) ∷ num (n .station) ∷ num (n .onboarding) ∷ num (n .binding) ∷ num (n .router) ∷ num (n .server)
+    ∷ n .strength ∷ num (n .app) ∷ num (n .testing) ∷ []
+
+-- 18: what it has behind the second
+abbrev pub unixIn : Unix → List ℕ
+unixIn unix.Absent = []
+unixIn (unix.Seconds seconds) = seconds ∷ []
+
+-- 18
+abbrev pub timeIn : Time → List ℕ
+timeIn c = c .year ∷ c .month ∷ c .day ∷ c .hour ∷ c .minute ∷ c .second ∷ unixIn (c .unix)
+
+-- ---- the form of each message
+
+-- what a message is written and read as
+pub record Form : Type 0 where
+  pub command : ℕ
+  -- its values behind the command
+  pub values : List ℕ
+  -- 32: whether it is lent as many bytes as it takes
+  pub takes : ℕ → Bool
+  -- 33: whether each value may be written: modes, ways and codes as in reading, and a strength that has three bits
+  pub allows : Bool
+  -- its payload, with the lent bytes
+  pub payload : List ℕ → List ℕ
+
+-- with lent bytes, and values that are all allowed
+abbrev pub lending : ℕ → List ℕ → (ℕ → Bool) → (List ℕ → List ℕ) → Form
+lending command values takes payload =
+    record { command = command; values = values; takes = takes; allows = true; payload = payload }
+
+-- with nothing lent
+abbrev pub bare : ℕ → List ℕ → Bool → List ℕ → Form
+bare command values allows payload =
+    record { command = command; values = values; takes = λ n. eqb n 0; allows = allows; payload = λ lent. payload }
+
+-- each message's
+abbrev pub formOf : Message → Form
+formOf (message.Empty command) = lending command [] (λ n. eqb n 0 && sizeFits (kindOf command) []) (λ lent. [])
+formOf (message.Information timeout more) =
+    lending 0x02 (informationIn timeout more) (λ n. eqb n (informationLent more))
+    (informationBytes (informationNumbers timeout more))
+formOf (message.Control control) =
+    bare 0x03 (1 ∷ controlIn control) (modeAllowed (control .flags .mode) (control .mode)) (1 ∷ controlBytes control)
+formOf message.Query = bare 0x03 (2 ∷ []) true (2 ∷ [])
+formOf (message.Status status) = bare 0x04 (3 ∷ statusIn status) (ltb (status .mode) 3) (3 ∷ statusBytes status)
+formOf (message.Report status) = bare 0x05 (4 ∷ statusIn status) (ltb (status .mode) 3) (4 ∷ statusBytes status)
+formOf (message.Onboarding way) = bare 0x09 (way ∷ []) (wayAllowed way) (way ∷ [])
+formOf (message.Network network) = bare 0x0D (networkIn network) (ltb (network .strength) 8) (networkBytes network)
+formOf (message.ModuleReject code) = bare 0x11 (code ∷ []) (codeAllowed code) (code ∷ [])
+formOf (message.BoxReject code) = bare 0x12 (code ∷ []) (codeAllowed code) (code ∷ [])
+formOf (message.Time time) = bare 0x18 (timeIn time) true (timeBytes time (unixBytes (time .unix)))
+formOf (message.Announcement size) = lending 0x19 (size ∷ []) countable (λ lent. four size (two (length lent) lent))
+formOf (message.Ready piece) = lending 0x1B (piece ∷ []) countable (λ lent. two (length lent) (lent ++ two piece []))
+formOf (message.Piece index total) =
+    lending 0x1D (index ∷ total ∷ []) (λ n. true) (λ lent. two index (two total lent))
+
+-- a message's command
+abbrev pub commandIn : Message → ℕ
+commandIn m = formOf m .command
+
+-- its values, the command first
+abbrev pub messageIn : Message → List ℕ
+messageIn m = formOf m .command ∷ formOf m .values
+
+-- whether so many lent bytes are as many as it takes
+abbrev pub lentFits : Message → ℕ → Bool
+lentFits m n = formOf m .takes n
+
+-- whether each value is allowed
 abbrev pub allowedIn : Message → Bool
-allowedIn (message.Empty command) = true
-allowedIn (message.Information timeout more) = true
-allowedIn (message.Control control) = modeAllowed (control .flags .mode) (control .mode)
-allowedIn message.Query = true
-allowedIn (message.Status status) = ltb (status .mode) 3
-allowedIn (message.Report status) = ltb (status .mode) 3
-allowedIn (message.Onboarding way) = wayAllowed way
-allowedIn (message.Network network) = ltb (network .strength) 8
-allowedIn (message.ModuleReject code) = codeAllowed code
-allowedIn (message.BoxReject code) = codeAllowed code
-allowedIn (message.Time time) = true
-allowedIn (message.Announcement size) = true
-allowedIn (message.Ready piece) = true
-allowedIn (message.Piece index total) = true
+allowedIn m = formOf m .allows
+
+-- its payload
+abbrev pub payloadIn : Message → List ℕ → List ℕ
+payloadIn m lent = formOf m .payload lent
 
 -- ---- a message written
 

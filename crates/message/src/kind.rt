@@ -1,7 +1,7 @@
-// Which commands there are, what kind of payload each has, and which of them only the box sends.
+// The table of commands: what kind of payload each has, whether only the box sends it, and what the box answers to it.
 ghost use mathlib.Core.Path.{_≡_};
-ghost use mathlib.Core.List.{[]};
-ghost use Rattle.message.specs.Commands.{kindOf, fromBox, isListed, sizeFits};
+ghost use Rattle.message.specs.Commands.{byBox, toBox, lineWith, lineOf};
+ghost use Rattle.message.specs.declared.kind.Due.the-variants as due;
 
 // A kind of payload: what the commands that have it share.
 pub enum Kind {
@@ -21,103 +21,70 @@ pub enum Kind {
     Piece,
 }
 
-// The kind of a command's payload.
-pub(crate) fn kind_of(command: u8) -> Kind
-    ensures { λ r. ⌜ r ≡ kindOf command ⌝ }
+// What a received frame calls for.
+pub enum Due {
+    Nothing,
+    AskInformation,
+    AskStatus,
+    Acknowledge { command: u8 },
+    Reject { code: u8 },
+}
+
+// A command's line: `outward` where only the box sends it, and what it is owed without a fault.
+pub struct Line {
+    pub kind: Kind,
+    pub outward: bool,
+    pub owed: Due,
+}
+
+// A command that only the box sends.
+fn by_box(kind: Kind) -> Line
+    ensures { λ r. ⌜ r ≡ lineWith kind byBox due.Nothing ⌝ }
+{
+    Line {
+        kind,
+        outward: true,
+        owed: Due::Nothing,
+    }
+}
+
+// A command that the module sends.
+fn to_box(kind: Kind, owed: Due) -> Line
+    ensures { λ r. ⌜ r ≡ lineWith kind toBox owed ⌝ }
+{
+    Line {
+        kind,
+        outward: false,
+        owed,
+    }
+}
+
+// The line of a command.
+pub(crate) fn line_of(command: u8) -> Line
+    ensures { λ r. ⌜ r ≡ lineOf command ⌝ }
 {
     match command {
-        0x01
-        | 0x06..=0x08
-        | 0x0A..=0x0C
-        | 0x0E..=0x10
-        | 0x13..=0x17
-        | 0x1A
-        | 0x1C
-        | 0x1E..=0x20
-        | 0x27..=0x2A => Kind::Empty,
-        0x02 => Kind::Information,
-        0x03 => Kind::Action,
-        0x04 => Kind::Status,
-        0x05 => Kind::Report,
-        0x09 => Kind::Onboarding,
-        0x0D => Kind::Network,
-        0x11 => Kind::ModuleReject,
-        0x12 => Kind::BoxReject,
-        0x18 => Kind::Time,
-        0x19 => Kind::Announcement,
-        0x1B => Kind::Ready,
-        0x1D => Kind::Piece,
-        _ => Kind::Unlisted,
-    }
-}
-
-// Whether only the box sends a command.
-pub(crate) fn from_box(command: u8) -> bool
-    ensures { λ r. ⌜ r ≡ fromBox command ⌝ }
-{
-    match command {
-        0x02
-        | 0x04
-        | 0x05
-        | 0x08
-        | 0x09
-        | 0x0B
-        | 0x0E
-        | 0x10
-        | 0x12
-        | 0x13
-        | 0x15
-        | 0x17
-        | 0x1A
-        | 0x1B
-        | 0x1E
-        | 0x20
-        | 0x27
-        | 0x29 => true,
-        _ => false,
-    }
-}
-
-// Whether the kind is that of a listed command.
-pub(crate) fn is_listed(kind: Kind) -> bool
-    ensures { λ r. ⌜ r ≡ isListed kind ⌝ }
-{
-    match kind {
-        Kind::Unlisted => false,
-        Kind::Empty => true,
-        Kind::Information => true,
-        Kind::Action => true,
-        Kind::Status => true,
-        Kind::Report => true,
-        Kind::Onboarding => true,
-        Kind::Network => true,
-        Kind::ModuleReject => true,
-        Kind::BoxReject => true,
-        Kind::Time => true,
-        Kind::Announcement => true,
-        Kind::Ready => true,
-        Kind::Piece => true,
-    }
-}
-
-// Whether a payload of no bytes has one of the kind's sizes.
-pub(crate) fn may_be_empty(kind: Kind) -> bool
-    ensures { λ r. ⌜ r ≡ sizeFits kind [] ⌝ }
-{
-    match kind {
-        Kind::Unlisted => false,
-        Kind::Empty => true,
-        Kind::Information => false,
-        Kind::Action => false,
-        Kind::Status => true,
-        Kind::Report => false,
-        Kind::Onboarding => false,
-        Kind::Network => false,
-        Kind::ModuleReject => false,
-        Kind::BoxReject => false,
-        Kind::Time => false,
-        Kind::Announcement => false,
-        Kind::Ready => false,
-        Kind::Piece => false,
+        0x01 => to_box(Kind::Empty, Due::AskInformation),
+        0x02 => by_box(Kind::Information),
+        0x03 => to_box(Kind::Action, Due::Acknowledge { command: 0x04 }),
+        0x04 => by_box(Kind::Status),
+        0x05 => by_box(Kind::Report),
+        0x06 | 0x0A | 0x0C | 0x14 | 0x16 | 0x1C | 0x1F | 0x28 | 0x2A => {
+            to_box(Kind::Empty, Due::Nothing)
+        }
+        0x07 => to_box(Kind::Empty, Due::Acknowledge { command: 0x08 }),
+        0x08 | 0x0B | 0x0E | 0x10 | 0x13 | 0x15 | 0x17 | 0x1A | 0x1E | 0x20 | 0x27 | 0x29 => {
+            by_box(Kind::Empty)
+        }
+        0x09 => by_box(Kind::Onboarding),
+        0x0D => to_box(Kind::Network, Due::Acknowledge { command: 0x0E }),
+        0x0F => to_box(Kind::Empty, Due::Acknowledge { command: 0x10 }),
+        0x11 => to_box(Kind::ModuleReject, Due::Nothing),
+        0x12 => by_box(Kind::BoxReject),
+        0x18 => to_box(Kind::Time, Due::Nothing),
+        0x19 => to_box(Kind::Announcement, Due::Nothing),
+        0x1B => by_box(Kind::Ready),
+        0x1D => to_box(Kind::Piece, Due::Nothing),
+        _ => to_box(Kind::Unlisted, Due::Nothing),
     }
 }

@@ -1,112 +1,78 @@
-// The parts of a message that are no values: texts, key, secret, check code and data, handed out where they lie.
-use super::reader::Reading;
-use super::reader::read;
+// The parts of a message that are no values: texts, key, secret, check code and data. Reading tells their places; they are handed out where they lie.
 ghost use mathlib.Core.Path.{_≡_};
-ghost use Rattle.message.specs.Parts.{PartAt, spanOf, spanIn, informationSpan};
-ghost use Rattle.message.specs.declared.parts.Part.the-variants as part;
+ghost use Rattle.message.specs.Parts.{place, textsAnd, noTexts, noParts, PartAt};
 
-// A part of a payload.
-pub enum Part {
-    SerialVersion,
-    ProtocolVersion,
-    HardwareVersion,
-    SoftwareVersion,
-    ProductKey,
-    Secret,
-    CheckCode,
-    Data,
-}
-
-// Where a part lies: its first byte, and how many it has.
-pub struct Span {
+// Where a part lies: its first byte in the payload, and how many it has; both are 0 where the message has no such part.
+pub struct Place {
     pub start: usize,
     pub size: usize,
 }
 
-// A part of the device's information, which is there from a size of the payload on.
-fn span_of_information(command: u8, payload: &[u8], least: usize, start: usize, size: usize) -> Span
-    ensures { λ r. ⌜ r ≡ informationSpan command (now (payload .entry)) least start size ⌝ }
-{
-    if command != 0x02 {
-        return Span { start: 0, size: 0 };
-    }
-    if payload.len() < least {
-        return Span { start: 0, size: 0 };
-    }
-    Span { start, size }
+// The places of serial, protocol, hardware and software version, product key, secret, check code, and a piece's data.
+pub struct Parts {
+    pub serial: Place,
+    pub protocol: Place,
+    pub hardware: Place,
+    pub software: Place,
+    pub key: Place,
+    pub secret: Place,
+    pub code: Place,
+    pub piece: Place,
 }
 
-// A check code, behind its count.
-fn span_of_code(command: u8, payload: &[u8]) -> Span
-    ensures { λ r. ⌜ r ≡ spanIn part.CheckCode command (now (payload .entry)) ⌝ }
+// Of the device's information: texts and key, and the secret's place.
+pub(crate) fn texts_and(start: usize, size: usize) -> Parts
+    ensures { λ r. ⌜ r ≡ textsAnd (place start size) ⌝ }
 {
-    if command == 0x19 {
-        return Span {
-            start: 6,
-            size: base::two_at(payload, 4) as usize,
-        };
-    }
-    if command == 0x1B {
-        return Span {
-            start: 2,
-            size: base::two_at(payload, 0) as usize,
-        };
-    }
-    Span { start: 0, size: 0 }
-}
-
-// A piece's data, all behind its numbers.
-fn span_of_data(command: u8, payload: &[u8]) -> Span
-    ensures { λ r. ⌜ r ≡ spanIn part.Data command (now (payload .entry)) ⌝ }
-{
-    if command == 0x1D {
-        if payload.len() < 4 {
-            // reading accepts no piece that is so short
-            return Span { start: 4, size: 0 };
-        }
-        return Span {
-            start: 4,
-            size: payload.len() - 4,
-        };
-    }
-    Span { start: 0, size: 0 }
-}
-
-// Where a part lies in a payload that reading accepts.
-fn span_in(which: Part, command: u8, payload: &[u8]) -> Span
-    ensures { λ r. ⌜ r ≡ spanIn which command (now (payload .entry)) ⌝ }
-{
-    match which {
-        Part::SerialVersion => span_of_information(command, payload, 66, 0, 8),
-        Part::ProtocolVersion => span_of_information(command, payload, 66, 8, 8),
-        Part::HardwareVersion => span_of_information(command, payload, 66, 16, 8),
-        Part::SoftwareVersion => span_of_information(command, payload, 66, 24, 8),
-        Part::ProductKey => span_of_information(command, payload, 66, 32, 32),
-        Part::Secret => span_of_information(command, payload, 106, 74, 32),
-        Part::CheckCode => span_of_code(command, payload),
-        Part::Data => span_of_data(command, payload),
+    let nowhere = Place { start: 0, size: 0 };
+    Parts {
+        serial: Place { start: 0, size: 8 },
+        protocol: Place { start: 8, size: 8 },
+        hardware: Place { start: 16, size: 8 },
+        software: Place { start: 24, size: 8 },
+        key: Place {
+            start: 32,
+            size: 32,
+        },
+        secret: Place { start, size },
+        code: nowhere,
+        piece: nowhere,
     }
 }
 
-// Where a part lies, or nowhere.
-fn span_of(which: Part, command: u8, payload: &[u8]) -> Span
-    ensures { λ r. ⌜ r ≡ spanOf which command (now (payload .entry)) ⌝ }
+// Of any other message: the places of a check code and of data.
+pub(crate) fn no_texts(code: usize, count: usize, piece: usize, size: usize) -> Parts
+    ensures { λ r. ⌜ r ≡ noTexts (place code count) (place piece size) ⌝ }
 {
-    let reading = read(command, payload);
-    match reading {
-        Reading::Got { message: _ } => span_in(which, command, payload),
-        Reading::Command => Span { start: 0, size: 0 },
-        Reading::Size => Span { start: 0, size: 0 },
-        Reading::Field => Span { start: 0, size: 0 },
+    let nowhere = Place { start: 0, size: 0 };
+    Parts {
+        serial: nowhere,
+        protocol: nowhere,
+        hardware: nowhere,
+        software: nowhere,
+        key: nowhere,
+        secret: nowhere,
+        code: Place {
+            start: code,
+            size: count,
+        },
+        piece: Place {
+            start: piece,
+            size: size,
+        },
     }
 }
 
-// A part of the lent payload, where it lies; where the message has none, no bytes, at the payload's front.
-pub fn part_of(which: Part, command: u8, payload: &[u8]) -> &[u8]
-    ensures { λ r. ⌜ PartAt (payload .entry) r (spanOf which command (now (payload .entry))) ⌝ }
+// Of a message that has none.
+pub(crate) fn no_parts() -> Parts
+    ensures { λ r. ⌜ r ≡ noParts ⌝ }
 {
-    let span = span_of(which, command, payload);
-    let start = span.start;
-    let end = start + span.size;
-    &payload[start..end]
+    no_texts(0, 0, 0, 0)
+}
+
+// The part of the lent payload at a place, as far as the payload goes.
+pub fn part(payload: &[u8], place: Place) -> &[u8]
+    ensures { λ r. ⌜ PartAt (payload .entry) r place ⌝ }
+{
+    base::part(payload, place.start, place.size)
 }

@@ -6,7 +6,11 @@ use super::counter::control_of;
 use super::counter::status_allowed;
 use super::counter::status_of;
 use super::kind::Kind;
-use super::kind::kind_of;
+use super::kind::line_of;
+use super::parts::Parts;
+use super::parts::no_parts;
+use super::parts::no_texts;
+use super::parts::texts_and;
 use super::values::Extra;
 use super::values::Message;
 use super::values::Network;
@@ -15,35 +19,44 @@ use super::values::Unix;
 use super::values::code_allowed;
 use super::values::way_allowed;
 ghost use mathlib.Core.Path.{_≡_};
-ghost use Rattle.message.specs.Commands.{kindOf};
-ghost use Rattle.message.specs.Reading.{judgedOf, readAs, readOf, networkValues, timeValues};
-ghost use Rattle.message.specs.Table.{messageIn, readingRowOf, networkIn, timeIn, unixIn};
+ghost use Rattle.message.specs.Commands.{kindOf, networkValues, timeValues};
+ghost use Rattle.message.specs.Parts.{noParts};
+ghost use Rattle.message.specs.Reading.{judgedOf, decodeAs, decodeOf};
+ghost use Rattle.message.specs.Writing.{messageIn, networkIn, timeIn, unixIn};
+ghost use Rattle.message.specs.Table.{readingOf};
 ghost use Rattle.message.specs.declared.kind.Kind.the-variants as kind;
 
-// What a payload is.
+// What a payload is: a message and the places of its parts, or a refusal.
 pub enum Reading {
-    Got { message: Message },
+    Got { message: Message, parts: Parts },
     Command,
     Size,
     Field,
 }
 
-// The message, unless its size or a field is refused: sizes before fields.
-fn judged(sized: bool, allowed: bool, message: Message) -> Reading
-    ensures { λ r. ⌜ readingRowOf r ≡ judgedOf sized allowed (messageIn message) ⌝ }
+// The message with its parts, unless its size or a field is refused: sizes before fields.
+fn judged_with(sized: bool, allowed: bool, message: Message, parts: Parts) -> Reading
+    ensures { λ r. ⌜ readingOf r ≡ judgedOf sized allowed (messageIn message) parts ⌝ }
 {
     if sized {
         if allowed {
-            return Reading::Got { message };
+            return Reading::Got { message, parts };
         }
         return Reading::Field;
     }
     Reading::Size
 }
 
+// The same of a message that has no parts.
+fn judged(sized: bool, allowed: bool, message: Message) -> Reading
+    ensures { λ r. ⌜ readingOf r ≡ judgedOf sized allowed (messageIn message) noParts ⌝ }
+{
+    judged_with(sized, allowed, message, no_parts())
+}
+
 // The information's values behind its texts and its key.
 fn read_information(payload: &[u8]) -> Reading
-    ensures { λ r. ⌜ readingRowOf r ≡ readAs kind.Information 0x02 (now (payload .entry)) ⌝ }
+    ensures { λ r. ⌜ readingOf r ≡ decodeAs kind.Information 0x02 (now (payload .entry)) ⌝ }
 {
     let size = payload.len();
     let timeout = base::two_at(payload, 64);
@@ -53,6 +66,7 @@ fn read_information(payload: &[u8]) -> Reading
                 timeout,
                 extra: Extra::Absent,
             },
+            parts: texts_and(0, 0),
         };
     }
     let attributes = eight_at(payload, 66);
@@ -62,6 +76,7 @@ fn read_information(payload: &[u8]) -> Reading
                 timeout,
                 extra: Extra::Attributes { attributes },
             },
+            parts: texts_and(0, 0),
         };
     }
     if size == 106 {
@@ -70,6 +85,7 @@ fn read_information(payload: &[u8]) -> Reading
                 timeout,
                 extra: Extra::AttributesAndSecret { attributes },
             },
+            parts: texts_and(74, 32),
         };
     }
     Reading::Size
@@ -77,7 +93,7 @@ fn read_information(payload: &[u8]) -> Reading
 
 // Control or query, by the first byte.
 fn read_action(payload: &[u8]) -> Reading
-    ensures { λ r. ⌜ readingRowOf r ≡ readAs kind.Action 0x03 (now (payload .entry)) ⌝ }
+    ensures { λ r. ⌜ readingOf r ≡ decodeAs kind.Action 0x03 (now (payload .entry)) ⌝ }
 {
     let size = payload.len();
     if size == 0 {
@@ -100,12 +116,13 @@ fn read_action(payload: &[u8]) -> Reading
 
 // The answer to a control, which is empty, or the status asked for.
 fn read_status(payload: &[u8]) -> Reading
-    ensures { λ r. ⌜ readingRowOf r ≡ readAs kind.Status 0x04 (now (payload .entry)) ⌝ }
+    ensures { λ r. ⌜ readingOf r ≡ decodeAs kind.Status 0x04 (now (payload .entry)) ⌝ }
 {
     let size = payload.len();
     if size == 0 {
         return Reading::Got {
             message: Message::Empty { command: 0x04 },
+            parts: no_parts(),
         };
     }
     if payload[0] != 3 {
@@ -118,7 +135,7 @@ fn read_status(payload: &[u8]) -> Reading
 
 // A status that the box reports.
 fn read_report(payload: &[u8]) -> Reading
-    ensures { λ r. ⌜ readingRowOf r ≡ readAs kind.Report 0x05 (now (payload .entry)) ⌝ }
+    ensures { λ r. ⌜ readingOf r ≡ decodeAs kind.Report 0x05 (now (payload .entry)) ⌝ }
 {
     let size = payload.len();
     if size == 0 {
@@ -134,7 +151,7 @@ fn read_report(payload: &[u8]) -> Reading
 
 // How the module is to be set up.
 fn read_onboarding(payload: &[u8]) -> Reading
-    ensures { λ r. ⌜ readingRowOf r ≡ readAs kind.Onboarding 0x09 (now (payload .entry)) ⌝ }
+    ensures { λ r. ⌜ readingOf r ≡ decodeAs kind.Onboarding 0x09 (now (payload .entry)) ⌝ }
 {
     let way = base::byte_at(payload, 0);
     judged(
@@ -164,7 +181,7 @@ fn network_of(payload: &[u8]) -> Network
 
 // The state of the module's networks.
 fn read_network(payload: &[u8]) -> Reading
-    ensures { λ r. ⌜ readingRowOf r ≡ readAs kind.Network 0x0D (now (payload .entry)) ⌝ }
+    ensures { λ r. ⌜ readingOf r ≡ decodeAs kind.Network 0x0D (now (payload .entry)) ⌝ }
 {
     let network = network_of(payload);
     judged(payload.len() == 2, true, Message::Network { network })
@@ -172,7 +189,7 @@ fn read_network(payload: &[u8]) -> Reading
 
 // The module's word that a frame was invalid.
 fn read_module_reject(payload: &[u8]) -> Reading
-    ensures { λ r. ⌜ readingRowOf r ≡ readAs kind.ModuleReject 0x11 (now (payload .entry)) ⌝ }
+    ensures { λ r. ⌜ readingOf r ≡ decodeAs kind.ModuleReject 0x11 (now (payload .entry)) ⌝ }
 {
     let code = base::byte_at(payload, 0);
     judged(
@@ -184,7 +201,7 @@ fn read_module_reject(payload: &[u8]) -> Reading
 
 // The box's word that a frame was invalid.
 fn read_box_reject(payload: &[u8]) -> Reading
-    ensures { λ r. ⌜ readingRowOf r ≡ readAs kind.BoxReject 0x12 (now (payload .entry)) ⌝ }
+    ensures { λ r. ⌜ readingOf r ≡ decodeAs kind.BoxReject 0x12 (now (payload .entry)) ⌝ }
 {
     let code = base::byte_at(payload, 0);
     judged(
@@ -211,7 +228,7 @@ fn time_of(payload: &[u8], unix: Unix) -> Time
 
 // The network's time, handed over as read.
 fn read_time(payload: &[u8]) -> Reading
-    ensures { λ r. ⌜ readingRowOf r ≡ readAs kind.Time 0x18 (now (payload .entry)) ⌝ }
+    ensures { λ r. ⌜ readingOf r ≡ decodeAs kind.Time 0x18 (now (payload .entry)) ⌝ }
 {
     let size = payload.len();
     if size == 7 {
@@ -219,6 +236,7 @@ fn read_time(payload: &[u8]) -> Reading
             message: Message::Time {
                 time: time_of(payload, Unix::Absent),
             },
+            parts: no_parts(),
         };
     }
     if size == 11 {
@@ -227,6 +245,7 @@ fn read_time(payload: &[u8]) -> Reading
             message: Message::Time {
                 time: time_of(payload, Unix::Seconds { seconds }),
             },
+            parts: no_parts(),
         };
     }
     Reading::Size
@@ -234,38 +253,51 @@ fn read_time(payload: &[u8]) -> Reading
 
 // Data announced: its size, and a check code of a counted length behind it.
 fn read_announcement(payload: &[u8]) -> Reading
-    ensures { λ r. ⌜ readingRowOf r ≡ readAs kind.Announcement 0x19 (now (payload .entry)) ⌝ }
+    ensures { λ r. ⌜ readingOf r ≡ decodeAs kind.Announcement 0x19 (now (payload .entry)) ⌝ }
 {
     let size = base::four_at(payload, 0);
     let count = base::two_at(payload, 4) as usize;
-    judged(
+    judged_with(
         payload.len() == 6 + count,
         true,
         Message::Announcement { size },
+        no_texts(6, count, 0, 0),
     )
 }
 
 // The box is ready for data: a check code of a counted length, and the size of a piece behind it.
 fn read_ready(payload: &[u8]) -> Reading
-    ensures { λ r. ⌜ readingRowOf r ≡ readAs kind.Ready 0x1B (now (payload .entry)) ⌝ }
+    ensures { λ r. ⌜ readingOf r ≡ decodeAs kind.Ready 0x1B (now (payload .entry)) ⌝ }
 {
     let count = base::two_at(payload, 0) as usize;
     let piece = base::two_at(payload, 2 + count);
-    judged(payload.len() == 4 + count, true, Message::Ready { piece })
+    judged_with(
+        payload.len() == 4 + count,
+        true,
+        Message::Ready { piece },
+        no_texts(2, count, 0, 0),
+    )
 }
 
 // A piece of data: which of how many.
 fn read_piece(payload: &[u8]) -> Reading
-    ensures { λ r. ⌜ readingRowOf r ≡ readAs kind.Piece 0x1D (now (payload .entry)) ⌝ }
+    ensures { λ r. ⌜ readingOf r ≡ decodeAs kind.Piece 0x1D (now (payload .entry)) ⌝ }
 {
+    let size = payload.len();
+    if size < 4 {
+        return Reading::Size;
+    }
     let index = base::two_at(payload, 0);
     let total = base::two_at(payload, 2);
-    judged(4 <= payload.len(), true, Message::Piece { index, total })
+    Reading::Got {
+        message: Message::Piece { index, total },
+        parts: no_texts(0, 0, 4, size - 4),
+    }
 }
 
 // A command without payload.
 fn read_empty(command: u8, payload: &[u8]) -> Reading
-    ensures { λ r. ⌜ readingRowOf r ≡ readAs kind.Empty command (now (payload .entry)) ⌝ }
+    ensures { λ r. ⌜ readingOf r ≡ decodeAs kind.Empty command (now (payload .entry)) ⌝ }
 {
     judged(payload.len() == 0, true, Message::Empty { command })
 }
@@ -273,7 +305,7 @@ fn read_empty(command: u8, payload: &[u8]) -> Reading
 // A payload read as its command's kind says.
 fn read_as(kind: Kind, command: u8, payload: &[u8]) -> Reading
     requires { ⌜ kind ≡ kindOf command ⌝ }
-    ensures { λ r. ⌜ readingRowOf r ≡ readOf command (now (payload .entry)) ⌝ }
+    ensures { λ r. ⌜ readingOf r ≡ decodeOf command (now (payload .entry)) ⌝ }
 {
     match kind {
         Kind::Unlisted => Reading::Command,
@@ -293,9 +325,11 @@ fn read_as(kind: Kind, command: u8, payload: &[u8]) -> Reading
     }
 }
 
-// The message that a command and a payload are, or the refusal that is due.
+// The message that a command and a payload are, with the places of its parts, or the refusal that is due.
 pub fn read(command: u8, payload: &[u8]) -> Reading
-    ensures { λ r. ⌜ readingRowOf r ≡ readOf command (now (payload .entry)) ⌝ }
+    ensures { λ r. ⌜ readingOf r ≡ decodeOf command (now (payload .entry)) ⌝ }
 {
-    read_as(kind_of(command), command, payload)
+    let line = line_of(command);
+    let kind = line.kind;
+    read_as(kind, command, payload)
 }

@@ -2,9 +2,11 @@
 use super::BAD_COMMAND;
 use super::BAD_SUM;
 use super::OTHER_FAULT;
-use super::kind::from_box;
+use super::kind::Due;
+use super::kind::line_of;
 use super::reader::Reading;
 use super::reader::read;
+use super::values::Message;
 use frame::Answer;
 use frame::Verdict;
 use frame::Written;
@@ -14,17 +16,10 @@ ghost use Rattle.frame.specs.Table.{rowOf, decidedRow};
 ghost use Rattle.frame.specs.Wire.{frameLimit};
 ghost use Rattle.base.specs.Outcomes.{outcome};
 ghost use Rattle.frame.specs.Calls.{writeOf};
-ghost use Rattle.message.specs.Table.{replyRowOf};
-ghost use Rattle.message.specs.Answers.{dueForAction, dueFor, dueOf, rejectOf, answerFrameOf, answerOf};
-
-// What a received frame calls for.
-pub enum Due {
-    Nothing,
-    AskInformation,
-    AskStatus,
-    Acknowledge { command: u8 },
-    Reject { code: u8 },
-}
+ghost use Rattle.message.specs.Commands.{owedOf};
+ghost use Rattle.message.specs.Writing.{messageIn};
+ghost use Rattle.message.specs.Table.{readingOf, replyRowOf};
+ghost use Rattle.message.specs.Answers.{dueFor, dueAfter, rejectOf, answerReadOf, answerFrameOf, answerOf};
 
 // What the box did, or asks its caller to do.
 pub enum Reply {
@@ -36,40 +31,45 @@ pub enum Reply {
     Room,
 }
 
-// A control is acknowledged; a query wants the status.
-fn due_for_action(payload: &[u8]) -> Due
-    ensures { λ r. ⌜ r ≡ dueForAction (now (payload .entry)) ⌝ }
+// What a command is owed without a fault.
+fn owed(command: u8) -> Due
+    ensures { λ r. ⌜ r ≡ owedOf command ⌝ }
 {
-    if base::byte_at(payload, 0) == 1 {
-        return Due::Acknowledge { command: 0x04 };
-    }
-    Due::AskStatus
+    line_of(command).owed
 }
 
 // What a message without a fault calls for.
-fn due_for(command: u8, payload: &[u8]) -> Due
-    ensures { λ r. ⌜ r ≡ dueFor command (now (payload .entry)) ⌝ }
+fn due_for(message: Message) -> Due
+    ensures { λ r. ⌜ r ≡ dueFor (messageIn message) ⌝ }
 {
-    match command {
-        0x07 => Due::Acknowledge { command: 0x08 },
-        0x0D => Due::Acknowledge { command: 0x0E },
-        0x0F => Due::Acknowledge { command: 0x10 },
-        0x03 => due_for_action(payload),
-        0x01 => Due::AskInformation,
-        _ => Due::Nothing,
+    match message {
+        Message::Empty { command } => owed(command),
+        Message::Information { .. } => owed(0x02),
+        Message::Control { .. } => owed(0x03),
+        Message::Query => Due::AskStatus,
+        Message::Status { .. } => owed(0x04),
+        Message::Report { .. } => owed(0x05),
+        Message::Onboarding { .. } => owed(0x09),
+        Message::Network { .. } => owed(0x0D),
+        Message::ModuleReject { .. } => owed(0x11),
+        Message::BoxReject { .. } => owed(0x12),
+        Message::Time { .. } => owed(0x18),
+        Message::Announcement { .. } => owed(0x19),
+        Message::Ready { .. } => owed(0x1B),
+        Message::Piece { .. } => owed(0x1D),
     }
 }
 
-// What a frame calls for, with or without a fault.
-fn due_of(command: u8, payload: &[u8]) -> Due
-    ensures { λ r. ⌜ r ≡ dueOf command (now (payload .entry)) ⌝ }
+// What a frame that was read calls for, with or without a fault.
+fn due_after(command: u8, reading: Reading) -> Due
+    ensures { λ r. ⌜ r ≡ dueAfter command (readingOf reading .row) ⌝ }
 {
-    if from_box(command) {
+    let line = line_of(command);
+    if line.outward {
         return Due::Reject { code: BAD_COMMAND };
     }
-    let reading = read(command, payload);
     match reading {
-        Reading::Got { message: _ } => due_for(command, payload),
+        Reading::Got { message, .. } => due_for(message),
         Reading::Command => Due::Reject { code: BAD_COMMAND },
         Reading::Size => Due::Reject { code: OTHER_FAULT },
         Reading::Field => Due::Reject { code: OTHER_FAULT },
@@ -77,12 +77,12 @@ fn due_of(command: u8, payload: &[u8]) -> Due
 }
 
 // A command of no bytes, under the number received; the frame writer's ROOM is passed on.
-fn acknowledge(command: u8, none: &[u8], number: u8, out: &mut [u8]) -> Reply
-    requires { ⌜ now none ≡ [] ⌝ }
+fn acknowledge(command: u8, number: u8, out: &mut [u8]) -> Reply
     ensures { λ r. ⌜ outcome (replyRowOf r) (now (out .exit))
         ≡ writeOf frameLimit command number 0 [] (now (out .entry)) ⌝ }
 {
-    let written = frame::write(command, number, 0, none, out);
+    let none = [0u8; 0];
+    let written = frame::write(command, number, 0, &none, out);
     match written {
         Written::Wrote { count } => Reply::Acknowledged { count },
         // an empty payload is never too long
@@ -106,24 +106,33 @@ fn reject(code: u8, number: u8, out: &mut [u8]) -> Reply
     }
 }
 
-// What the box answers to a frame: written at the front of the output under the number received, or asked of the caller, or nothing.
-pub fn answer_frame(command: u8, number: u8, payload: &[u8], out: &mut [u8]) -> Reply
+// What the box answers to a frame that was read: written at the front of the output under the number received, or asked of the caller, or nothing.
+pub fn answer_reading(command: u8, number: u8, reading: Reading, out: &mut [u8]) -> Reply
     ensures { λ r. ⌜ outcome (replyRowOf r) (now (out .exit))
-        ≡ answerFrameOf frameLimit command number (now (payload .entry)) (now (out .entry)) ⌝ }
+        ≡ answerReadOf frameLimit command number (readingOf reading .row) (now (out .entry)) ⌝ }
 {
-    let due = due_of(command, payload);
+    let due = due_after(command, reading);
     match due {
         Due::Nothing => Reply::Nothing,
         Due::AskInformation => Reply::InformationWanted { number },
         Due::AskStatus => Reply::StatusWanted { number },
-        Due::Acknowledge { command } => acknowledge(command, &payload[..0], number, out),
+        Due::Acknowledge { command } => acknowledge(command, number, out),
         Due::Reject { code } => reject(code, number, out),
     }
 }
 
+// What the box answers to a frame, whose payload is read once.
+pub fn answer_frame(command: u8, number: u8, payload: &[u8], out: &mut [u8]) -> Reply
+    ensures { λ r. ⌜ outcome (replyRowOf r) (now (out .exit))
+        ≡ answerFrameOf frameLimit command number (now (payload .entry)) (now (out .entry)) ⌝ }
+{
+    answer_reading(command, number, read(command, payload), out)
+}
+
 // What the box answers to a decided frame, by the body that the reader then holds.
 fn answer_decided(verdict: Verdict, body: &[u8], out: &mut [u8]) -> Reply
-    ensures { λ r. ⌜ outcome (replyRowOf r) (now (out .exit)) ≡ answerOf frameLimit (decidedRow verdict 0 0 0) (now (body .entry)) (now (out .entry)) ⌝ }
+    ensures { λ r. ⌜ outcome (replyRowOf r) (now (out .exit))
+        ≡ answerOf frameLimit (decidedRow verdict 0 0 0) (now (body .entry)) (now (out .entry)) ⌝ }
 {
     match verdict {
         Verdict::Frame => answer_frame(

@@ -1,8 +1,8 @@
-// The values of a message. Texts, keys, check codes and data are no values: they stay in the lent bytes (see `part_of`).
+// The values of a message. Texts, keys, check codes and data are no values: they stay in the lent bytes (see `part`).
 use super::counter::Control;
 use super::counter::Status;
 ghost use mathlib.Core.Path.{_≡_};
-ghost use Rattle.message.specs.Reading.{wayAllowed, codeAllowed};
+ghost use Rattle.message.specs.Commands.{wayAllowed, codeAllowed};
 
 // What a device's information holds beside texts, key and timeout.
 pub enum Extra {

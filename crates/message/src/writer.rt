@@ -5,9 +5,8 @@ use super::counter::Status;
 use super::counter::control_bytes;
 use super::counter::mode_allowed;
 use super::counter::status_bytes;
-use super::kind::is_listed;
-use super::kind::kind_of;
-use super::kind::may_be_empty;
+use super::reader::Reading;
+use super::reader::read;
 use super::values::Extra;
 use super::values::Message;
 use super::values::Network;
@@ -22,7 +21,7 @@ ghost use mathlib.Core.List.{[], _∷_};
 ghost use Prim.Native.Nat.{_<_, _≤_};
 ghost use lib.ListN.{length};
 ghost use lib.Dec.{eqb, ltb};
-ghost use Rattle.base.specs.Numbers.{two};
+ghost use Rattle.base.specs.Numbers.{two, four};
 ghost use Rattle.base.specs.Outcomes.{outcome};
 ghost use Rattle.frame.specs.Calls.{writeOf};
 ghost use Rattle.frame.specs.Table.{writtenRowOf};
@@ -30,7 +29,7 @@ ghost use Rattle.frame.specs.Wire.{frameLimit};
 ghost use Rattle.message.specs.Numbers.{eight};
 ghost use Rattle.message.specs.Table.{sentRowOf};
 ghost use Rattle.message.specs.Counter.{statusBytes};
-ghost use Rattle.message.specs.Reading.{codeAllowed};
+ghost use Rattle.message.specs.Commands.{codeAllowed};
 ghost use Rattle.message.specs.Writing.{sendOf, sendAs, informationBytes, networkBytes, timeBytes};
 ghost use Rattle.message.specs.declared.values.Message.the-variants as message;
 ghost use Rattle.message.specs.declared.values.Extra.the-variants as extra;
@@ -64,34 +63,41 @@ fn write_frame(command: u8, payload: &[u8], number: u8, flags: u16, out: &mut [u
     passed_on(frame::write(command, number, flags, payload, out))
 }
 
-// A command without payload.
+// A message that takes no lent bytes, where its values are allowed.
+fn write_bare(
+    command: u8,
+    payload: &[u8],
+    allowed: bool,
+    lent: &[u8],
+    number: u8,
+    flags: u16,
+    out: &mut [u8],
+) -> Sent
+    ensures { λ r. ⌜ outcome (sentRowOf r) (now (out .exit))
+        ≡ sendAs frameLimit true (eqb (length (now (lent .entry))) 0) allowed command number flags (now (payload .entry)) (now (out .entry)) ⌝ }
+{
+    if lent.len() != 0 {
+        return Sent::Size;
+    }
+    if allowed {
+        return write_frame(command, payload, number, flags, out);
+    }
+    Sent::Field
+}
+
+// A command without payload, where reading accepts it so.
 fn write_empty(command: u8, lent: &[u8], number: u8, flags: u16, out: &mut [u8]) -> Sent
     ensures { λ r. ⌜ outcome (sentRowOf r) (now (out .exit))
         ≡ sendOf frameLimit (message.Empty command) number flags (now (lent .entry)) (now (out .entry)) ⌝ }
 {
-    let kind = kind_of(command);
-    if !is_listed(kind) {
-        return Sent::Command;
+    let none = [0u8; 0];
+    let reading = read(command, &none);
+    match reading {
+        Reading::Got { .. } => write_bare(command, &none, true, lent, number, flags, out),
+        Reading::Command => Sent::Command,
+        Reading::Size => Sent::Size,
+        Reading::Field => Sent::Field,
     }
-    if lent.len() != 0 {
-        return Sent::Size;
-    }
-    if may_be_empty(kind) {
-        return write_frame(command, lent, number, flags, out);
-    }
-    Sent::Size
-}
-
-// Information without attributes, between the lent texts and key.
-fn write_short(timeout: u16, lent: &[u8], number: u8, flags: u16, out: &mut [u8]) -> Sent
-    ensures { λ r. ⌜ outcome (sentRowOf r) (now (out .exit))
-        ≡ sendOf frameLimit (message.Information timeout extra.Absent) number flags (now (lent .entry)) (now (out .entry)) ⌝ }
-{
-    if lent.len() != 64 {
-        return Sent::Size;
-    }
-    let numbers = [(timeout / 256) as u8, (timeout % 256) as u8];
-    passed_on(frame::write_parts(0x02, number, flags, &lent[..64], &numbers, &lent[64..], out))
 }
 
 // Timeout and attributes.
@@ -114,11 +120,10 @@ fn attribute_bytes(timeout: u16, attributes: u64) -> [u8; 10]
     ]
 }
 
-// Information with attributes, between the lent texts and key and what else is lent.
-fn write_long(
+// Information: its numbers between the lent texts and key and what else is lent.
+fn write_between(
     size: usize,
-    timeout: u16,
-    attributes: u64,
+    numbers: &[u8],
     lent: &[u8],
     number: u8,
     flags: u16,
@@ -126,13 +131,13 @@ fn write_long(
 ) -> Sent
     requires { ⌜ 64 ≤ size ⌝ }
     ensures { λ r. ⌜ outcome (sentRowOf r) (now (out .exit))
-        ≡ sendAs frameLimit true (eqb (length (now (lent .entry))) size) true 2 number flags (informationBytes (two timeout (eight attributes [])) (now (lent .entry))) (now (out .entry)) ⌝ }
+        ≡ sendAs frameLimit true (eqb (length (now (lent .entry))) size) true 2 number flags
+        (informationBytes (now (numbers .entry)) (now (lent .entry))) (now (out .entry)) ⌝ }
 {
     if lent.len() != size {
         return Sent::Size;
     }
-    let numbers = attribute_bytes(timeout, attributes);
-    passed_on(frame::write_parts(0x02, number, flags, &lent[..64], &numbers, &lent[64..], out))
+    passed_on(frame::write_parts(0x02, number, flags, &lent[..64], numbers, &lent[64..], out))
 }
 
 // Information in one of its three sizes.
@@ -148,12 +153,17 @@ fn write_information(
         ≡ sendOf frameLimit (message.Information timeout extra) number flags (now (lent .entry)) (now (out .entry)) ⌝ }
 {
     match extra {
-        Extra::Absent => write_short(timeout, lent, number, flags, out),
+        Extra::Absent => {
+            let numbers = base::two_bytes(timeout);
+            write_between(64, &numbers, lent, number, flags, out)
+        }
         Extra::Attributes { attributes } => {
-            write_long(64, timeout, attributes, lent, number, flags, out)
+            let numbers = attribute_bytes(timeout, attributes);
+            write_between(64, &numbers, lent, number, flags, out)
         }
         Extra::AttributesAndSecret { attributes } => {
-            write_long(96, timeout, attributes, lent, number, flags, out)
+            let numbers = attribute_bytes(timeout, attributes);
+            write_between(96, &numbers, lent, number, flags, out)
         }
     }
 }
@@ -163,14 +173,11 @@ fn write_control(control: Control, lent: &[u8], number: u8, flags: u16, out: &mu
     ensures { λ r. ⌜ outcome (sentRowOf r) (now (out .exit))
         ≡ sendOf frameLimit (message.Control control) number flags (now (lent .entry)) (now (out .entry)) ⌝ }
 {
-    if lent.len() != 0 {
-        return Sent::Size;
-    }
     if mode_allowed(control.flags.mode, control.mode) {
         let bytes = control_bytes(1, control);
-        return write_frame(0x03, &bytes, number, flags, out);
+        return write_bare(0x03, &bytes, true, lent, number, flags, out);
     }
-    Sent::Field
+    write_bare(0x03, lent, false, lent, number, flags, out)
 }
 
 // A message whose payload is one byte, where that byte is allowed.
@@ -186,22 +193,8 @@ fn write_byte(
     ensures { λ r. ⌜ outcome (sentRowOf r) (now (out .exit))
         ≡ sendAs frameLimit true (eqb (length (now (lent .entry))) 0) allowed command number flags (byte ∷ []) (now (out .entry)) ⌝ }
 {
-    if lent.len() != 0 {
-        return Sent::Size;
-    }
-    if allowed {
-        let bytes = [byte];
-        return write_frame(command, &bytes, number, flags, out);
-    }
-    Sent::Field
-}
-
-// The counter asked for its status.
-fn write_query(lent: &[u8], number: u8, flags: u16, out: &mut [u8]) -> Sent
-    ensures { λ r. ⌜ outcome (sentRowOf r) (now (out .exit))
-        ≡ sendOf frameLimit message.Query number flags (now (lent .entry)) (now (out .entry)) ⌝ }
-{
-    write_byte(0x03, 2, true, lent, number, flags, out)
+    let bytes = [byte];
+    write_bare(command, &bytes, allowed, lent, number, flags, out)
 }
 
 // A status, under its command and the payload's first byte.
@@ -217,14 +210,11 @@ fn write_status(
     ensures { λ r. ⌜ outcome (sentRowOf r) (now (out .exit))
         ≡ sendAs frameLimit true (eqb (length (now (lent .entry))) 0) (ltb (status .mode) 3) command number flags (action ∷ statusBytes status) (now (out .entry)) ⌝ }
 {
-    if lent.len() != 0 {
-        return Sent::Size;
-    }
     if 3 <= status.mode {
-        return Sent::Field;
+        return write_bare(command, lent, false, lent, number, flags, out);
     }
     let bytes = status_bytes(action, status);
-    write_frame(command, &bytes, number, flags, out)
+    write_bare(command, &bytes, true, lent, number, flags, out)
 }
 
 // How the module is to be set up.
@@ -255,14 +245,11 @@ fn write_network(network: Network, lent: &[u8], number: u8, flags: u16, out: &mu
     ensures { λ r. ⌜ outcome (sentRowOf r) (now (out .exit))
         ≡ sendOf frameLimit (message.Network network) number flags (now (lent .entry)) (now (out .entry)) ⌝ }
 {
-    if lent.len() != 0 {
-        return Sent::Size;
-    }
     if 8 <= network.strength {
-        return Sent::Field;
+        return write_bare(0x0D, lent, false, lent, number, flags, out);
     }
     let bytes = network_bytes(network);
-    write_frame(0x0D, &bytes, number, flags, out)
+    write_bare(0x0D, &bytes, true, lent, number, flags, out)
 }
 
 // Word that a frame was invalid, from the module or from the box.
@@ -288,21 +275,39 @@ fn time_bytes(time: Time) -> [u8; 7]
     ]
 }
 
+// The time with them.
+fn time_bytes_and(time: Time, seconds: u32) -> [u8; 11]
+    ensures { λ r. ⌜ r ≡ timeBytes time (four seconds []) ⌝ }
+{
+    [
+        (time.year / 256) as u8,
+        (time.year % 256) as u8,
+        time.month,
+        time.day,
+        time.hour,
+        time.minute,
+        time.second,
+        (seconds / 65536 / 256) as u8,
+        (seconds / 65536 % 256) as u8,
+        (seconds % 65536 / 256) as u8,
+        (seconds % 65536 % 256) as u8,
+    ]
+}
+
 // The network's time.
 fn write_time(time: Time, lent: &[u8], number: u8, flags: u16, out: &mut [u8]) -> Sent
     ensures { λ r. ⌜ outcome (sentRowOf r) (now (out .exit))
         ≡ sendOf frameLimit (message.Time time) number flags (now (lent .entry)) (now (out .entry)) ⌝ }
 {
-    if lent.len() != 0 {
-        return Sent::Size;
-    }
     let unix = time.unix;
-    let bytes = time_bytes(time);
     match unix {
-        Unix::Absent => write_frame(0x18, &bytes, number, flags, out),
+        Unix::Absent => {
+            let bytes = time_bytes(time);
+            write_bare(0x18, &bytes, true, lent, number, flags, out)
+        }
         Unix::Seconds { seconds } => {
-            let tail = base::four_bytes(seconds);
-            passed_on(frame::write_parts(0x18, number, flags, &bytes, lent, &tail, out))
+            let bytes = time_bytes_and(time, seconds);
+            write_bare(0x18, &bytes, true, lent, number, flags, out)
         }
     }
 }
@@ -317,7 +322,7 @@ fn write_announcement(size: u32, code: &[u8], number: u8, flags: u16, out: &mut 
         return Sent::Size;
     }
     let size_bytes = base::four_bytes(size);
-    let count_bytes = [(count / 256) as u8, (count % 256) as u8];
+    let count_bytes = base::two_bytes(count as u16);
     passed_on(frame::write_parts(0x19, number, flags, &size_bytes, &count_bytes, code, out))
 }
 
@@ -330,8 +335,8 @@ fn write_ready(piece: u16, code: &[u8], number: u8, flags: u16, out: &mut [u8]) 
     if 65535 < count {
         return Sent::Size;
     }
-    let count_bytes = [(count / 256) as u8, (count % 256) as u8];
-    let size_bytes = [(piece / 256) as u8, (piece % 256) as u8];
+    let count_bytes = base::two_bytes(count as u16);
+    let size_bytes = base::two_bytes(piece);
     passed_on(frame::write_parts(0x1B, number, flags, &count_bytes, code, &size_bytes, out))
 }
 
@@ -340,8 +345,8 @@ fn write_piece(index: u16, total: u16, bytes: &[u8], number: u8, flags: u16, out
     ensures { λ r. ⌜ outcome (sentRowOf r) (now (out .exit))
         ≡ sendOf frameLimit (message.Piece index total) number flags (now (bytes .entry)) (now (out .entry)) ⌝ }
 {
-    let index_bytes = [(index / 256) as u8, (index % 256) as u8];
-    let total_bytes = [(total / 256) as u8, (total % 256) as u8];
+    let index_bytes = base::two_bytes(index);
+    let total_bytes = base::two_bytes(total);
     passed_on(frame::write_parts(0x1D, number, flags, &index_bytes, &total_bytes, bytes, out))
 }
 
@@ -356,7 +361,7 @@ pub fn write(message: Message, lent: &[u8], number: u8, flags: u16, out: &mut [u
             write_information(timeout, extra, lent, number, flags, out)
         }
         Message::Control { control } => write_control(control, lent, number, flags, out),
-        Message::Query => write_query(lent, number, flags, out),
+        Message::Query => write_byte(0x03, 2, true, lent, number, flags, out),
         Message::Status { status } => write_status(0x04, 3, status, lent, number, flags, out),
         Message::Report { status } => write_status(0x05, 4, status, lent, number, flags, out),
         Message::Onboarding { way } => write_onboarding(way, lent, number, flags, out),

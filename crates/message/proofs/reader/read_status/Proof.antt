@@ -15,7 +15,8 @@ status c =
 
 pub read-status-spec : {M : Type 1} → statement M
 read-status-spec = tie.close (tie.spec
-    (λ c. search (sizes, first-none))
+    (search needs)
+    (λ c. search (sizes, first-none, c .no-parts .ensures))
     (search needs)
     (λ c. search sizes)
     (search needs) (search needs) (search needs)

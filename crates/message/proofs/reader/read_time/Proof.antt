@@ -8,8 +8,8 @@ pub read-time-spec : {M : Type 1} → statement M
 read-time-spec =
     tie.close
     (tie.spec
-    (search needs)
-    (λ c. search (sizes, c .before .if1 .taken, c .time-of .ensures))
     (search needs) (search needs)
-    (λ c. search (sizes, c .before .before .if2 .taken, c .time-of2 .ensures, ← (c .before .four-at .ensures)))
+    (λ c. search (sizes, c .no-parts .ensures, c .before .before .if1 .taken, c .before .time-of .ensures))
+    (search needs) (search needs) (search needs)
+    (λ c. search (sizes, c .no-parts2 .ensures, c .before .before .before .if2 .taken, c .before .time-of2 .ensures, ← (c .before .before .four-at .ensures)))
     λ c. search sizes)

@@ -1,4 +1,8 @@
--- `replies::answer_frame` does what is due.
+-- `replies::answer_frame` reads, and answers what was read.
+use mathlib.Core.Path.{ap, _∙_}
+use Rattle.frame.specs.Wire.{frameLimit}
+use Rattle.message.specs.Reading.{Read}
+use Rattle.message.specs.Answers.{answerReadOf}
 use borrow.Author.Needs.{needs}
 use Rattle.message.proofs.replies.answer_frame.Statement.{statement}
 use Rattle.message.proofs.replies.answer_frame.Tie as tie
@@ -7,11 +11,9 @@ pub answer-frame-spec : {M : Type 1} → statement M
 answer-frame-spec =
     tie.close
     (tie.spec
-    (search needs) (search needs) (search needs) (search needs) (search needs) (search needs) (search needs) (search needs) (search needs)
-    (λ c. simp (← c .before .before .due-of .ensures, c .enum-told .given .1))
-    (λ c. simp (← c .before .before .due-of .ensures, c .enum-told2 .given .1))
-    (λ c. simp (← c .before .before .due-of .ensures, c .enum-told3 .given .1))
-    (search needs)
-    (λ c. let d = c .before .before .before .before .before .before in simp (← d .before .before .due-of .ensures, d .due .given .1) (c .before .before .acknowledge .ensures))
-    (search needs)
-    λ c. let d = c .before .before .before .before .before in simp (← d .before .before .due-of .ensures, d .due2 .given .1) (c .before .before .reject .ensures))
+    (search needs) (search needs) (search needs)
+    (λ c.
+    let r = c .before .before .before .before in
+    let s = r .before .before .before .args in
+    c .before .before .answer-reading .ensures
+    ∙ ap (λ (a : Read). answerReadOf frameLimit (s .command) (s .number) (a .row) (s .out .now)) (r .read .ensures)))

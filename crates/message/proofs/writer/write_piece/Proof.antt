@@ -1,15 +1,18 @@
 -- `write_piece` meets its contract: index and total, and what is lent.
+use mathlib.Core.Path.{refl}
+use Rattle.message.specs.Commands.{table, lineIn}
+use Rattle.message.proofs.Sends.{sent, joined}
 use borrow.Author.Needs.{needs}
-use Rattle.message.specs.Commands.{kindIn}
-use Rattle.base.specs.Keys.{among}
-use Rattle.message.proofs.Sends.{onward}
 use Rattle.message.proofs.writer.write_piece.Statement.{statement}
 use Rattle.message.proofs.writer.write_piece.Tie as tie
 
 pub write-piece-spec : {M : Type 1} → statement M
-unfolding kindIn among
+unfolding table lineIn
 write-piece-spec =
     tie.close
     (tie.spec
-    (λ c. search needs) (λ c. search needs) (λ c. search needs) (λ c. search needs) (λ c. search needs) (λ c. search needs) (λ c κs. search needs) (λ c κs. search needs) (λ c. search needs)
-    λ c. onward (c .passed-on .ensures) (c .before .before .before .write-parts .ensures))
+    (search needs) (search needs) (search needs) (search needs) (search needs) (search needs) (search needs)
+    (λ c.
+    let total = c .before .before .before .before .before .before .before in
+    let bytes = joined (total .before .two-bytes .ensures) (joined (total .two-bytes2 .ensures) refl) in
+    sent _ _ _ _ _ refl refl refl bytes (c .passed-on .ensures) (c .before .before .before .write-parts .ensures)))

@@ -1,16 +1,27 @@
 -- `write_ready` meets its contract: the count, what is lent, and the size of a piece.
-use borrow.Author.Needs.{needs}
+use Prim.Native.Nat.{ℕ}
+use mathlib.Core.Path.{refl, ap}
+use mathlib.Core.List.{List, _++_}
+use borrow.Author.Tests.{le-leb}
 use Rattle.base.proofs.Tests.{tests}
-use Rattle.message.specs.Commands.{kindIn}
-use Rattle.base.specs.Keys.{among}
+use Rattle.message.specs.Commands.{table, lineIn}
+use Rattle.message.proofs.Sends.{sent, joined}
+use borrow.Author.Needs.{needs}
 use Rattle.message.proofs.writer.write_ready.Statement.{statement}
 use Rattle.message.proofs.writer.write_ready.Tie as tie
 
 pub write-ready-spec : {M : Type 1} → statement M
-unfolding kindIn among
+unfolding table lineIn
 write-ready-spec =
     tie.close
     (tie.spec
     (λ c. search tests)
-    (λ c. search needs) (λ c. search needs) (λ c. search needs) (λ c. search needs) (λ c. search needs) (λ c. search needs) (λ c κs. search needs) (λ c κs. search needs) (λ c. search needs)
-    λ c. search (tests, c .passed-on .ensures))
+    (search needs) (search needs) (search needs) (search needs) (search needs) (search needs) (search needs)
+    (search needs)
+    (λ c.
+    let size = c .before .before .before .before .before .before .before in
+    let count = size .before in
+    let code = count .before .before .before .before .args .code .now in
+    let bytes = joined (count .two-bytes .ensures) (ap (λ (x : List ℕ). code ++ x) (size .two-bytes2 .ensures)) in
+    sent _ _ _ _ _ refl (le-leb _ _ (count .before .if1 .left)) refl bytes (c .passed-on .ensures)
+    (c .before .before .before .write-parts .ensures)))

@@ -1,0 +1,13 @@
+-- `replies::owed` is what the command's line says.
+use mathlib.Core.Path.{ap}
+use Rattle.message.specs.declared.kind.Line.{Line}
+use borrow.Author.Needs.{needs}
+use Rattle.message.proofs.replies.owed.Statement.{statement}
+use Rattle.message.proofs.replies.owed.Tie as tie
+
+pub owed-spec : {M : Type 1} → statement M
+owed-spec =
+    tie.close
+    (tie.spec
+    (search needs)
+    (λ c. ap (λ (l : Line). l .owed) (c .line-of .ensures)))
