@@ -112,7 +112,7 @@ fn values(m: Message) -> bool {
 
 pub(crate) fn reading(r: Reading) -> bool {
     match r {
-        Reading::Got { message: m } => values(m),
+        Reading::Got { message: m, .. } => values(m),
         Reading::Command => text::text(b"read 31\n"),
         Reading::Size => text::text(b"read 32\n"),
         Reading::Field => text::text(b"read 33\n"),

@@ -5,29 +5,29 @@ use super::messages;
 use super::text;
 use frame::Answer;
 use frame::Reader;
-use message::Extra;
 use message::Message;
-use message::Part;
+use message::Parts;
+use message::Place;
 use message::Reading;
 use message::Reply;
 
-fn part(which: Part, place: u64, command: u8, payload: &[u8]) -> bool {
-    let bytes = message::part_of(which, command, payload);
+fn part(at: u64, place: Place, payload: &[u8]) -> bool {
+    let bytes = message::part(payload, place);
     if bytes.len() == 0 {
         return true;
     }
-    text::line_with(b"part", &[place], bytes)
+    text::line_with(b"part", &[at], bytes)
 }
 
-fn parts(command: u8, payload: &[u8]) -> bool {
-    part(Part::SerialVersion, 0, command, payload)
-        && part(Part::ProtocolVersion, 1, command, payload)
-        && part(Part::HardwareVersion, 2, command, payload)
-        && part(Part::SoftwareVersion, 3, command, payload)
-        && part(Part::ProductKey, 4, command, payload)
-        && part(Part::Secret, 5, command, payload)
-        && part(Part::CheckCode, 6, command, payload)
-        && part(Part::Data, 7, command, payload)
+fn parts(p: Parts, payload: &[u8]) -> bool {
+    part(0, p.serial, payload)
+        && part(1, p.protocol, payload)
+        && part(2, p.hardware, payload)
+        && part(3, p.software, payload)
+        && part(4, p.key, payload)
+        && part(5, p.secret, payload)
+        && part(6, p.code, payload)
+        && part(7, p.piece, payload)
 }
 
 // A byte of one piece and another behind it, or 0 behind both.
@@ -53,53 +53,48 @@ fn sent(m: Message, lent: &[u8], number: u8, flags: u16) -> bool {
     messages::sent(s, &out) && text::text(b"\n")
 }
 
-fn information(m: Message, extra: Extra, payload: &[u8], number: u8, flags: u16) -> bool {
+fn information(m: Message, p: Parts, payload: &[u8], number: u8, flags: u16) -> bool {
+    let secret = p.secret;
     let texts = base::part(payload, 0, 64);
-    match extra {
-        Extra::Absent => sent(m, texts, number, flags),
-        Extra::Attributes { .. } => sent(m, texts, number, flags),
-        Extra::AttributesAndSecret { .. } => {
-            let mut lent = [0u8; 96];
-            join(texts, message::part_of(Part::Secret, 2, payload), &mut lent);
-            sent(m, &lent, number, flags)
-        }
+    if secret.size == 0 {
+        return sent(m, texts, number, flags);
     }
+    let mut lent = [0u8; 96];
+    join(texts, message::part(payload, secret), &mut lent);
+    sent(m, &lent, number, flags)
 }
 
 // The message that was read, written again: what was handed out of the payload is lent.
-fn again(m: Message, command: u8, payload: &[u8], number: u8, flags: u16) -> bool {
-    let code = message::part_of(Part::CheckCode, command, payload);
+fn again(m: Message, p: Parts, payload: &[u8], number: u8, flags: u16) -> bool {
     match m {
-        Message::Information { timeout: _, extra } => information(m, extra, payload, number, flags),
-        Message::Announcement { .. } => sent(m, code, number, flags),
-        Message::Ready { .. } => sent(m, code, number, flags),
-        Message::Piece { .. } => sent(
-            m,
-            message::part_of(Part::Data, command, payload),
-            number,
-            flags,
-        ),
-        _ => sent(m, &payload[..0], number, flags),
+        Message::Information { .. } => information(m, p, payload, number, flags),
+        Message::Announcement { .. } => sent(m, message::part(payload, p.code), number, flags),
+        Message::Ready { .. } => sent(m, message::part(payload, p.code), number, flags),
+        Message::Piece { .. } => sent(m, message::part(payload, p.piece), number, flags),
+        _ => sent(m, base::part(payload, 0, 0), number, flags),
     }
 }
 
-fn received(body: &[u8]) -> bool {
+// A frame is read once: its lines, and the box's answer, come of that reading.
+fn received(body: &[u8], out: &mut [u8]) -> bool {
     let command = frame::command(body);
     let number = frame::number(body);
     let flags = frame::flags(body);
     let payload = frame::payload(body);
     let size = payload.len() as u64;
     let r = message::read(command, payload);
-    let shown = text::line(
+    let mut shown = text::line(
         b"frame",
         &[command as u64, number as u64, flags as u64, size],
     )
-        && messages::reading(r)
-        && parts(command, payload);
-    match r {
-        Reading::Got { message: m } => shown && again(m, command, payload, number, flags),
-        _ => shown,
+        && messages::reading(r);
+    if let Reading::Got {
+        message: m,
+        parts: p,
+    } = r {
+        shown = shown && parts(p, payload) && again(m, p, payload, number, flags);
     }
+    shown && replied(message::answer_reading(command, number, r, out), out)
 }
 
 fn replied(r: Reply, out: &[u8]) -> bool {
@@ -116,13 +111,15 @@ fn unless_nothing(r: Reply, out: &[u8]) -> bool {
 
 fn decided(answer: Answer, body: &[u8]) -> bool {
     let mut out = [0u8; 16];
-    let r = message::answer(answer, body, &mut out);
     let row = frames::row_of(answer);
     let number = row.number;
     match number {
-        1 => received(body) && replied(r, &out),
-        15 => text::line(b"sum", &[frame::number(body) as u64]) && replied(r, &out),
-        _ => unless_nothing(r, &out),
+        1 => received(body, &mut out),
+        15 => {
+            text::line(b"sum", &[frame::number(body) as u64])
+                && replied(message::answer(answer, body, &mut out), &out)
+        }
+        _ => unless_nothing(message::answer(answer, body, &mut out), &out),
     }
 }
 
