@@ -2,7 +2,7 @@
 use Prim.Native.Nat.{ℕ, _+_, _-_, _≤_}
 use mathlib.Core.Path.{_≡_, refl, sym, ap, _∙_}
 use mathlib.Core.Bool.{true, false, cond, true≢false}
-use mathlib.Core.List.{List, [], _∷_, _++_, cons≢nil, tail-eq-of-cons-eq}
+use mathlib.Core.List.{List, [], _∷_, cons≢nil, tail-eq-of-cons-eq}
 use native.Mathlib.Omega.{arith}
 use borrow.Author.Tests.{eqb-true, eqb-false}
 use lib.Dec.{eqb, eqb·suc-zero}
@@ -13,8 +13,8 @@ use Rattle.base.specs.Keys.{among}
 use Rattle.message.specs.Commands.{kindOf, table, lineIn, fits, sizeFits, valuesOf, partsIn}
 use Rattle.message.specs.Counter.{controlValues, controlAllowed, controlIn}
 use Rattle.message.specs.Parts.{place, nowhere, bytesOf, bytesIn}
-use Rattle.message.specs.Writing.{commandIn, messageIn}
-use Rattle.message.specs.Claims.{effective, lentOf, lentParts, Decodes}
+use Rattle.message.specs.Writing.{commandIn, messageIn, readIn}
+use Rattle.message.specs.Claims.{lentOf, lentParts, Decodes}
 use Rattle.message.specs.declared.counter.Control.{Control}
 use Rattle.message.specs.declared.kind.Kind.{Kind}
 use Rattle.message.specs.declared.kind.Kind.the-variants as kind
@@ -88,7 +88,7 @@ module _ (p : List ℕ) (s : Sized (length p)) where
 
 -- only a control has values that may be ignored, and each part is lent
 record Same (p : List ℕ) (m : Message) : Type 0 where
-  values : messageIn (effective m) ≡ messageIn m
+  values : readIn m ≡ messageIn m
   parts : bytesIn (partsIn (kindOf (commandIn m)) p) p ≡ lentParts (commandIn m) (lentOf (commandIn m) p)
 
 same : (p : List ℕ) (m : Message) → Accepted (kindOf (commandIn m)) (commandIn m) p (messageIn m) → Same p m

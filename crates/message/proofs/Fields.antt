@@ -11,8 +11,7 @@ use Rattle.message.specs.Numbers.{num, bit, bits}
 use Rattle.base.specs.Numbers.{twoAt}
 use Rattle.message.specs.Counter.{statusValues, statusAllowed, statusIn, statusBytes, controlValues, controlAllowed, controlIn, controlBytes, modeAllowed}
 use Rattle.message.specs.Commands.{networkValues}
-use Rattle.message.specs.Writing.{networkIn, networkBytes}
-use Rattle.message.specs.Claims.{effectiveControl}
+use Rattle.message.specs.Writing.{networkIn, networkBytes, effectiveControl}
 use Rattle.message.specs.declared.counter.Status.{Status}
 use Rattle.message.specs.declared.counter.Control.{Control}
 use Rattle.message.specs.declared.values.Network.{Network}

@@ -1,14 +1,13 @@
 -- What is read may be written, as both allow the same values and sizes, and is then read as the same. Assumes nothing.
 use Prim.Native.Nat.{ℕ, _+_, _-_, _*_, _<_, _≤_, min}
 use mathlib.Core.Path.{_≡_, refl, sym, ap, _∙_}
-use mathlib.Core.Bool.{Bool, true, false, cond, true≢false}
+use mathlib.Core.Bool.{Bool, true, false, cond}
 use mathlib.Core.List.{List, [], _∷_, cons≢nil, tail-eq-of-cons-eq}
 use native.Mathlib.Omega.{arith}
 use borrow.Author.Tests.{lt-ltb, ltb-true, eqb-true, eq-eqb, le-leb}
-use lib.Dec.{eqb, ltb, eqb·suc-zero}
+use lib.Dec.{eqb, ltb}
 use lib.ListN.{length, getD, take, drop, length-append, length-take, length-drop}
-use lib.Seq.{take-nil, drop-nil}
-use Rattle.base.proofs.Tests.{both, cond-same}
+use Rattle.base.proofs.Tests.{both}
 use Rattle.message.specs.Numbers.{num}
 use Rattle.base.specs.Numbers.{twoAt}
 use Rattle.message.specs.Commands.{kindOf, table, lineIn, sizeFits, fits}
@@ -18,8 +17,6 @@ use Rattle.message.specs.Writing.{commandIn, messageIn}
 use Rattle.message.specs.Claims.{Writable, lentOf, ReadWritten, ReadsWritten}
 use Rattle.message.specs.declared.counter.Status.{Status}
 use Rattle.message.specs.declared.counter.Control.{Control}
-use Rattle.message.specs.declared.kind.Kind.{Kind}
-use Rattle.message.specs.declared.kind.Kind.the-variants as kind
 use Rattle.message.specs.declared.values.Extra.the-variants as extra
 use Rattle.message.specs.declared.values.Message.{Message}
 use Rattle.message.specs.declared.values.Message.the-variants as message

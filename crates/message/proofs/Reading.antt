@@ -9,11 +9,11 @@ use lib.Dec.{eqb, leb, leb·zero, leb·suc-suc, eqb·suc-zero}
 use Rattle.base.proofs.Keys.{among-none, among-next}
 use Rattle.base.proofs.Tests.{tests}
 use Rattle.base.specs.Numbers.{twoAt}
-use Rattle.message.specs.Commands.{exactly, from, counted, fits, sizesOf, chosenOf, sizeFits, isListed, allowed, valuesOf, partsIn, kindOf}
+use Rattle.message.specs.Commands.{exactly, from, counted, fits, sizesOf, chosenOf, sizeFits, isListed, allowed, valuesOf, partsIn, kindOf, lineOf}
 use Rattle.base.specs.Keys.{among}
 use Rattle.message.specs.Reading.{Read, judgedOf, decodeAs, decodeOf}
 use Rattle.message.specs.declared.kind.Kind.{Kind}
-use Rattle.message.specs.declared.parts.Parts.{Parts}
+use Rattle.message.specs.declared.kind.Line.{Line}
 use Rattle.message.proofs.Lines.{soleOf, only}
 use Rattle.message.proofs.Tests.{and-true}
 
@@ -82,13 +82,16 @@ chosen k command n p a values f listed size layout allows e =
 
 -- ---- a command's line
 
-module _ (k : Kind) {kind : Kind} {r : Read} (command : ℕ) (p : List ℕ) (of : kind ≡ kindOf command) (told : kind ≡ k) where
+module _ (k : Kind) {line : Line} (command : ℕ) (p : List ℕ) (of : line ≡ lineOf command) (told : line .kind ≡ k) where
+  is : kindOf command ≡ k
+  is = ap (λ (l : Line). l .kind) (sym of) ∙ told
+
   -- a payload is read as the command's line reads it
-  pub read-kind : r ≡ decodeAs k command p → r ≡ decodeOf command p
-  read-kind e = rw (← of, told) e
+  pub read-kind : {r : Read} → r ≡ decodeAs k command p → r ≡ decodeOf command p
+  read-kind e = e ∙ ap (λ (k : Kind). decodeAs k command p) (sym is)
 
   -- a line that has one command reads as that one
-  pub read-line : (n : ℕ) → soleOf k command ≡ n → r ≡ decodeAs k n p → r ≡ decodeOf command p
-  read-line n one e = read-kind (rw (only command k n one (sym of ∙ told)) e)
+  pub read-line : {r : Read} (n : ℕ) → soleOf k command ≡ n → r ≡ decodeAs k n p → r ≡ decodeOf command p
+  read-line n one e = read-kind (rw (only command k n one is) e)
 
 pub ruleset lines = (read-kind, read-line)

@@ -1,7 +1,7 @@
 -- Each part that reading gives lies in its payload, by the sizes that reading accepts, and is handed out whole. Assumes nothing.
 use Prim.Native.Nat.{ℕ, _+_, _≤_, min}
-use mathlib.Core.Path.{_≡_, refl}
-use mathlib.Core.Bool.{true, cond}
+use mathlib.Core.Path.{_≡_}
+use mathlib.Core.Bool.{true}
 use mathlib.Core.List.{List, [], _∷_}
 use native.Mathlib.Omega.{arith}
 use borrow.Author.Tests.{eqb-true, leb-true}
@@ -12,14 +12,13 @@ use Rattle.base.proofs.Tests.{by-test, both}
 use Rattle.base.proofs.Keys.{among-holds}
 use Rattle.message.proofs.Lines.{by-kind}
 use Rattle.base.specs.Keys.{among}
-use Rattle.message.specs.Commands.{isListed, sizesOf, chosenOf, fits, sizeFits, allowed, partsIn, kindOf}
+use Rattle.message.specs.Commands.{isListed, sizesOf, fits, sizeFits, allowed, partsIn, kindOf}
 use Rattle.message.specs.Reading.{Read}
 use Rattle.message.specs.Parts.{textsAnd, EachPlace, PartAt}
 use Rattle.message.specs.Claims.{PartsWithin, HandedOut, WholePart}
 use Rattle.message.specs.declared.kind.Kind.{Kind}
 use Rattle.message.specs.declared.kind.Kind.the-variants as kind
 use Rattle.message.specs.declared.parts.Place.{Place}
-use Rattle.message.specs.declared.parts.Parts.{Parts}
 
 abbrev Within : List ℕ → Place → Type 0
 Within p s = s .start + s .size ≤ length p

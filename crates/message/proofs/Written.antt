@@ -14,8 +14,8 @@ use Rattle.message.specs.Commands.{kindOf, table, lineIn, isListed, size
 use Rattle.message.specs.Parts.{noParts, bytesIn}
 use Rattle.message.specs.Reading.{Read, got, refusal, decodeAs}
 use Rattle.base.specs.Keys.{among}
-use Rattle.message.specs.Writing.{commandIn, messageIn, payloadIn, unixIn, timeBytes, unixBytes}
-use Rattle.message.specs.Claims.{Writable, WrittenRead, effective, lentParts}
+use Rattle.message.specs.Writing.{commandIn, messageIn, readIn, payloadIn, unixIn, timeBytes, unixBytes}
+use Rattle.message.specs.Claims.{Writable, WrittenRead, lentParts}
 use Rattle.message.specs.declared.kind.Kind.{Kind}
 use Rattle.message.specs.declared.kind.Kind.the-variants as kind
 use Rattle.message.specs.declared.parts.Parts.{Parts}
@@ -77,7 +77,7 @@ plain :
 plain l s parts a v = record { values = record { listed = l; sized = s; allows = a; values = v }; parts = parts }
 
 back : (m : Message) (lent : List ℕ) → Writable m lent
-    → Back (kindOf (commandIn m)) (commandIn m) (payloadIn m lent) (messageIn (effective m)) lent
+    → Back (kindOf (commandIn m)) (commandIn m) (payloadIn m lent) (readIn m) lent
 unfolding table lineIn among sizeFits fits
 back (message.Empty c) lent w =
     let size = both (eqb (length lent) 0) (w .sized) in

@@ -20,9 +20,8 @@ use Rattle.message.specs.Commands.{CommandLine, table, kindOf, isListed,
 use Rattle.message.specs.Table.{readingOf, sentRowOf, replyRowOf}
 use Rattle.message.specs.Reading.{readOf, partsOf}
 use Rattle.message.specs.Parts.{EachPlace, bytesIn, PartAt}
-use Rattle.message.specs.Writing.{commandIn, messageIn, payloadIn, lentFits, allowedIn, sendOf}
+use Rattle.message.specs.Writing.{commandIn, messageIn, readIn, payloadIn, lentFits, allowedIn, sendOf}
 use Rattle.message.specs.Answers.{dueOf}
-use Rattle.message.specs.declared.counter.Control.{Control}
 use Rattle.message.specs.declared.values.Message.{Message}
 use Rattle.message.specs.declared.values.Message.the-variants as message
 use Rattle.message.specs.declared.parts.Place.{Place}
@@ -106,33 +105,6 @@ pub record Writable (m : Message) (lent : List ℕ) : Type 0 where
   pub sized : lentFits m (length lent) ≡ true
   pub allows : allowedIn m ≡ true
 
--- "A value whose flag is 0 is ignored when read and written as 0."
-abbrev pub effectiveControl : Control → Control
-effectiveControl c =
-    record {
-      flags = c .flags;
-      lamp = c .flags .lamp && c .lamp;
-      mode = num (c .flags .mode) * c .mode;
-      volume = num (c .flags .volume) * c .volume;
-    }
-
--- a message without the values that are ignored
-abbrev pub effective : Message → Message
-effective (message.Empty command) = message.Empty command
-effective (message.Information timeout more) = message.Information timeout more
-effective (message.Control control) = message.Control (effectiveControl control)
-effective message.Query = message.Query
-effective (message.Status status) = message.Status status
-effective (message.Report status) = message.Report status
-effective (message.Onboarding way) = message.Onboarding way
-effective (message.Network network) = message.Network network
-effective (message.ModuleReject code) = message.ModuleReject code
-effective (message.BoxReject code) = message.BoxReject code
-effective (message.Time time) = message.Time time
-effective (message.Announcement size) = message.Announcement size
-effective (message.Ready piece) = message.Ready piece
-effective (message.Piece index total) = message.Piece index total
-
 -- the parts of the lent bytes that a reader of the message is to find
 abbrev pub lentParts : ℕ → List ℕ → List (List ℕ)
 lentParts command lent =
@@ -144,7 +116,7 @@ lentParts command lent =
 
 -- a command and a payload are this message, with these parts
 pub record Decodes (m : Message) (lent : List ℕ) (command : ℕ) (p : List ℕ) : Type 0 where
-  pub message : readOf command p ≡ row 0 (messageIn (effective m))
+  pub message : readOf command p ≡ row 0 (readIn m)
   pub parts : bytesIn (partsOf command p) p ≡ lentParts (commandIn m) lent
 
 -- of every message

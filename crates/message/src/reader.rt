@@ -6,6 +6,7 @@ use super::counter::control_of;
 use super::counter::status_allowed;
 use super::counter::status_of;
 use super::kind::Kind;
+use super::kind::Line;
 use super::kind::line_of;
 use super::parts::Parts;
 use super::parts::no_parts;
@@ -19,7 +20,7 @@ use super::values::Unix;
 use super::values::code_allowed;
 use super::values::way_allowed;
 ghost use mathlib.Core.Path.{_≡_};
-ghost use Rattle.message.specs.Commands.{kindOf, networkValues, timeValues};
+ghost use Rattle.message.specs.Commands.{lineOf, networkValues, timeValues};
 ghost use Rattle.message.specs.Parts.{noParts};
 ghost use Rattle.message.specs.Reading.{judgedOf, decodeAs, decodeOf};
 ghost use Rattle.message.specs.Writing.{messageIn, networkIn, timeIn, unixIn};
@@ -302,11 +303,12 @@ fn read_empty(command: u8, payload: &[u8]) -> Reading
     judged(payload.len() == 0, true, Message::Empty { command })
 }
 
-// A payload read as its command's kind says.
-fn read_as(kind: Kind, command: u8, payload: &[u8]) -> Reading
-    requires { ⌜ kind ≡ kindOf command ⌝ }
+// A payload read as its command's line says.
+fn read_as(line: Line, command: u8, payload: &[u8]) -> Reading
+    requires { ⌜ line ≡ lineOf command ⌝ }
     ensures { λ r. ⌜ readingOf r ≡ decodeOf command (now (payload .entry)) ⌝ }
 {
+    let kind = line.kind;
     match kind {
         Kind::Unlisted => Reading::Command,
         Kind::Empty => read_empty(command, payload),
@@ -329,7 +331,5 @@ fn read_as(kind: Kind, command: u8, payload: &[u8]) -> Reading
 pub fn read(command: u8, payload: &[u8]) -> Reading
     ensures { λ r. ⌜ readingOf r ≡ decodeOf command (now (payload .entry)) ⌝ }
 {
-    let line = line_of(command);
-    let kind = line.kind;
-    read_as(kind, command, payload)
+    read_as(line_of(command), command, payload)
 }
