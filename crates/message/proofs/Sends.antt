@@ -1,6 +1,6 @@
 -- A message that is written: its tests passed, and its payload from the parts that the frame writer is handed. Assumes nothing.
 use Prim.Native.Nat.{ℕ, _-_}
-use mathlib.Core.Path.{_≡_, sym, ap, _∙_}
+use mathlib.Core.Path.{_≡_, refl, sym, ap, _∙_}
 use mathlib.Core.Bool.{Bool, true, false, cond, _&&_}
 use mathlib.Core.List.{List, [], _∷_, _++_, cons≢nil}
 use native.Mathlib.Omega.{arith}
@@ -56,7 +56,14 @@ pub arm :
     → w ≡ sendOf limit m number flags lent out → w ≡ sendOf limit message number flags lent out
 arm m limit number flags lent out told e = e ∙ ap (λ (x : Message). sendOf limit x number flags lent out) (sym told)
 
-pub ruleset arms = (arm)
+-- a message whose byte was tested
+pub tested :
+    (command number flags : ℕ) (lent out : List ℕ) (bytes : List ℕ) {a b : Bool} {w : Write} → a ≡ b
+    → w ≡ sendAs frameLimit true (eqb (length lent) 0) a command number flags bytes out
+    → w ≡ sendAs frameLimit true (eqb (length lent) 0) b command number flags bytes out
+tested command number flags lent out bytes q e = let same : bytes ≡ bytes = refl in bare command number flags lent out same q e
+
+pub ruleset arms = (arm, tested)
 
 -- ---- no payload, by what reading says of it
 

@@ -29,7 +29,6 @@ ghost use Rattle.frame.specs.Wire.{frameLimit};
 ghost use Rattle.message.specs.Numbers.{eight};
 ghost use Rattle.message.specs.Table.{sentRowOf};
 ghost use Rattle.message.specs.Counter.{statusBytes};
-ghost use Rattle.message.specs.Commands.{codeAllowed};
 ghost use Rattle.message.specs.Writing.{sendOf, sendAs, informationBytes, networkBytes, timeBytes};
 ghost use Rattle.message.specs.declared.values.Message.the-variants as message;
 ghost use Rattle.message.specs.declared.values.Extra.the-variants as extra;
@@ -217,14 +216,6 @@ fn write_status(
     write_bare(command, &bytes, true, lent, number, flags, out)
 }
 
-// How the module is to be set up.
-fn write_onboarding(way: u8, lent: &[u8], number: u8, flags: u16, out: &mut [u8]) -> Sent
-    ensures { λ r. ⌜ outcome (sentRowOf r) (now (out .exit))
-        ≡ sendOf frameLimit (message.Onboarding way) number flags (now (lent .entry)) (now (out .entry)) ⌝ }
-{
-    write_byte(0x09, way, way_allowed(way), lent, number, flags, out)
-}
-
 // The bits of the module's state; the reserved ones are 0.
 fn network_bytes(network: Network) -> [u8; 2]
     requires { ⌜ network .strength < 8 ⌝ }
@@ -250,14 +241,6 @@ fn write_network(network: Network, lent: &[u8], number: u8, flags: u16, out: &mu
     }
     let bytes = network_bytes(network);
     write_bare(0x0D, &bytes, true, lent, number, flags, out)
-}
-
-// Word that a frame was invalid, from the module or from the box.
-fn write_reject(command: u8, code: u8, lent: &[u8], number: u8, flags: u16, out: &mut [u8]) -> Sent
-    ensures { λ r. ⌜ outcome (sentRowOf r) (now (out .exit))
-        ≡ sendAs frameLimit true (eqb (length (now (lent .entry))) 0) (codeAllowed code) command number flags (code ∷ []) (now (out .entry)) ⌝ }
-{
-    write_byte(command, code, code_allowed(code), lent, number, flags, out)
 }
 
 // The time without the seconds since 1970.
@@ -364,10 +347,16 @@ pub fn write(message: Message, lent: &[u8], number: u8, flags: u16, out: &mut [u
         Message::Query => write_byte(0x03, 2, true, lent, number, flags, out),
         Message::Status { status } => write_status(0x04, 3, status, lent, number, flags, out),
         Message::Report { status } => write_status(0x05, 4, status, lent, number, flags, out),
-        Message::Onboarding { way } => write_onboarding(way, lent, number, flags, out),
+        Message::Onboarding { way } => {
+            write_byte(0x09, way, way_allowed(way), lent, number, flags, out)
+        }
         Message::Network { network } => write_network(network, lent, number, flags, out),
-        Message::ModuleReject { code } => write_reject(0x11, code, lent, number, flags, out),
-        Message::BoxReject { code } => write_reject(0x12, code, lent, number, flags, out),
+        Message::ModuleReject { code } => {
+            write_byte(0x11, code, code_allowed(code), lent, number, flags, out)
+        }
+        Message::BoxReject { code } => {
+            write_byte(0x12, code, code_allowed(code), lent, number, flags, out)
+        }
         Message::Time { time } => write_time(time, lent, number, flags, out),
         Message::Announcement { size } => write_announcement(size, lent, number, flags, out),
         Message::Ready { piece } => write_ready(piece, lent, number, flags, out),
