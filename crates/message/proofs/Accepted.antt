@@ -25,7 +25,8 @@ module _ {k : Kind} {command : ℕ} {p vs : List ℕ} where
 
   pub accepted : decodeAs k command p .row ≡ row 0 vs → Accepted k command p vs
   accepted e =
-      let t = passed (λ (r : Read). r .row) refusal (λ n. refl) (isListed k) (sizeFits k p) (allowed k p) (got (command ∷ valuesOf k p) (partsIn k p)) e in
+      let t = passed (λ (r : Read). r .row) refusal (λ n. refl) (isListed k) (sizeFits k p) (allowed k p)
+      (got (command ∷ valuesOf k p) (partsIn k p)) e in
       record { listed = t .0; sized = t .1; allows = t .2; values = ap (λ (r : Read). r .row .values) (sym (t .3)) ∙ ap (λ (r : Row). r .values) e }
 
 -- ---- what was written, with some lent bytes

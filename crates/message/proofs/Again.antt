@@ -1,4 +1,5 @@
--- A payload that is read is its message, with the lent bytes that lie in it: nothing is left to ignore, and each part is lent. Assumes nothing.
+-- A payload that is read is its message, with the lent bytes that lie in it: nothing is left to ignore, and each part
+-- is lent. Assumes nothing.
 use Prim.Native.Nat.{ℕ, _+_, _-_, _≤_}
 use mathlib.Core.Path.{_≡_, refl, sym, ap, _∙_}
 use mathlib.Core.Bool.{true, false, cond, true≢false}
@@ -42,8 +43,10 @@ empty-payload =
     by-kind (λ k. (p : List ℕ) → sizeFits k p ≡ true → valuesOf k p ≡ [] → p ≡ [])
     (λ p h e. absurd (true≢false (sym h))) (λ p h e. zero-length p (λ q. true≢false (sym (rw q at h))))
     (λ p h e. absurd (cons≢nil e)) (λ p h e. absurd (cons≢nil e)) (λ p h e. zero-length p (λ q. cons≢nil (rw q at e)))
-    (λ p h e. absurd (cons≢nil e)) (λ p h e. absurd (cons≢nil e)) (λ p h e. absurd (cons≢nil e)) (λ p h e. absurd (cons≢nil e))
-    (λ p h e. absurd (cons≢nil e)) (λ p h e. absurd (cons≢nil e)) (λ p h e. absurd (cons≢nil e)) (λ p h e. absurd (cons≢nil e))
+    (λ p h e. absurd (cons≢nil e)) (λ p h e. absurd (cons≢nil e)) (λ p h e. absurd (cons≢nil e))
+    (λ p h e. absurd (cons≢nil e))
+    (λ p h e. absurd (cons≢nil e)) (λ p h e. absurd (cons≢nil e)) (λ p h e. absurd (cons≢nil e))
+    (λ p h e. absurd (cons≢nil e))
     (λ p h e. absurd (cons≢nil e))
 
 pub lent-none : (c : ℕ) → lentOf c [] ≡ []
@@ -57,7 +60,8 @@ pub control-read :
     → (controlAllowed (drop 1 p) ≡ true) × (controlValues (drop 1 p) ≡ controlIn c)
 control-read p c a =
     let first : getD p 0 0 ≡ 1 = value 1 (a .values) in
-    let values : cond (eqb (getD p 0 0) 1) (controlValues (drop 1 p)) [] ≡ controlIn c = ap (λ (l : List ℕ). drop 2 l) (a .values) in
+    let values : cond (eqb (getD p 0 0) 1) (controlValues (drop 1 p)) [] ≡ controlIn c = ap (λ (l : List ℕ). drop 2 l)
+    (a .values) in
     (rw first at (a .allows), rw first at values)
 
 -- ---- parts of device information
@@ -69,7 +73,8 @@ record Sized (n : ℕ) : Type 0 where
   most : n ≤ 106
 
 module _ (p : List ℕ) (s : Sized (length p)) where
-  text : (start count : ℕ) → start + count ≤ 64 → bytesOf (place start count) p ≡ take count (drop start (lentOf 0x02 p))
+  text : (start count : ℕ) → start + count ≤ 64 → bytesOf (place start count) p ≡ take count
+      (drop start (lentOf 0x02 p))
   text start count h = sym (in-front p (drop 74 p) 64 start count h (omega arith))
 
   -- all bytes behind the numbers are lent
@@ -113,7 +118,8 @@ same p (message.ModuleReject code) a = record { values = refl; parts = refl }
 same p (message.BoxReject code) a = record { values = refl; parts = refl }
 same p (message.Time time) a = record { values = refl; parts = refl }
 same p (message.Announcement size) a =
-    let counted : length p ≡ 4 + 2 + twoAt p 4 + 0 = eqb-true _ _ (both (eqb (length p) (4 + 2 + twoAt p 4 + 0)) (a .sized) .0) in
+    let counted : length p ≡ 4 + 2 + twoAt p 4 + 0 = eqb-true _ _
+    (both (eqb (length p) (4 + 2 + twoAt p 4 + 0)) (a .sized) .0) in
     record {
       values = refl;
       parts = ap (λ (l : List ℕ). alone l []) (take-all (twoAt p 4) (drop 6 p) (omega (arith, length-drop 6 p)));

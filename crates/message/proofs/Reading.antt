@@ -1,4 +1,5 @@
--- Laws of reading: a payload's size as tests of its length, a message that is got, and a command's line that reads a payload.
+-- Laws of reading: a payload's size as tests of its length, a message that is got, and a command's line that reads a
+-- payload.
 use Prim.Native.Nat.{ℕ, zero, suc, _+_}
 use mathlib.Core.Path.{_≡_, refl, sym, ap, _∙_}
 use mathlib.Core.Bool.{Bool, true, false, cond, not, _&&_}
@@ -9,7 +10,8 @@ use lib.Dec.{eqb, leb, leb·zero, leb·suc-suc, eqb·suc-zero}
 use Rattle.base.proofs.Keys.{among-none, among-next}
 use Rattle.base.proofs.Tests.{tests}
 use Rattle.base.specs.Numbers.{twoAt}
-use Rattle.message.specs.Commands.{exactly, from, counted, fits, sizesOf, chosenOf, sizeFits, isListed, allowed, valuesOf, partsIn, kindOf, lineOf}
+use Rattle.message.specs.Commands.{exactly, from, counted, fits, sizesOf, chosenOf, sizeFits, isListed, allowed}
+use Rattle.message.specs.Commands.{valuesOf, partsIn, kindOf, lineOf}
 use Rattle.base.specs.Keys.{among}
 use Rattle.message.specs.Reading.{Read, judgedOf, decodeAs, decodeOf}
 use Rattle.message.specs.declared.kind.Kind.{Kind}
@@ -39,7 +41,8 @@ pub fits-some : (p : List ℕ) → fits (from 1) p ≡ not (eqb (length p) 0)
 unfolding fits
 fits-some p = nonempty (length p)
 
-pub fits-counted : (before behind : ℕ) (p : List ℕ) → fits (counted before behind) p ≡ eqb (length p) (before + 2 + behind + twoAt p before)
+pub fits-counted : (before behind : ℕ) (p : List ℕ)
+    → fits (counted before behind) p ≡ eqb (length p) (before + 2 + behind + twoAt p before)
 unfolding fits
 fits-counted before behind p = ap (eqb (length p)) (omega arith)
 
@@ -48,7 +51,8 @@ unfolding sizeFits
 size-fits k p = refl
 
 -- with these `search` takes what the tests on the way told into a kind's sizes, and so into `decodeAs`
-pub ruleset sizes = (size-fits, fits-any, fits-some, fits-from, fits-exactly, fits-counted, among-none, among-next, tests)
+pub ruleset sizes =
+    (size-fits, fits-any, fits-some, fits-from, fits-exactly, fits-counted, among-none, among-next, tests)
 
 -- the first byte of a payload that has none counts 0
 pub first-none : (p : List ℕ) → length p ≡ 0 → getD p 0 0 ≡ 0
@@ -67,7 +71,8 @@ module _ (k : Kind) (p : List ℕ) (any : chosenOf k (getD p 0 0) ≡ from 0) wh
   pub sized-from : (n : ℕ) → sizesOf k ≡ from n → leb n (length p) ≡ sizeFits k p
   sized-from n e = sym (simp (size-fits, any, e, fits-any, fits-from, and-true))
 
-  pub sized-counted : (before behind : ℕ) → sizesOf k ≡ counted before behind → eqb (length p) (before + 2 + behind + twoAt p before) ≡ sizeFits k p
+  pub sized-counted : (before behind : ℕ) → sizesOf k ≡ counted before behind
+      → eqb (length p) (before + 2 + behind + twoAt p before) ≡ sizeFits k p
   sized-counted before behind e = sym (simp (size-fits, any, e, fits-any, fits-counted, and-true))
 
 -- ---- a layout that the first byte chooses
@@ -75,7 +80,8 @@ module _ (k : Kind) (p : List ℕ) (any : chosenOf k (getD p 0 0) ≡ from 0) wh
 -- a payload of one of its line's sizes is judged by the size of that layout
 pub chosen : (k : Kind) (command n : ℕ) (p : List ℕ) {r : Read} (a : Bool) (values : List ℕ)
     → r ≡ judgedOf (eqb (length p) n) a (command ∷ values) (partsIn k p)
-    → isListed k ≡ true → fits (sizesOf k) p ≡ true → chosenOf k (getD p 0 0) ≡ exactly (n ∷ []) → a ≡ allowed k p → values ≡ valuesOf k p
+    → isListed k ≡ true → fits (sizesOf k) p ≡ true → chosenOf k (getD p 0 0) ≡ exactly (n ∷ []) → a ≡ allowed k p
+    → values ≡ valuesOf k p
     → r ≡ decodeAs k command p
 chosen k command n p a values f listed size layout allows e =
     f ∙ simp (listed, size-fits, size, layout, fits-exactly, among-next, among-none, whole, allows, e)

@@ -1,4 +1,5 @@
--- A message can be read back from its values, and an answer from its line of the table, so no two have the same. Assumes nothing.
+-- A message can be read back from its values, and an answer from its line of the table, so no two have the same.
+-- Assumes nothing.
 use Prim.Native.Nat.{ℕ}
 use mathlib.Core.Path.{_≡_, refl, ap}
 use mathlib.Core.Bool.{Bool, true, false, cond}
@@ -88,7 +89,8 @@ network-back : (n : Network) → networkFrom (networkIn n) ≡ n
 network-back n = simp flag-back
 
 abbrev extraFrom : ℕ → ℕ → Extra
-extraFrom size attributes = cond (eqb size 66) extra.Absent (cond (eqb size 74) (extra.Attributes attributes) (extra.AttributesAndSecret attributes))
+extraFrom size attributes = cond (eqb size 66) extra.Absent
+    (cond (eqb size 74) (extra.Attributes attributes) (extra.AttributesAndSecret attributes))
 
 abbrev unixFrom : List ℕ → Unix
 unixFrom [] = unix.Absent

@@ -1,4 +1,5 @@
--- Where the texts, the key, the secret, the check code and the data of a message lie in its payload, and what handing one out returns.
+-- Where the texts, the key, the secret, the check code and the data of a message lie in its payload, and what handing
+-- one out returns.
 use Prim.Native.Nat.{ℕ, min}
 use mathlib.Core.List.{List, [], _∷_}
 use lib.ListN.{length, take, drop}
@@ -50,7 +51,8 @@ noParts = noTexts nowhere nowhere
 -- what holds of each of the eight
 abbrev pub EachPlace : (Place → Type 0) → Parts → Type 0
 EachPlace P s =
-    P (s .serial) × P (s .protocol) × P (s .hardware) × P (s .software) × P (s .key) × P (s .secret) × P (s .code) × P (s .piece)
+    P (s .serial) × P (s .protocol) × P (s .hardware) × P (s .software) × P (s .key) × P (s .secret) × P (s .code) × P
+    (s .piece)
 
 -- the bytes at a place
 abbrev pub bytesOf : Place → List ℕ → List ℕ
@@ -62,6 +64,7 @@ bytesIn s p =
     bytesOf (s .serial) p ∷ bytesOf (s .protocol) p ∷ bytesOf (s .hardware) p ∷ bytesOf (s .software) p
     ∷ bytesOf (s .key) p ∷ bytesOf (s .secret) p ∷ bytesOf (s .code) p ∷ bytesOf (s .piece) p ∷ []
 
--- what is handed out for a place: the bytes there, where they lie, as far as the payload goes; none, at its end, for a place behind it
+-- what is handed out for a place: the bytes there, where they lie, as far as the payload goes; none, at its end, for a
+-- place behind it
 abbrev pub PartAt : RefT (List ℕ) → RefT (List ℕ) → Place → Type 0
 PartAt payload part s = IsPart payload part (min (s .start) (length (now payload))) (s .size)

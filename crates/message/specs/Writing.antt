@@ -1,4 +1,5 @@
--- Paper 01, "Messages": a message's values, as a row has them, as a payload and as a frame. "A call that writes a message tests 31 to 33 before 21 and 22."
+-- Paper 01, "Messages": a message's values, as a row has them, as a payload and as a frame. "A call that writes a
+-- message tests 31 to 33 before 21 and 22."
 use Prim.Native.Nat.{ℕ, _+_, _*_}
 use mathlib.Core.Bool.{Bool, true, cond, _&&_}
 use mathlib.Core.List.{List, [], _∷_, _++_}
@@ -37,7 +38,8 @@ informationNumbers timeout (extra.AttributesAndSecret attributes) = two timeout 
 abbrev pub networkBytes : Network → List ℕ
 networkBytes n =
     (n .strength + num (n .app) * 8 + num (n .testing) * 16)
-    ∷ (num (n .softap) + num (n .station) * 2 + num (n .onboarding) * 4 + num (n .binding) * 8 + num (n .router) * 16 + num (n .server) * 32)
+    ∷ (num (n .softap) + num (n .station) * 2 + num (n .onboarding) * 4 + num (n .binding) * 8 + num (n .router) * 16 +
+    num (n .server) * 32)
     ∷ []
 
 -- 18, before others
@@ -173,10 +175,12 @@ payloadIn m lent = formOf m .payload lent
 abbrev pub sendAs : ℕ → Bool → Bool → Bool → ℕ → ℕ → ℕ → List ℕ → List ℕ → Write
 sendAs limit listed sized allows command number flags payload out =
     cond listed
-    (cond sized (cond allows (writeOf limit command number flags payload out) (outcome (row 33 []) out)) (outcome (row 32 []) out))
+    (cond sized (cond allows (writeOf limit command number flags payload out) (outcome (row 33 []) out))
+    (outcome (row 32 []) out))
     (outcome (row 31 []) out)
 
 -- a message, under a number and flags
 abbrev pub sendOf : ℕ → Message → ℕ → ℕ → List ℕ → List ℕ → Write
 sendOf limit m number flags lent out =
-    sendAs limit (isListed (kindOf (commandIn m))) (lentFits m (length lent)) (allowedIn m) (commandIn m) number flags (payloadIn m lent) out
+    sendAs limit (isListed (kindOf (commandIn m))) (lentFits m (length lent)) (allowedIn m) (commandIn m) number flags
+    (payloadIn m lent) out

@@ -11,5 +11,6 @@ write-bare-spec =
     (tie.spec
     (λ c. search tests)
     (search needs) (search needs)
-    (λ c. let a = c .before .before .before .before in simp (eq-eqb _ _ (a .before .if1 .left), a .if2 .taken) (c .before .before .write-frame .ensures))
+    (λ c. let a = c .before .before .before .before in simp (eq-eqb _ _ (a .before .if1 .left), a .if2 .taken)
+    (c .before .before .write-frame .ensures))
     (λ c. simp (eq-eqb _ _ (c .before .if1 .left), c .if2 .left)))
