@@ -13,6 +13,7 @@ use Rattle.base.specs.Numbers.{twoAt}
 use Rattle.message.specs.Commands.{exactly, from, counted, fits, sizesOf, chosenOf, sizeFits, isListed, allowed}
 use Rattle.message.specs.Commands.{valuesOf, partsIn, kindOf, lineOf}
 use Rattle.base.specs.Keys.{among}
+use Rattle.message.specs.Parts.{noParts}
 use Rattle.message.specs.Reading.{Read, judgedOf, decodeAs, decodeOf}
 use Rattle.message.specs.declared.kind.Kind.{Kind}
 use Rattle.message.specs.declared.kind.Line.{Line}
@@ -86,6 +87,26 @@ pub chosen : (k : Kind) (command n : ℕ) (p : List ℕ) {r : Read} (a : Bool) (
 chosen k command n p a values f listed size layout allows e =
     f ∙ simp (listed, size-fits, size, layout, fits-exactly, among-next, among-none, whole, allows, e)
 
+-- ---- a kind that has one size and no parts
+
+-- judged by its size
+pub judged-one :
+    (k : Kind) (command n : ℕ) (p : List ℕ) {r : Read} (a : Bool) (values : List ℕ)
+    → r ≡ judgedOf (eqb (length p) n) a (command ∷ values) noParts → sizesOf k ≡ exactly (n ∷ [])
+    → chosenOf k (getD p 0 0) ≡ from 0 → isListed k ≡ true → partsIn k p ≡ noParts → a ≡ allowed k p → values ≡ valuesOf k p
+    → r ≡ decodeAs k command p
+judged-one k command n p a values f size any listed none allows e = f ∙ simp (listed, sized-one k p any n size, none, allows, e)
+
+-- one byte, which was tested
+pub judged-byte :
+    (k : Kind) (command : ℕ) (p : List ℕ) {r : Read} (byte : ℕ) (a : Bool)
+    → r ≡ judgedOf (eqb (length p) 1) a (command ∷ byte ∷ []) noParts → byte ≡ getD p 0 0 → a ≡ allowed k (byte ∷ [])
+    → sizesOf k ≡ exactly (1 ∷ []) → chosenOf k (getD p 0 0) ≡ from 0 → isListed k ≡ true → partsIn k p ≡ noParts
+    → allowed k p ≡ allowed k (getD p 0 0 ∷ []) → valuesOf k p ≡ getD p 0 0 ∷ [] → r ≡ decodeAs k command p
+judged-byte k command p byte a f e q size any listed none allows values =
+    judged-one k command 1 p a (byte ∷ []) f size any listed none
+    (q ∙ ap (λ (b : ℕ). allowed k (b ∷ [])) e ∙ sym allows) (ap (λ (b : ℕ). b ∷ []) e ∙ sym values)
+
 -- ---- a command's line
 
 module _ (k : Kind) {line : Line} (command : ℕ) (p : List ℕ) (of : line ≡ lineOf command) (told : line .kind ≡ k) where
@@ -100,4 +121,4 @@ module _ (k : Kind) {line : Line} (command : ℕ) (p : List ℕ) (of : line ≡ 
   pub read-line : {r : Read} (n : ℕ) → soleOf k command ≡ n → r ≡ decodeAs k n p → r ≡ decodeOf command p
   read-line n one e = read-kind (rw (only command k n one is) e)
 
-pub ruleset lines = (read-kind, read-line)
+pub ruleset lines = (read-kind, read-line, judged-one, judged-byte)
