@@ -15,7 +15,7 @@ use Rattle.frame.specs.Calls.{writeOf}
 use Rattle.message.specs.Commands.{table, lineIn, kindOf, isListed, sizeFits}
 use Rattle.message.specs.Parts.{noParts}
 use Rattle.message.specs.Reading.{Read, got, refusal, decodeOf}
-use Rattle.message.specs.Writing.{sendAs, sendOf, informationBytes, informationNumbers, informationLent}
+use Rattle.message.specs.Writing.{sendAs, sendBare, sendOf, informationBytes, informationNumbers, informationLent}
 use Rattle.message.specs.Writing.{timeBytes, unixBytes}
 use Rattle.message.specs.declared.parts.Parts.{Parts}
 use Rattle.message.specs.declared.values.Message.{Message}
@@ -52,11 +52,11 @@ sent limit command number flags out l s a p q e = onward q e ∙ ap
 pub bare :
     (command number flags : ℕ) (lent out : List ℕ) {bytes payload : List ℕ} {a b : Bool} {w : Write} → bytes ≡ payload
     → a ≡ b
-    → w ≡ sendAs frameLimit true (eqb (length lent) 0) a command number flags bytes out
-    → w ≡ sendAs frameLimit true (eqb (length lent) 0) b command number flags payload out
+    → w ≡ sendBare frameLimit a command number flags lent bytes out
+    → w ≡ sendBare frameLimit b command number flags lent payload out
 bare command number flags lent out {bytes} {payload} {a} {b} p q e =
-    e ∙ ap (λ (x : Bool). sendAs frameLimit true (eqb (length lent) 0) x command number flags bytes out) q
-    ∙ ap (λ (x : List ℕ). sendAs frameLimit true (eqb (length lent) 0) b command number flags x out) p
+    e ∙ ap (λ (x : Bool). sendBare frameLimit x command number flags lent bytes out) q
+    ∙ ap (λ (x : List ℕ). sendBare frameLimit b command number flags lent x out) p
 
 -- the message that was told
 pub arm :
@@ -67,8 +67,8 @@ arm m limit number flags lent out told e = e ∙ ap (λ (x : Message). sendOf li
 -- a message whose byte was tested
 pub tested :
     (command number flags : ℕ) (lent out : List ℕ) (bytes : List ℕ) {a b : Bool} {w : Write} → a ≡ b
-    → w ≡ sendAs frameLimit true (eqb (length lent) 0) a command number flags bytes out
-    → w ≡ sendAs frameLimit true (eqb (length lent) 0) b command number flags bytes out
+    → w ≡ sendBare frameLimit a command number flags lent bytes out
+    → w ≡ sendBare frameLimit b command number flags lent bytes out
 tested command number flags lent out bytes q e = let same : bytes ≡ bytes = refl in bare command number flags lent out
     same q e
 

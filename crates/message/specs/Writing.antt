@@ -179,6 +179,11 @@ sendAs limit listed sized allows command number flags payload out =
     (outcome (row 32 []) out))
     (outcome (row 31 []) out)
 
+-- a listed message that takes nothing lent
+abbrev pub sendBare : ℕ → Bool → ℕ → ℕ → ℕ → List ℕ → List ℕ → List ℕ → Write
+sendBare limit allows command number flags lent payload out =
+    sendAs limit true (eqb (length lent) 0) allows command number flags payload out
+
 -- a message, under a number and flags
 abbrev pub sendOf : ℕ → Message → ℕ → ℕ → List ℕ → List ℕ → Write
 sendOf limit m number flags lent out =

@@ -105,7 +105,7 @@ fn reject(code: u8, number: u8, out: &mut [u8]) -> Reply
     }
 }
 
-// What the box answers to a frame that was read: written at the front of the output under the number received, or asked of the caller, or nothing.
+// What the box answers to a frame that was read: a frame at the front of the output, a wish to the caller, or nothing.
 pub fn answer_reading(command: u8, number: u8, reading: Reading, out: &mut [u8]) -> Reply
     ensures { λ r. ⌜ outcome (replyRowOf r) (now (out .exit))
         ≡ answerReadOf frameLimit command number (readingOf reading .row) (now (out .entry)) ⌝ }

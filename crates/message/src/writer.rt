@@ -29,7 +29,7 @@ ghost use Rattle.frame.specs.Wire.{frameLimit};
 ghost use Rattle.message.specs.Numbers.{eight};
 ghost use Rattle.message.specs.Table.{sentRowOf};
 ghost use Rattle.message.specs.Counter.{statusBytes};
-ghost use Rattle.message.specs.Writing.{sendOf, sendAs, informationBytes, networkBytes, timeBytes};
+ghost use Rattle.message.specs.Writing.{sendOf, sendAs, sendBare, informationBytes, networkBytes, timeBytes};
 ghost use Rattle.message.specs.declared.values.Message.the-variants as message;
 ghost use Rattle.message.specs.declared.values.Extra.the-variants as extra;
 
@@ -73,7 +73,7 @@ fn write_bare(
     out: &mut [u8],
 ) -> Sent
     ensures { λ r. ⌜ outcome (sentRowOf r) (now (out .exit))
-        ≡ sendAs frameLimit true (eqb (length (now (lent .entry))) 0) allowed command number flags (now (payload .entry)) (now (out .entry)) ⌝ }
+        ≡ sendBare frameLimit allowed command number flags (now (lent .entry)) (now (payload .entry)) (now (out .entry)) ⌝ }
 {
     if lent.len() != 0 {
         return Sent::Size;
@@ -190,7 +190,7 @@ fn write_byte(
     out: &mut [u8],
 ) -> Sent
     ensures { λ r. ⌜ outcome (sentRowOf r) (now (out .exit))
-        ≡ sendAs frameLimit true (eqb (length (now (lent .entry))) 0) allowed command number flags (byte ∷ []) (now (out .entry)) ⌝ }
+        ≡ sendBare frameLimit allowed command number flags (now (lent .entry)) (byte ∷ []) (now (out .entry)) ⌝ }
 {
     let bytes = [byte];
     write_bare(command, &bytes, allowed, lent, number, flags, out)
@@ -207,7 +207,8 @@ fn write_status(
     out: &mut [u8],
 ) -> Sent
     ensures { λ r. ⌜ outcome (sentRowOf r) (now (out .exit))
-        ≡ sendAs frameLimit true (eqb (length (now (lent .entry))) 0) (ltb (status .mode) 3) command number flags (action ∷ statusBytes status) (now (out .entry)) ⌝ }
+        ≡ sendBare frameLimit (ltb (status .mode) 3) command number flags (now (lent .entry)) (action ∷ statusBytes status)
+        (now (out .entry)) ⌝ }
 {
     if 3 <= status.mode {
         return write_bare(command, lent, false, lent, number, flags, out);
