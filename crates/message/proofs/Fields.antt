@@ -17,9 +17,8 @@ use Rattle.message.specs.Writing.{networkIn, networkBytes, effectiveCont
 use Rattle.message.specs.declared.counter.Status.{Status}
 use Rattle.message.specs.declared.counter.Control.{Control}
 use Rattle.message.specs.declared.values.Network.{Network}
-use Rattle.message.proofs.Bits.{mode-most}
 use Rattle.base.proofs.Lists.{all-same}
-use Rattle.message.proofs.Numbers.{small}
+use Rattle.message.proofs.Numbers.{mode-most, small}
 use Rattle.base.proofs.Tests.{cond-same}
 
 -- ---- status

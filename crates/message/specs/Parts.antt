@@ -16,33 +16,18 @@ place start size = record { start = start; size = size }
 abbrev pub nowhere : Place
 nowhere = place 0 0
 
+-- the eight, in the order of the code's struct
+abbrev pub parts : Place → Place → Place → Place → Place → Place → Place → Place → Parts
+parts s p h w k c q d =
+    record { serial = s; protocol = p; hardware = h; software = w; key = k; secret = c; code = q; piece = d }
+
 -- "four 8-byte texts, product key 32", and a secret
 abbrev pub textsAnd : Place → Parts
-textsAnd secret =
-    record {
-      serial = place 0 8;
-      protocol = place 8 8;
-      hardware = place 16 8;
-      software = place 24 8;
-      key = place 32 32;
-      secret = secret;
-      code = nowhere;
-      piece = nowhere;
-    }
+textsAnd secret = parts (place 0 8) (place 8 8) (place 16 8) (place 24 8) (place 32 32) secret nowhere nowhere
 
 -- none of these, but a check code or data
 abbrev pub noTexts : Place → Place → Parts
-noTexts code piece =
-    record {
-      serial = nowhere;
-      protocol = nowhere;
-      hardware = nowhere;
-      software = nowhere;
-      key = nowhere;
-      secret = nowhere;
-      code = code;
-      piece = piece;
-    }
+noTexts code piece = parts nowhere nowhere nowhere nowhere nowhere nowhere code piece
 
 -- none at all
 abbrev pub noParts : Parts
