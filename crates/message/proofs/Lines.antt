@@ -117,9 +117,4 @@ paper-lists =
 
 pub box-listed : BoxListed
 unfolding among table lineIn
-box-listed c h =
-    let listed : (fromBox c && isListed (kindOf c)) ≡ fromBox c =
-    every (λ c. fromBox c && isListed (kindOf c)) fromBox refl
-    (λ c none _. ap (λ (l : Line). l .outward && isListed (l .kind)) none ∙ sym (ap (λ (l : Line). l .outward) none)) c
-    in
-    both (fromBox c) (listed ∙ h) .1
+box-listed c h = agree (λ c. isListed (kindOf c)) (λ _. true) boxCommands c refl (sym (paper-lists .from-box c) ∙ h)

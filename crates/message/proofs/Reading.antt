@@ -69,9 +69,6 @@ module _ (k : Kind) (p : List ℕ) (any : chosenOf k (getD p 0 0) ≡ from 0) wh
   pub sized-one : (n : ℕ) → sizesOf k ≡ exactly (n ∷ []) → eqb (length p) n ≡ sizeFits k p
   sized-one n e = sym (simp (size-fits, any, e, fits-any, fits-exactly, among-next, among-none, and-true, whole))
 
-  pub sized-from : (n : ℕ) → sizesOf k ≡ from n → leb n (length p) ≡ sizeFits k p
-  sized-from n e = sym (simp (size-fits, any, e, fits-any, fits-from, and-true))
-
   pub sized-counted : (before behind : ℕ) → sizesOf k ≡ counted before behind
       → eqb (length p) (before + 2 + behind + twoAt p before) ≡ sizeFits k p
   sized-counted before behind e = sym (simp (size-fits, any, e, fits-any, fits-counted, and-true))

@@ -64,15 +64,7 @@ pub arm :
     → w ≡ sendOf limit m number flags lent out → w ≡ sendOf limit message number flags lent out
 arm m limit number flags lent out told e = e ∙ ap (λ (x : Message). sendOf limit x number flags lent out) (sym told)
 
--- a message whose byte was tested
-pub tested :
-    (command number flags : ℕ) (lent out : List ℕ) (bytes : List ℕ) {a b : Bool} {w : Write} → a ≡ b
-    → w ≡ sendBare frameLimit a command number flags lent bytes out
-    → w ≡ sendBare frameLimit b command number flags lent bytes out
-tested command number flags lent out bytes q e = let same : bytes ≡ bytes = refl in bare command number flags lent out
-    same q e
-
-pub ruleset arms = (arm, tested)
+pub ruleset arms = (arm, bare)
 
 -- ---- no payload, by what reading says of it
 

@@ -23,7 +23,6 @@ ghost use lib.ListN.{length};
 ghost use lib.Dec.{eqb, ltb};
 ghost use Rattle.base.specs.Numbers.{two, four};
 ghost use Rattle.base.specs.Outcomes.{outcome};
-ghost use Rattle.frame.specs.Calls.{writeOf};
 ghost use Rattle.frame.specs.Table.{writtenRowOf};
 ghost use Rattle.frame.specs.Wire.{frameLimit};
 ghost use Rattle.message.specs.Numbers.{eight};
@@ -54,14 +53,6 @@ fn passed_on(written: Written) -> Sent
     }
 }
 
-// A frame with a payload in one piece.
-fn write_frame(command: u8, payload: &[u8], number: u8, flags: u16, out: &mut [u8]) -> Sent
-    ensures { λ r. ⌜ outcome (sentRowOf r) (now (out .exit))
-        ≡ writeOf frameLimit command number flags (now (payload .entry)) (now (out .entry)) ⌝ }
-{
-    passed_on(frame::write(command, number, flags, payload, out))
-}
-
 // A message that takes no lent bytes, where its values are allowed.
 fn write_bare(
     command: u8,
@@ -79,7 +70,7 @@ fn write_bare(
         return Sent::Size;
     }
     if allowed {
-        return write_frame(command, payload, number, flags, out);
+        return passed_on(frame::write(command, number, flags, payload, out));
     }
     Sent::Field
 }
