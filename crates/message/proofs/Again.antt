@@ -1,5 +1,4 @@
--- A payload that is read is its message, with the lent bytes that lie in it: nothing is left to ignore, and each part
--- is lent. Assumes nothing.
+-- A payload that is read is its message, with the lent bytes that lie in it, and nothing to ignore. Assumes nothing.
 use Prim.Native.Nat.{ℕ, _+_, _-_, _≤_}
 use mathlib.Core.Path.{_≡_, refl, sym, ap, _∙_}
 use mathlib.Core.Bool.{true, false, cond, true≢false}

@@ -1,5 +1,4 @@
--- The counter's status and control and the network's state are read back from their bytes, and are allowed. Assumes
--- nothing.
+-- The counter's status and control and the network's state are read back from their bytes. Assumes nothing.
 use Prim.Native.Nat.{ℕ, _*_, _<_}
 use mathlib.Core.Path.{_≡_}
 use mathlib.Core.Bool.{Bool, true, false, _&&_}

@@ -1,5 +1,4 @@
--- Device information is read back from what is written: numbers, between texts and key before them and the secret
--- behind. Assumes nothing.
+-- Device information is read back from what is written: numbers, and texts, key and secret around them.
 use Prim.Native.Nat.{ℕ, _+_, _≤_}
 use mathlib.Core.Path.{_≡_, refl, sym, ap, _∙_}
 use mathlib.Core.Bool.{true, false, cond}

@@ -1,5 +1,4 @@
--- The table of specs/Commands.antt looked up: what holds of each of its commands and off the table holds of every
--- command. Assumes nothing.
+-- The table looked up: what holds of its commands and off the table holds of every command. Assumes nothing.
 use Prim.Native.Nat.{ℕ, _+_}
 use mathlib.Core.Path.{_≡_, refl, sym, ap, _∙_}
 use mathlib.Core.Bool.{Bool, true, false, cond, _&&_, _||_, true≢false}

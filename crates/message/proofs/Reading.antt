@@ -1,5 +1,4 @@
--- Laws of reading: a payload's size as tests of its length, a message that is got, and a command's line that reads a
--- payload.
+-- Laws of reading: a payload's size as tests of its length, and a command's line that reads a payload.
 use Prim.Native.Nat.{ℕ, zero, suc, _+_}
 use mathlib.Core.Path.{_≡_, refl, sym, ap, _∙_}
 use mathlib.Core.Bool.{Bool, true, false, cond, not, _&&_}

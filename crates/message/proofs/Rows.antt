@@ -1,5 +1,4 @@
--- A message can be read back from its values, and an answer from its line of the table, so no two have the same.
--- Assumes nothing.
+-- A message can be read back from its values, and an answer from its row, so no two have the same. Assumes nothing.
 use Prim.Native.Nat.{ℕ}
 use mathlib.Core.Path.{_≡_, refl, ap}
 use mathlib.Core.Bool.{Bool, true, false, cond}

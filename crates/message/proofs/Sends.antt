@@ -1,5 +1,4 @@
--- A message that is written: its tests passed, and its payload from the parts that the frame writer is handed. Assumes
--- nothing.
+-- A message that is written: its tests passed, and its payload from the parts that it is written in. Assumes nothing.
 use Prim.Native.Nat.{ℕ, _-_}
 use mathlib.Core.Path.{_≡_, refl, sym, ap, _∙_}
 use mathlib.Core.Bool.{Bool, true, false, cond, _&&_}

@@ -1,5 +1,4 @@
--- Each part that reading gives lies in its payload, by the sizes that reading accepts, and is handed out whole. Assumes
--- nothing.
+-- Each part that reading gives lies in its payload, by the accepted sizes, and is handed out whole. Assumes nothing.
 use Prim.Native.Nat.{ℕ, _+_, _≤_, min}
 use mathlib.Core.Path.{_≡_}
 use mathlib.Core.Bool.{true}

@@ -1,5 +1,4 @@
--- Where the texts, the key, the secret, the check code and the data of a message lie in its payload, and what handing
--- one out returns.
+-- Where texts, key, secret, check code and data lie in a payload, and what handing one out returns.
 use Prim.Native.Nat.{ℕ, min}
 use mathlib.Core.List.{List, [], _∷_}
 use lib.ListN.{length, take, drop}

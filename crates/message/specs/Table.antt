@@ -1,5 +1,4 @@
--- The number and the values of each answer, as a row of paper 01's table. A message that was read has no number there
--- and stands under 0.
+-- The number and the values of each answer, as a row of paper 01's table. A message that was read stands under 0.
 use mathlib.Core.List.{[], _∷_}
 use Rattle.base.specs.Rows.{Row, row}
 use Rattle.message.specs.Reading.{Read, got, refusal}

@@ -1,5 +1,4 @@
--- Paper 01, "Messages": a message's values, as a row has them, as a payload and as a frame. "A call that writes a
--- message tests 31 to 33 before 21 and 22."
+-- Paper 01, "Messages": a message's values as a row has them, as a payload, and as a frame; 31 to 33 before 21 and 22.
 use Prim.Native.Nat.{ℕ, _+_, _*_}
 use mathlib.Core.Bool.{Bool, true, cond, _&&_}
 use mathlib.Core.List.{List, [], _∷_, _++_}
