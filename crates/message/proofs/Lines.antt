@@ -107,6 +107,8 @@ paper-lists =
       others = refl;
       acknowledged = λ c. agree owedOf (λ c. due.Acknowledge (c + 1)) (0x03 ∷ 0x07 ∷ 0x0D ∷ 0x0F ∷ []) c refl;
       asked = refl;
+      control = λ values. refl;
+      query = λ values. refl;
       no-answer = λ c h.
           unless due.Nothing h
           (every owedUnless (λ _. due.Nothing) refl

@@ -21,7 +21,7 @@ use Rattle.message.specs.Table.{readingOf, sentRowOf, replyRowOf}
 use Rattle.message.specs.Reading.{readOf, partsOf}
 use Rattle.message.specs.Parts.{EachPlace, bytesIn, PartAt}
 use Rattle.message.specs.Writing.{commandIn, messageIn, readIn, payloadIn, lentFits, allowedIn, sendOf}
-use Rattle.message.specs.Answers.{dueOf}
+use Rattle.message.specs.Answers.{dueFor, dueOf}
 use Rattle.message.specs.declared.values.Message.{Message}
 use Rattle.message.specs.declared.values.Message.the-variants as message
 use Rattle.message.specs.declared.parts.Place.{Place}
@@ -76,13 +76,14 @@ pub record PaperLists : Type 0 where
       map kindOf otherCommands
       ≡ kind.Information ∷ kind.Action ∷ kind.Status ∷ kind.Report ∷ kind.Onboarding ∷ kind.Network
       ∷ kind.ModuleReject ∷ kind.BoxReject ∷ kind.Time ∷ kind.Announcement ∷ kind.Ready ∷ kind.Piece ∷ []
-  -- "07, 0D, 0F and 03 control get command plus 1 ..; 01 asks the caller for device information .. All else gets no
-  -- answer"
-  pub acknowledged : (command : ℕ) → among command (0x03 ∷ 0x07 ∷ 0x0D ∷ 0x0F ∷ []) ≡ true
-      → owedOf command ≡ due.Acknowledge (command + 1)
+  -- what is owed without a fault: command plus 1, device information, or nothing
+  pub acknowledged :
+      (command : ℕ) → among command (0x03 ∷ 0x07 ∷ 0x0D ∷ 0x0F ∷ []) ≡ true → owedOf command ≡ due.Acknowledge (command + 1)
   pub asked : owedOf 0x01 ≡ due.AskInformation
-  pub no-answer : (command : ℕ) → among command (0x01 ∷ 0x03 ∷ 0x07 ∷ 0x0D ∷ 0x0F ∷ []) ≡ false
-      → owedOf command ≡ due.Nothing
+  pub control : (values : List ℕ) → dueFor (0x03 ∷ 1 ∷ values) ≡ due.Acknowledge 0x04
+  pub query : (values : List ℕ) → dueFor (0x03 ∷ 2 ∷ values) ≡ due.AskStatus
+  pub no-answer :
+      (command : ℕ) → among command (0x01 ∷ 0x03 ∷ 0x07 ∷ 0x0D ∷ 0x0F ∷ []) ≡ false → owedOf command ≡ due.Nothing
 
 -- ---- parts-within: each part lies in its payload, whatever that is
 abbrev pub PartsWithin : Type 0
@@ -146,8 +147,8 @@ pub record ReadWritten (command : ℕ) (p : List ℕ) (m : Message) : Type 0 whe
   pub writable : Writable m (lentOf command p)
   pub message : readOf command (payloadIn m (lentOf command p)) ≡ readOf command p
   pub parts :
-      bytesIn (partsOf command (payloadIn m (lentOf command p))) (payloadIn m (lentOf command p)) ≡ bytesIn
-      (partsOf command p) p
+      bytesIn (partsOf command (payloadIn m (lentOf command p))) (payloadIn m (lentOf command p))
+      ≡ bytesIn (partsOf command p) p
 
 -- of every command and payload of bytes
 abbrev pub ReadsWritten : Type 0
@@ -156,8 +157,7 @@ ReadsWritten =
     → ReadWritten command p m
 
 -- ---- message-round-trip: after any calls of a fresh reader, the calls that took what a message call wrote end in
--- ---- FRAME at its last byte, and the
--- ---- body that the reader holds is read as the same message
+-- ---- FRAME at its last byte, and the body that the reader holds is read as the same message
 pub record MessageBack (start : ℕ) (m : Message) (number flags : ℕ) (lent : List ℕ) (log : List Entry) : Type 0 where
   pub frame : ReadBack start (commandIn m) number flags (payloadIn m lent) log
   pub message : Decodes m lent (commandOf (frame .last .held)) (payloadOf (frame .last .held))
@@ -168,8 +168,8 @@ MessageRoundTrip =
     (limit : ℕ) → limit ≤ widest → (m : Message) (number flags count : ℕ) (lent out : List ℕ)
     → sendOf limit m number flags lent out .row ≡ row 0 (count ∷ [])
     → (earlier later : List Call)
-    → stream (logOf limit (readerAfter limit (freshOf limit) earlier) later) ≡ take count
-    (sendOf limit m number flags lent out .out)
+    → stream (logOf limit (readerAfter limit (freshOf limit) earlier) later)
+    ≡ take count (sendOf limit m number flags lent out .out)
     → MessageBack (length (stream (logOf limit (freshOf limit) earlier))) m number flags lent
     (logOf limit (readerAfter limit (freshOf limit) earlier) later)
 
