@@ -1,13 +1,13 @@
 -- A payload is read exactly where its command is listed, its size fits and its values are allowed. Assumes nothing.
 use Prim.Native.Nat.{ℕ}
 use mathlib.Core.Path.{_≡_, refl, sym, ap, _∙_}
-use mathlib.Core.Bool.{true, false, cond}
-use mathlib.Core.List.{List, [], _∷_}
+use mathlib.Core.Bool.{true}
+use mathlib.Core.List.{List, _∷_}
 use Rattle.base.specs.Rows.{Row, row}
 use Rattle.message.specs.Commands.{isListed, kindOf, sizeFits, allowed, valuesOf, partsIn}
 use Rattle.message.specs.Reading.{Read, got, refusal, decodeAs, decodeOf}
-use Rattle.message.specs.Writing.{commandIn, messageIn}
-use Rattle.message.specs.Claims.{effective, lentParts, Decodes}
+use Rattle.message.specs.Writing.{commandIn, messageIn, readIn}
+use Rattle.message.specs.Claims.{lentParts, Decodes}
 use Rattle.message.specs.Parts.{bytesIn}
 use Rattle.message.specs.declared.kind.Kind.{Kind}
 use Rattle.message.specs.declared.values.Message.{Message}
@@ -25,8 +25,14 @@ module _ {k : Kind} {command : ℕ} {p vs : List ℕ} where
 
   pub accepted : decodeAs k command p .row ≡ row 0 vs → Accepted k command p vs
   accepted e =
-      let t = passed (λ (r : Read). r .row) refusal (λ n. refl) (isListed k) (sizeFits k p) (allowed k p) (got (command ∷ valuesOf k p) (partsIn k p)) e in
-      record { listed = t .0; sized = t .1; allows = t .2; values = ap (λ (r : Read). r .row .values) (sym (t .3)) ∙ ap (λ (r : Row). r .values) e }
+      let t = passed (λ (r : Read). r .row) refusal (λ n. refl) (isListed k) (sizeFits k p) (allowed k p)
+      (got (command ∷ valuesOf k p) (partsIn k p)) e in
+      record {
+        listed = t .0;
+        sized = t .1;
+        allows = t .2;
+        values = ap (λ (r : Read). r .row .values) (sym (t .3)) ∙ ap (λ (r : Row). r .values) e;
+      }
 
 -- ---- what was written, with some lent bytes
 
@@ -38,7 +44,7 @@ pub record Back (k : Kind) (command : ℕ) (p vs lent : List ℕ) : Type 0 where
 -- what is accepted is read
 pub read-back :
     (m : Message) (lent : List ℕ) {p : List ℕ}
-    → Back (kindOf (commandIn m)) (commandIn m) p (messageIn (effective m)) lent → Decodes m lent (commandIn m) p
+    → Back (kindOf (commandIn m)) (commandIn m) p (readIn m) lent → Decodes m lent (commandIn m) p
 read-back m lent {p} b =
-    let read : decodeOf (commandIn m) p ≡ got (messageIn (effective m)) (partsIn (kindOf (commandIn m)) p) = accept (b .values) in
+    let read : decodeOf (commandIn m) p ≡ got (readIn m) (partsIn (kindOf (commandIn m)) p) = accept (b .values) in
     record { message = ap (λ (r : Read). r .row) read; parts = ap (λ (r : Read). bytesIn (r .parts) p) read ∙ b .parts }

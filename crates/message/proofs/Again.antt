@@ -1,8 +1,8 @@
--- A payload that is read is its message, with the lent bytes that lie in it: nothing is left to ignore, and each part is lent. Assumes nothing.
+-- A payload that is read is its message, with the lent bytes that lie in it, and nothing to ignore. Assumes nothing.
 use Prim.Native.Nat.{ℕ, _+_, _-_, _≤_}
 use mathlib.Core.Path.{_≡_, refl, sym, ap, _∙_}
 use mathlib.Core.Bool.{true, false, cond, true≢false}
-use mathlib.Core.List.{List, [], _∷_, _++_, cons≢nil, tail-eq-of-cons-eq}
+use mathlib.Core.List.{List, [], _∷_, cons≢nil, tail-eq-of-cons-eq}
 use native.Mathlib.Omega.{arith}
 use borrow.Author.Tests.{eqb-true, eqb-false}
 use lib.Dec.{eqb, eqb·suc-zero}
@@ -13,8 +13,8 @@ use Rattle.base.specs.Keys.{among}
 use Rattle.message.specs.Commands.{kindOf, table, lineIn, fits, sizeFits, valuesOf, partsIn}
 use Rattle.message.specs.Counter.{controlValues, controlAllowed, controlIn}
 use Rattle.message.specs.Parts.{place, nowhere, bytesOf, bytesIn}
-use Rattle.message.specs.Writing.{commandIn, messageIn}
-use Rattle.message.specs.Claims.{effective, lentOf, lentParts, Decodes}
+use Rattle.message.specs.Writing.{commandIn, messageIn, readIn}
+use Rattle.message.specs.Claims.{lentOf, lentParts, Decodes}
 use Rattle.message.specs.declared.counter.Control.{Control}
 use Rattle.message.specs.declared.kind.Kind.{Kind}
 use Rattle.message.specs.declared.kind.Kind.the-variants as kind
@@ -42,8 +42,10 @@ empty-payload =
     by-kind (λ k. (p : List ℕ) → sizeFits k p ≡ true → valuesOf k p ≡ [] → p ≡ [])
     (λ p h e. absurd (true≢false (sym h))) (λ p h e. zero-length p (λ q. true≢false (sym (rw q at h))))
     (λ p h e. absurd (cons≢nil e)) (λ p h e. absurd (cons≢nil e)) (λ p h e. zero-length p (λ q. cons≢nil (rw q at e)))
-    (λ p h e. absurd (cons≢nil e)) (λ p h e. absurd (cons≢nil e)) (λ p h e. absurd (cons≢nil e)) (λ p h e. absurd (cons≢nil e))
-    (λ p h e. absurd (cons≢nil e)) (λ p h e. absurd (cons≢nil e)) (λ p h e. absurd (cons≢nil e)) (λ p h e. absurd (cons≢nil e))
+    (λ p h e. absurd (cons≢nil e)) (λ p h e. absurd (cons≢nil e)) (λ p h e. absurd (cons≢nil e))
+    (λ p h e. absurd (cons≢nil e))
+    (λ p h e. absurd (cons≢nil e)) (λ p h e. absurd (cons≢nil e)) (λ p h e. absurd (cons≢nil e))
+    (λ p h e. absurd (cons≢nil e))
     (λ p h e. absurd (cons≢nil e))
 
 pub lent-none : (c : ℕ) → lentOf c [] ≡ []
@@ -57,7 +59,8 @@ pub control-read :
     → (controlAllowed (drop 1 p) ≡ true) × (controlValues (drop 1 p) ≡ controlIn c)
 control-read p c a =
     let first : getD p 0 0 ≡ 1 = value 1 (a .values) in
-    let values : cond (eqb (getD p 0 0) 1) (controlValues (drop 1 p)) [] ≡ controlIn c = ap (λ (l : List ℕ). drop 2 l) (a .values) in
+    let values : cond (eqb (getD p 0 0) 1) (controlValues (drop 1 p)) [] ≡ controlIn c = ap (λ (l : List ℕ). drop 2 l)
+    (a .values) in
     (rw first at (a .allows), rw first at values)
 
 -- ---- parts of device information
@@ -69,7 +72,8 @@ record Sized (n : ℕ) : Type 0 where
   most : n ≤ 106
 
 module _ (p : List ℕ) (s : Sized (length p)) where
-  text : (start count : ℕ) → start + count ≤ 64 → bytesOf (place start count) p ≡ take count (drop start (lentOf 0x02 p))
+  text : (start count : ℕ) → start + count ≤ 64 → bytesOf (place start count) p ≡ take count
+      (drop start (lentOf 0x02 p))
   text start count h = sym (in-front p (drop 74 p) 64 start count h (omega arith))
 
   -- all bytes behind the numbers are lent
@@ -82,13 +86,20 @@ module _ (p : List ℕ) (s : Sized (length p)) where
 
   information-same : bytesIn (partsIn kind.Information p) p ≡ lentParts 0x02 (lentOf 0x02 p)
   information-same =
-      cc (text 0 8 (omega arith), text 8 8 (omega arith), text 16 8 (omega arith), text 24 8 (omega arith), text 32 32 (omega arith), last)
+      cc (
+        text 0 8 (omega arith),
+        text 8 8 (omega arith),
+        text 16 8 (omega arith),
+        text 24 8 (omega arith),
+        text 32 32 (omega arith),
+        last,
+      )
 
 -- ---- each message
 
 -- only a control has values that may be ignored, and each part is lent
 record Same (p : List ℕ) (m : Message) : Type 0 where
-  values : messageIn (effective m) ≡ messageIn m
+  values : readIn m ≡ messageIn m
   parts : bytesIn (partsIn (kindOf (commandIn m)) p) p ≡ lentParts (commandIn m) (lentOf (commandIn m) p)
 
 same : (p : List ℕ) (m : Message) → Accepted (kindOf (commandIn m)) (commandIn m) p (messageIn m) → Same p m
@@ -98,7 +109,10 @@ same p (message.Empty c) a =
     record { values = refl; parts = rw e (no-parts (partsIn (kindOf c) []) c ∙ ap (lentParts c) (sym (lent-none c))) }
 same p (message.Information timeout more) a =
     let size = both (among (length p) (66 ∷ 74 ∷ 106 ∷ [])) (a .sized) .0 in
-    record { values = refl; parts = information-same p (among-holds Sized (length p) (66 ∷ 74 ∷ 106 ∷ []) (omega arith) size) }
+    record {
+      values = refl;
+      parts = information-same p (among-holds Sized (length p) (66 ∷ 74 ∷ 106 ∷ []) (omega arith) size);
+    }
 same p (message.Control control) a =
     record {
       values = ap (λ (l : List ℕ). 0x03 ∷ 1 ∷ l) (effective-control (drop 1 p) control (control-read p control a .1));
@@ -113,14 +127,18 @@ same p (message.ModuleReject code) a = record { values = refl; parts = refl }
 same p (message.BoxReject code) a = record { values = refl; parts = refl }
 same p (message.Time time) a = record { values = refl; parts = refl }
 same p (message.Announcement size) a =
-    let counted : length p ≡ 4 + 2 + twoAt p 4 + 0 = eqb-true _ _ (both (eqb (length p) (4 + 2 + twoAt p 4 + 0)) (a .sized) .0) in
+    let counted : length p ≡ 4 + 2 + twoAt p 4 + 0 = eqb-true _ _
+    (both (eqb (length p) (4 + 2 + twoAt p 4 + 0)) (a .sized) .0) in
     record {
       values = refl;
       parts = ap (λ (l : List ℕ). alone l []) (take-all (twoAt p 4) (drop 6 p) (omega (arith, length-drop 6 p)));
     }
 same p (message.Ready piece) a = record { values = refl; parts = refl }
 same p (message.Piece index total) a =
-    record { values = refl; parts = ap (alone []) (take-all (length p - 4) (drop 4 p) (omega (arith, length-drop 4 p))) }
+    record {
+      values = refl;
+      parts = ap (alone []) (take-all (length p - 4) (drop 4 p) (omega (arith, length-drop 4 p)));
+    }
 
 -- the payload has what a reader of its message is to find
 pub read-again :

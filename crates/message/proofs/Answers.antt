@@ -3,7 +3,6 @@ use Prim.Native.Nat.{ℕ, _+_, _≤_}
 use mathlib.Core.Path.{_≡_, refl, sym, ap, subst, _∙_}
 use mathlib.Core.Bool.{_&&_}
 use mathlib.Core.List.{List, [], _∷_}
-use native.Mathlib.Omega.{arith}
 use borrow.Author.Tests.{le-ltb, eqb-false}
 use lib.ListN.{length, getD}
 use lib.Dec.{eqb, ltb}
@@ -13,7 +12,8 @@ use Rattle.base.specs.Outcomes.{Write, outcome}
 use Rattle.frame.specs.Calls.{writeOf}
 use Rattle.base.proofs.Tests.{by-test, either-way}
 use Rattle.base.specs.Keys.{among}
-use Rattle.message.specs.Commands.{table, lineIn, kindOf, isListed, fits, sizeFits, allowed, valuesOf, fromBox, owedOf}
+use Rattle.message.specs.Commands.{table, lineIn, kindOf, isListed, fits, sizeFits, allowed, valuesOf, fromBox}
+use Rattle.message.specs.Commands.{owedOf}
 use Rattle.message.specs.Reading.{Read, decodeOf}
 use Rattle.message.specs.Answers.{dueAfter, rejectOf, answerFrameOf}
 use Rattle.message.specs.Claims.{BoxSends, AnswersAreRead}
@@ -29,18 +29,22 @@ pub short-enough :
     (limit command number : ℕ) (payload out after : List ℕ) → length payload + 5 ≤ limit
     → outcome (row 21 (0 ∷ [])) after ≡ writeOf limit command number 0 payload out → ⊥
 short-enough limit command number payload out after h e =
-    by-test (λ (w : Write). w .row .number ≡ 21 → ⊥) (ltb (length out) (length (wire (bodyOf command number 0 payload))))
+    by-test (λ (w : Write). w .row .number ≡ 21 → ⊥)
+    (ltb (length out) (length (wire (bodyOf command number 0 payload))))
     (λ _. eqb-false 22 21 refl) (λ _. eqb-false 0 21 refl)
     (rw (le-ltb limit (length payload + 5) h) at (ap (λ (w : Write). w .row .number) (sym e)))
 
 -- ---- a frame's answer goes by its body
 
 module _ (limit : ℕ) (body out : List ℕ) {w : Write} where
-  pub by-body : (command number : ℕ) (payload : List ℕ) → command ≡ commandOf body → number ≡ numberOf body → payload ≡ payloadOf body
-      → w ≡ answerFrameOf limit command number payload out → w ≡ answerFrameOf limit (commandOf body) (numberOf body) (payloadOf body) out
+  pub by-body : (command number : ℕ) (payload : List ℕ) → command ≡ commandOf body → number ≡ numberOf body
+      → payload ≡ payloadOf body
+      → w ≡ answerFrameOf limit command number payload out
+      → w ≡ answerFrameOf limit (commandOf body) (numberOf body) (payloadOf body) out
   by-body command number payload p q r e = rw (← p, ← q, ← r) e
 
-  pub by-sum : (number : ℕ) → number ≡ numberOf body → w ≡ rejectOf limit 1 number out → w ≡ rejectOf limit 1 (numberOf body) out
+  pub by-sum : (number : ℕ) → number ≡ numberOf body → w ≡ rejectOf limit 1 number out
+      → w ≡ rejectOf limit 1 (numberOf body) out
   by-sum number q e = e ∙ ap (λ (n : ℕ). rejectOf limit 1 n out) q
 
 -- ---- what is due is read
@@ -85,7 +89,8 @@ module _ (command : ℕ) where
       (λ _. by-test Due-read (sizeFits k p)
       (λ _. by-test Due-read (allowed k p)
       (λ _. by-test (Answered command) (fromBox command) (λ _. code-2)
-      (λ _. by-test (Answered command) (eqb command 0x03 && eqb (getD (valuesOf k p) 0 0) 2) (λ _. tt) (λ _. owed-read command)))
+      (λ _. by-test (Answered command) (eqb command 0x03 && eqb (getD (valuesOf k p) 0 0) 2) (λ _. tt)
+      (λ _. owed-read command)))
       (λ _. by-test (Answered command) (fromBox command) (λ _. code-2) (λ _. code-3)))
       (λ _. by-test (Answered command) (fromBox command) (λ _. code-2) (λ _. code-3)))
       (λ _. by-test (Answered command) (fromBox command) (λ _. code-2) (λ _. code-2))

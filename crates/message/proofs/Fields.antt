@@ -1,4 +1,4 @@
--- The counter's status and control and the network's state are read back from their bytes, and are allowed. Assumes nothing.
+-- The counter's status and control and the network's state are read back from their bytes. Assumes nothing.
 use Prim.Native.Nat.{ℕ, _*_, _<_}
 use mathlib.Core.Path.{_≡_}
 use mathlib.Core.Bool.{Bool, true, false, _&&_}
@@ -9,16 +9,15 @@ use lib.Dec.{ltb}
 use lib.ListN.{getD}
 use Rattle.message.specs.Numbers.{num, bit, bits}
 use Rattle.base.specs.Numbers.{twoAt}
-use Rattle.message.specs.Counter.{statusValues, statusAllowed, statusIn, statusBytes, controlValues, controlAllowed, controlIn, controlBytes, modeAllowed}
+use Rattle.message.specs.Counter.{statusValues, statusAllowed, statusIn, statusBytes, controlValues}
+use Rattle.message.specs.Counter.{controlAllowed, controlIn, controlBytes, modeAllowed}
 use Rattle.message.specs.Commands.{networkValues}
-use Rattle.message.specs.Writing.{networkIn, networkBytes}
-use Rattle.message.specs.Claims.{effectiveControl}
+use Rattle.message.specs.Writing.{networkIn, networkBytes, effectiveControl}
 use Rattle.message.specs.declared.counter.Status.{Status}
 use Rattle.message.specs.declared.counter.Control.{Control}
 use Rattle.message.specs.declared.values.Network.{Network}
-use Rattle.message.proofs.Bits.{mode-most}
 use Rattle.base.proofs.Lists.{all-same}
-use Rattle.message.proofs.Numbers.{small}
+use Rattle.message.proofs.Numbers.{mode-most, small}
 use Rattle.base.proofs.Tests.{cond-same}
 
 -- ---- status
@@ -64,12 +63,22 @@ module _ (c : Control) (h : modeAllowed (c .flags .mode) (c .mode) ≡ true) whe
     volume-is : twoAt (controlBytes c) 2 ≡ num (c .flags .volume) * c .volume
 
   held : Bits
-  held = omega (arith, small (c .flags .lamp ∷ c .flags .mode ∷ c .flags .volume ∷ lamp ∷ []), num-and (c .flags .lamp) (c .lamp), mode-most (c .flags .mode) (c .mode) h)
+  held = omega (
+    arith,
+    small (c .flags .lamp ∷ c .flags .mode ∷ c .flags .volume ∷ lamp ∷ []),
+    num-and (c .flags .lamp) (c .lamp),
+    mode-most (c .flags .mode) (c .mode) h,
+  )
 
   pub control-back : controlValues (controlBytes c) ≡ controlIn (effectiveControl c)
   control-back =
       let b : Bits = held in
-      cc (once (c .flags .lamp) (num (c .lamp)), once (c .flags .mode) (c .mode), once (c .flags .volume) (c .volume), num-and (c .flags .lamp) (c .lamp))
+      cc (
+        once (c .flags .lamp) (num (c .lamp)),
+        once (c .flags .mode) (c .mode),
+        once (c .flags .volume) (c .volume),
+        num-and (c .flags .lamp) (c .lamp),
+      )
 
   pub control-allowed : controlAllowed (controlBytes c) ≡ true
   control-allowed =
@@ -78,13 +87,20 @@ module _ (c : Control) (h : modeAllowed (c .flags .mode) (c .mode) ≡ true) whe
       simp (lt-ltb, b .first, b .second, cond-same)
 
 -- a control that was read has no values left to ignore
-pub effective-control : (s : List ℕ) (c : Control) → controlValues s ≡ controlIn c → controlIn (effectiveControl c) ≡ controlIn c
+pub effective-control : (s : List ℕ) (c : Control) → controlValues s ≡ controlIn c
+    → controlIn (effectiveControl c) ≡ controlIn c
 effective-control s c e =
-    cc (once (c .flags .lamp) (bit 0 (getD s 1 0)), num-and (c .flags .lamp) (c .lamp), once (c .flags .mode) (bits 1 2 (getD s 1 0)), once (c .flags .volume) (twoAt s 2))
+    cc (
+      once (c .flags .lamp) (bit 0 (getD s 1 0)),
+      num-and (c .flags .lamp) (c .lamp),
+      once (c .flags .mode) (bits 1 2 (getD s 1 0)),
+      once (c .flags .volume) (twoAt s 2),
+    )
 
 -- ---- network
 
 pub network-back : (n : Network) → ltb (n .strength) 8 ≡ true → networkValues (networkBytes n) ≡ networkIn n
 network-back n h =
-    let flags : List Bool = n .softap ∷ n .station ∷ n .onboarding ∷ n .binding ∷ n .router ∷ n .server ∷ n .app ∷ n .testing ∷ [] in
+    let flags : List Bool = n .softap ∷ n .station ∷ n .onboarding ∷ n .binding ∷ n .router ∷ n .server ∷ n .app
+    ∷ n .testing ∷ [] in
     all-same _ _ (omega (arith, ltb-true, small flags))

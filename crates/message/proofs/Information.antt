@@ -1,10 +1,10 @@
--- Device information is read back from what is written: numbers, between texts and key before them and the secret behind. Assumes nothing.
+-- Device information is read back from what is written: numbers, and texts, key and secret around them.
 use Prim.Native.Nat.{ℕ, _+_, _≤_}
 use mathlib.Core.Path.{_≡_, refl, sym, ap, _∙_}
 use mathlib.Core.Bool.{true, false, cond}
 use mathlib.Core.List.{List, [], _∷_, _++_, append-assoc}
 use native.Mathlib.Omega.{arith}
-use borrow.Author.Tests.{eqb-true, le-leb, lt-leb}
+use borrow.Author.Tests.{eqb-true, le-leb}
 use lib.Dec.{eqb}
 use lib.ListN.{length, take, drop, length-append, length-drop, take-append-drop, drop-of-length-le}
 use lib.Seq.{length-take-le, take-append-le, drop-append-le, drop-at, take-all}
@@ -23,11 +23,14 @@ use Rattle.message.proofs.Numbers.{eight-behind}
 use Rattle.message.proofs.Accepted.{Accepted, Back}
 
 -- what lies in the first of two lists
-inside : (f q : List ℕ) (start size : ℕ) → start + size ≤ length f → take size (drop start (f ++ q)) ≡ take size (drop start f)
-inside f q start size h = rw (drop-append-le start f q (omega arith)) (take-append-le size (drop start f) q (omega (arith, length-drop start f)))
+inside : (f q : List ℕ) (start size : ℕ) → start + size ≤ length f
+    → take size (drop start (f ++ q)) ≡ take size (drop start f)
+inside f q start size h = rw (drop-append-le start f q (omega arith))
+    (take-append-le size (drop start f) q (omega (arith, length-drop start f)))
 
 -- what lies in the first n of a list, whatever stands behind them
-pub in-front : (l q : List ℕ) (n start size : ℕ) → start + size ≤ n → n ≤ length l → take size (drop start (take n l ++ q)) ≡ take size (drop start l)
+pub in-front : (l q : List ℕ) (n start size : ℕ) → start + size ≤ n → n ≤ length l
+    → take size (drop start (take n l ++ q)) ≡ take size (drop start l)
 in-front l q n start size h e =
     let whole : length (take n l) ≡ n = length-take-le n l e in
     inside (take n l) q start size (omega arith) ∙ sym (inside (take n l) (drop n l) start size (omega arith))
@@ -51,7 +54,8 @@ module _ {timeout size : ℕ} {more lent : List ℕ} (s : Shape timeout more len
   -- ---- values
 
   values-back :
-      {values : List ℕ} → among size (66 ∷ 74 ∷ 106 ∷ []) ≡ true → cond (eqb size 66) [] (eightAt payload 66 ∷ []) ≡ values
+      {values : List ℕ} → among size (66 ∷ 74 ∷ 106 ∷ []) ≡ true
+      → cond (eqb size 66) [] (eightAt payload 66 ∷ []) ≡ values
       → Accepted kind.Information 0x02 payload (0x02 ∷ size ∷ timeout ∷ values)
   unfolding sizeFits fits
   values-back listed rest =
@@ -59,7 +63,8 @@ module _ {timeout size : ℕ} {more lent : List ℕ} (s : Shape timeout more len
         listed = refl;
         sized = rw (payload-length, listed) (le-leb 0 size (omega arith));
         allows = refl;
-        values = rw (payload-length, two-behind (take 64 lent) front timeout (more ++ drop 64 lent)) (ap (λ (l : List ℕ). 0x02 ∷ size ∷ timeout ∷ l) rest);
+        values = rw (payload-length, two-behind (take 64 lent) front timeout (more ++ drop 64 lent))
+            (ap (λ (l : List ℕ). 0x02 ∷ size ∷ timeout ∷ l) rest);
       }
 
   attributes-back : (attributes : ℕ) → more ≡ eight attributes [] → eightAt payload 66 ≡ attributes
@@ -81,18 +86,26 @@ module _ {timeout size : ℕ} {more lent : List ℕ} (s : Shape timeout more len
   secret-back : eqb size 106 ≡ true → length lent ≡ 96 → secret ≡ drop 64 lent
   secret-back e n =
       rw (payload-length, e, ← append-assoc (take 64 lent) (two timeout more) (drop 64 lent))
-      (rw (drop-at (take 64 lent ++ two timeout more) (drop 64 lent) 74 (simp (length-append, front) (omega (arith, eqb-true))))
+      (rw (drop-at (take 64 lent ++ two timeout more) (drop 64 lent) 74
+      (simp (length-append, front) (omega (arith, eqb-true))))
       (take-all 32 (drop 64 lent) (omega (arith, length-drop 64 lent))))
 
   parts-back : secret ≡ drop 64 lent → bytesIn (partsIn kind.Information payload) payload ≡ lentParts 0x02 lent
   parts-back e =
-      cc (text 0 8 (omega arith), text 8 8 (omega arith), text 16 8 (omega arith), text 24 8 (omega arith), text 32 32 (omega arith))
+      cc (
+        text 0 8 (omega arith),
+        text 8 8 (omega arith),
+        text 16 8 (omega arith),
+        text 24 8 (omega arith),
+        text 32 32 (omega arith),
+      )
 
 -- ---- each shape
 
 pub information-back :
     (timeout : ℕ) (more : Extra) (lent : List ℕ) → eqb (length lent) (informationLent more) ≡ true
-    → Back kind.Information 0x02 (informationBytes (informationNumbers timeout more) lent) (0x02 ∷ informationIn timeout more) lent
+    → Back kind.Information 0x02 (informationBytes (informationNumbers timeout more) lent)
+    (0x02 ∷ informationIn timeout more) lent
 unfolding among
 information-back timeout extra.Absent lent h =
     let n : length lent ≡ 64 = eqb-true _ _ h in
@@ -101,8 +114,14 @@ information-back timeout extra.Absent lent h =
 information-back timeout (extra.Attributes attributes) lent h =
     let n : length lent ≡ 64 = eqb-true _ _ h in
     let s : Shape timeout (eight attributes []) lent 74 = omega arith in
-    record { values = values-back s refl (rw (attributes-back s attributes refl)); parts = parts-back s (no-secret s refl n) }
+    record {
+      values = values-back s refl (rw (attributes-back s attributes refl));
+      parts = parts-back s (no-secret s refl n);
+    }
 information-back timeout (extra.AttributesAndSecret attributes) lent h =
     let n : length lent ≡ 96 = eqb-true _ _ h in
     let s : Shape timeout (eight attributes []) lent 106 = omega arith in
-    record { values = values-back s refl (rw (attributes-back s attributes refl)); parts = parts-back s (secret-back s refl n) }
+    record {
+      values = values-back s refl (rw (attributes-back s attributes refl));
+      parts = parts-back s (secret-back s refl n);
+    }

@@ -1,5 +1,4 @@
 -- The laws, from bits and tables up to the claims of specs/Claims.antt.
-pub mod Bits
 pub mod Lines
 pub mod Reading
 pub mod Rows

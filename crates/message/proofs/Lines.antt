@@ -1,4 +1,4 @@
--- The table of specs/Commands.antt looked up: what holds of each of its commands and off the table holds of every command. Assumes nothing.
+-- The table looked up: what holds of its commands and off the table holds of every command. Assumes nothing.
 use Prim.Native.Nat.{ℕ, _+_}
 use mathlib.Core.Path.{_≡_, refl, sym, ap, _∙_}
 use mathlib.Core.Bool.{Bool, true, false, cond, _&&_, _||_, true≢false}
@@ -7,7 +7,8 @@ use lib.Dec.{eqb}
 use Rattle.base.proofs.Keys.{agree}
 use Rattle.base.proofs.Tests.{by-test, either-way, cond-same, both}
 use Rattle.base.specs.Keys.{among}
-use Rattle.message.specs.Commands.{CommandLine, table, unlisted, lineIn, lineOf, kindOf, fromBox, owedOf, isListed}
+use Rattle.message.specs.Commands.{CommandLine, table, unlisted, lineIn, lineOf, kindOf, fromBox, owedOf}
+use Rattle.message.specs.Commands.{isListed}
 use Rattle.message.specs.Claims.{BoxListed, PaperLists, boxCommands, emptyCommands, otherCommands}
 use Rattle.message.specs.declared.kind.Kind.{Kind}
 use Rattle.message.specs.declared.kind.Kind.the-variants as kind
@@ -35,15 +36,18 @@ every f g e none c =
     either-way (among c (keysIn table)) (agree f g (keysIn table) c e) (λ h. none c (off table c h) h)
 
 -- a command that has no line is none of some that have one
-none-of : (ks : List ℕ) → map (λ c. among c (keysIn table)) ks ≡ map (λ _. true) ks → (c : ℕ) → among c (keysIn table) ≡ false → among c ks ≡ false
+none-of : (ks : List ℕ) → map (λ c. among c (keysIn table)) ks ≡ map (λ _. true) ks → (c : ℕ)
+    → among c (keysIn table) ≡ false → among c ks ≡ false
 none-of ks e c h =
-    either-way (among c ks) (λ t. absurd (true≢false (sym (agree (λ c. among c (keysIn table)) (λ _. true) ks c e t) ∙ h))) (λ f. f)
+    either-way (among c ks) (λ t. absurd (true≢false
+    (sym (agree (λ c. among c (keysIn table)) (λ _. true) ks c e t) ∙ h))) (λ f. f)
 
 -- ---- the kinds
 
 -- what holds of each kind, in the enum's order, holds of all
 abbrev pub by-kind :
-    (P : Kind → Type 0) → P kind.Unlisted → P kind.Empty → P kind.Information → P kind.Action → P kind.Status → P kind.Report
+    (P : Kind → Type 0) → P kind.Unlisted → P kind.Empty → P kind.Information → P kind.Action → P kind.Status
+    → P kind.Report
     → P kind.Onboarding → P kind.Network → P kind.ModuleReject → P kind.BoxReject → P kind.Time → P kind.Announcement
     → P kind.Ready → P kind.Piece → (k : Kind) → P k
 by-kind P u e i a s r o n m b t c y d kind.Unlisted = u
@@ -69,7 +73,8 @@ soleOf k c = by-kind (λ _. ℕ) c c 0x02 0x03 0x04 0x05 0x09 0x0D 0x11 0x12 0x1
 pub only : (c : ℕ) (k : Kind) (n : ℕ) → soleOf k c ≡ n → kindOf c ≡ k → c ≡ n
 unfolding among table lineIn
 only c k n e f =
-    let sole : soleOf (kindOf c) c ≡ c = every (λ c. soleOf (kindOf c) c) (λ c. c) refl (λ c none _. ap (λ (l : Line). soleOf (l .kind) c) none) c in
+    let sole : soleOf (kindOf c) c ≡ c = every (λ c. soleOf (kindOf c) c) (λ c. c) refl
+    (λ c none _. ap (λ (l : Line). soleOf (l .kind) c) none) c in
     sym sole ∙ ap (λ (k : Kind). soleOf k c) f ∙ e
 
 -- ---- the claims
@@ -91,25 +96,26 @@ unfolding among table lineIn
 paper-lists =
     record {
       box = refl;
-      from-box = every fromBox (λ c. among c boxCommands) refl (λ c none h. ap (λ (l : Line). l .outward) none ∙ sym (none-of boxCommands refl c h));
+      from-box = every fromBox (λ c. among c boxCommands) refl
+          (λ c none h. ap (λ (l : Line). l .outward) none ∙ sym (none-of boxCommands refl c h));
       listed =
           every (λ c. isListed (kindOf c)) (λ c. among c emptyCommands || among c otherCommands) refl
           (λ c none h.
-          ap (λ (l : Line). isListed (l .kind)) none ∙ neither (none-of emptyCommands refl c h) (none-of otherCommands refl c h));
+          ap (λ (l : Line). isListed (l .kind)) none ∙ neither (none-of emptyCommands refl c h)
+          (none-of otherCommands refl c h));
       empty = λ c. agree kindOf (λ _. kind.Empty) emptyCommands c refl;
       others = refl;
       acknowledged = λ c. agree owedOf (λ c. due.Acknowledge (c + 1)) (0x03 ∷ 0x07 ∷ 0x0D ∷ 0x0F ∷ []) c refl;
       asked = refl;
+      control = λ values. refl;
+      query = λ values. refl;
       no-answer = λ c h.
           unless due.Nothing h
           (every owedUnless (λ _. due.Nothing) refl
-          (λ c none _. ap (λ (l : Line). cond (among c answered) due.Nothing (l .owed)) none ∙ cond-same (among c answered) due.Nothing) c);
+          (λ c none _. ap (λ (l : Line). cond (among c answered) due.Nothing (l .owed)) none ∙ cond-same
+          (among c answered) due.Nothing) c);
     }
 
 pub box-listed : BoxListed
 unfolding among table lineIn
-box-listed c h =
-    let listed : (fromBox c && isListed (kindOf c)) ≡ fromBox c =
-    every (λ c. fromBox c && isListed (kindOf c)) fromBox refl
-    (λ c none _. ap (λ (l : Line). l .outward && isListed (l .kind)) none ∙ sym (ap (λ (l : Line). l .outward) none)) c in
-    both (fromBox c) (listed ∙ h) .1
+box-listed c h = agree (λ c. isListed (kindOf c)) (λ _. true) boxCommands c refl (sym (paper-lists .from-box c) ∙ h)

@@ -3,7 +3,6 @@ use Prim.Native.Nat.{ℕ, _+_, _≤_}
 use mathlib.Core.Path.{_≡_, refl, sym, ap, _∙_}
 use mathlib.Core.Bool.{Bool, true, false, cond}
 use mathlib.Core.List.{List, [], _∷_}
-use native.Mathlib.Omega.{arith}
 use borrow.Author.Tests.{ltb-false}
 use lib.Dec.{ltb}
 use lib.ListN.{length, getD, take, drop}
@@ -27,20 +26,29 @@ record Wrote (limit : ℕ) (payload w : List ℕ) (count : ℕ) (o : Write) : Ty
   front : take count (o .out) ≡ w
 
 wrote :
-    (limit command number flags : ℕ) (payload out : List ℕ) (count : ℕ) → writeOf limit command number flags payload out .row ≡ row 0 (count ∷ [])
-    → Wrote limit payload (wire (bodyOf command number flags payload)) count (writeOf limit command number flags payload out)
-wrote limit command number flags payload out count e = go (ltb limit (length payload + 5)) (ltb (length out) (length w)) refl e
+    (limit command number flags : ℕ) (payload out : List ℕ) (count : ℕ)
+    → writeOf limit command number flags payload out .row ≡ row 0 (count ∷ [])
+    → Wrote limit payload (wire (bodyOf command number flags payload)) count
+    (writeOf limit command number flags payload out)
+wrote limit command number flags payload out count e = go (ltb limit (length payload + 5)) (ltb (length out) (length w))
+    refl e
   where
     w : List ℕ
     w = wire (bodyOf command number flags payload)
 
     written : Bool → Bool → Write
-    written large narrow = cond large (outcome (row 21 (0 ∷ [])) out) (cond narrow (outcome (row 22 (0 ∷ [])) out) (outcome (row 0 (length w ∷ [])) (onto w out)))
+    written large narrow = cond large (outcome (row 21 (0 ∷ [])) out)
+        (cond narrow (outcome (row 22 (0 ∷ [])) out) (outcome (row 0 (length w ∷ [])) (onto w out)))
 
-    go : (large narrow : Bool) → ltb limit (length payload + 5) ≡ large → written large narrow .row ≡ row 0 (count ∷ []) → Wrote limit payload w count (written large narrow)
+    go : (large narrow : Bool) → ltb limit (length payload + 5) ≡ large → written large narrow .row ≡ row 0 (count ∷ [])
+        → Wrote limit payload w count (written large narrow)
     go true narrow q e = refused e
     go false true q e = refused e
-    go false false q e = record { fits = ltb-false _ _ q; front = take-at w (drop (length w) out) count (ap (λ (r : Row). getD (r .values) 0 0) e) }
+    go false false q e = record {
+      fits =
+          ltb-false _ _ q;
+      front = take-at w (drop (length w) out) count (ap (λ (r : Row). getD (r .values) 0 0) e);
+    }
 
 module _ (limit : ℕ) (m : Message) (number flags count : ℕ) (lent out : List ℕ) where
   record Sent (o : Write) : Type 0 where
@@ -50,7 +58,8 @@ module _ (limit : ℕ) (m : Message) (number flags count : ℕ) (lent out : List
   sent : sendOf limit m number flags lent out .row ≡ row 0 (count ∷ []) → Sent (sendOf limit m number flags lent out)
   sent e =
       let o : Write = writeOf limit (commandIn m) number flags (payloadIn m lent) out in
-      let t = passed (λ (w : Write). w .row) (λ n. outcome (row n []) out) (λ n. refl) (isListed (kindOf (commandIn m))) (lentFits m (length lent)) (allowedIn m) o e in
+      let t = passed (λ (w : Write). w .row) (λ n. outcome (row n []) out) (λ n. refl) (isListed (kindOf (commandIn m)))
+      (lentFits m (length lent)) (allowedIn m) o e in
       let written : o .row ≡ row 0 (count ∷ []) = ap (λ (w : Write). w .row) (sym (t .3)) ∙ e in
       record {
         writable = record { listed = t .0; sized = t .1; allows = t .2 };
@@ -60,5 +69,6 @@ module _ (limit : ℕ) (m : Message) (number flags count : ℕ) (lent out : List
 pub message-round-trip : MessageRoundTrip
 message-round-trip limit h m number flags count lent out e earlier later all =
     let s = sent limit m number flags count lent out e in
-    let back = round-trip limit h (commandIn m) number flags (payloadIn m lent) (s .frame .fits) earlier later (all ∙ s .frame .front) in
+    let back = round-trip limit h (commandIn m) number flags (payloadIn m lent) (s .frame .fits) earlier later
+    (all ∙ s .frame .front) in
     record { frame = back; message = rw (back .command-is, back .payload-is) (written-read m lent (s .writable)) }

@@ -1,13 +1,16 @@
 -- Numbers and bits are read back from the bytes that they are written in. Assumes nothing.
-use Prim.Native.Nat.{ℕ, _+_, _≤_}
-use mathlib.Core.Path.{_≡_, ap}
+use Prim.Native.Nat.{ℕ, _+_, _*_, _%_, _≤_}
+use mathlib.Core.Path.{_≡_, refl, ap}
 use mathlib.Core.Bool.{Bool, true, false}
 use mathlib.Core.List.{List, [], _∷_, _++_}
 use native.Mathlib.Nat.{add-assoc}
 use native.Mathlib.Omega.{arith}
+use borrow.Author.Tests.{eqb-true, eqb-false, ltb-true}
+use lib.Dec.{eqb}
 use lib.ListN.{length, getD}
 use lib.Seq.{getD-append-add, getD-append-seam}
 use Rattle.message.specs.Numbers.{num, eightAt, eight}
+use Rattle.message.specs.Counter.{modeAllowed}
 
 -- the values at a place of two lists that are the same
 pub value : {l r : List ℕ} (i : ℕ) → l ≡ r → getD l i 0 ≡ getD r i 0
@@ -28,3 +31,16 @@ pub small : (l : List Bool) → Small l
 small [] = tt
 small (true ∷ l) = (omega arith, small l)
 small (false ∷ l) = (omega arith, small l)
+
+-- the lowest bit of a number
+pub lowest : (x : ℕ) → num (eqb (x % 2) 1) ≡ x % 2
+lowest x = go (eqb (x % 2) 1) refl
+  where
+    go : (b : Bool) → eqb (x % 2) 1 ≡ b → num b ≡ x % 2
+    go true e = omega (arith, eqb-true)
+    go false e = omega (arith, eqb-false)
+
+-- a mode that may be written is at most 2
+pub mode-most : (set : Bool) (mode : ℕ) → modeAllowed set mode ≡ true → num set * mode ≤ 2
+mode-most true mode e = omega (arith, ltb-true)
+mode-most false mode e = omega arith

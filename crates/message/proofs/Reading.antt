@@ -1,4 +1,4 @@
--- Laws of reading: a payload's size as tests of its length, a message that is got, and a command's line that reads a payload.
+-- Laws of reading: a payload's size as tests of its length, and a command's line that reads a payload.
 use Prim.Native.Nat.{ℕ, zero, suc, _+_}
 use mathlib.Core.Path.{_≡_, refl, sym, ap, _∙_}
 use mathlib.Core.Bool.{Bool, true, false, cond, not, _&&_}
@@ -9,11 +9,13 @@ use lib.Dec.{eqb, leb, leb·zero, leb·suc-suc, eqb·suc-zero}
 use Rattle.base.proofs.Keys.{among-none, among-next}
 use Rattle.base.proofs.Tests.{tests}
 use Rattle.base.specs.Numbers.{twoAt}
-use Rattle.message.specs.Commands.{exactly, from, counted, fits, sizesOf, chosenOf, sizeFits, isListed, allowed, valuesOf, partsIn, kindOf}
+use Rattle.message.specs.Commands.{exactly, from, counted, fits, sizesOf, chosenOf, sizeFits, isListed, allowed}
+use Rattle.message.specs.Commands.{valuesOf, partsIn, kindOf, lineOf}
 use Rattle.base.specs.Keys.{among}
+use Rattle.message.specs.Parts.{noParts}
 use Rattle.message.specs.Reading.{Read, judgedOf, decodeAs, decodeOf}
 use Rattle.message.specs.declared.kind.Kind.{Kind}
-use Rattle.message.specs.declared.parts.Parts.{Parts}
+use Rattle.message.specs.declared.kind.Line.{Line}
 use Rattle.message.proofs.Lines.{soleOf, only}
 use Rattle.message.proofs.Tests.{and-true}
 
@@ -39,7 +41,8 @@ pub fits-some : (p : List ℕ) → fits (from 1) p ≡ not (eqb (length p) 0)
 unfolding fits
 fits-some p = nonempty (length p)
 
-pub fits-counted : (before behind : ℕ) (p : List ℕ) → fits (counted before behind) p ≡ eqb (length p) (before + 2 + behind + twoAt p before)
+pub fits-counted : (before behind : ℕ) (p : List ℕ)
+    → fits (counted before behind) p ≡ eqb (length p) (before + 2 + behind + twoAt p before)
 unfolding fits
 fits-counted before behind p = ap (eqb (length p)) (omega arith)
 
@@ -48,7 +51,8 @@ unfolding sizeFits
 size-fits k p = refl
 
 -- with these `search` takes what the tests on the way told into a kind's sizes, and so into `decodeAs`
-pub ruleset sizes = (size-fits, fits-any, fits-some, fits-from, fits-exactly, fits-counted, among-none, among-next, tests)
+pub ruleset sizes =
+    (size-fits, fits-any, fits-some, fits-from, fits-exactly, fits-counted, among-none, among-next, tests)
 
 -- the first byte of a payload that has none counts 0
 pub first-none : (p : List ℕ) → length p ≡ 0 → getD p 0 0 ≡ 0
@@ -64,10 +68,8 @@ module _ (k : Kind) (p : List ℕ) (any : chosenOf k (getD p 0 0) ≡ from 0) wh
   pub sized-one : (n : ℕ) → sizesOf k ≡ exactly (n ∷ []) → eqb (length p) n ≡ sizeFits k p
   sized-one n e = sym (simp (size-fits, any, e, fits-any, fits-exactly, among-next, among-none, and-true, whole))
 
-  pub sized-from : (n : ℕ) → sizesOf k ≡ from n → leb n (length p) ≡ sizeFits k p
-  sized-from n e = sym (simp (size-fits, any, e, fits-any, fits-from, and-true))
-
-  pub sized-counted : (before behind : ℕ) → sizesOf k ≡ counted before behind → eqb (length p) (before + 2 + behind + twoAt p before) ≡ sizeFits k p
+  pub sized-counted : (before behind : ℕ) → sizesOf k ≡ counted before behind
+      → eqb (length p) (before + 2 + behind + twoAt p before) ≡ sizeFits k p
   sized-counted before behind e = sym (simp (size-fits, any, e, fits-any, fits-counted, and-true))
 
 -- ---- a layout that the first byte chooses
@@ -75,20 +77,46 @@ module _ (k : Kind) (p : List ℕ) (any : chosenOf k (getD p 0 0) ≡ from 0) wh
 -- a payload of one of its line's sizes is judged by the size of that layout
 pub chosen : (k : Kind) (command n : ℕ) (p : List ℕ) {r : Read} (a : Bool) (values : List ℕ)
     → r ≡ judgedOf (eqb (length p) n) a (command ∷ values) (partsIn k p)
-    → isListed k ≡ true → fits (sizesOf k) p ≡ true → chosenOf k (getD p 0 0) ≡ exactly (n ∷ []) → a ≡ allowed k p → values ≡ valuesOf k p
+    → isListed k ≡ true → fits (sizesOf k) p ≡ true → chosenOf k (getD p 0 0) ≡ exactly (n ∷ []) → a ≡ allowed k p
+    → values ≡ valuesOf k p
     → r ≡ decodeAs k command p
 chosen k command n p a values f listed size layout allows e =
     f ∙ simp (listed, size-fits, size, layout, fits-exactly, among-next, among-none, whole, allows, e)
 
+-- ---- a kind that has one size and no parts
+
+-- judged by its size
+pub judged-one :
+    (k : Kind) (command n : ℕ) (p : List ℕ) {r : Read} (a : Bool) (values : List ℕ)
+    → r ≡ judgedOf (eqb (length p) n) a (command ∷ values) noParts → sizesOf k ≡ exactly (n ∷ [])
+    → chosenOf k (getD p 0 0) ≡ from 0 → isListed k ≡ true → partsIn k p ≡ noParts
+    → a ≡ allowed k p → values ≡ valuesOf k p
+    → r ≡ decodeAs k command p
+judged-one k command n p a values f size any listed none allows e =
+    f ∙ simp (listed, sized-one k p any n size, none, allows, e)
+
+-- one byte, which was tested
+pub judged-byte :
+    (k : Kind) (command : ℕ) (p : List ℕ) {r : Read} (byte : ℕ) (a : Bool)
+    → r ≡ judgedOf (eqb (length p) 1) a (command ∷ byte ∷ []) noParts → byte ≡ getD p 0 0 → a ≡ allowed k (byte ∷ [])
+    → sizesOf k ≡ exactly (1 ∷ []) → chosenOf k (getD p 0 0) ≡ from 0 → isListed k ≡ true → partsIn k p ≡ noParts
+    → allowed k p ≡ allowed k (getD p 0 0 ∷ []) → valuesOf k p ≡ getD p 0 0 ∷ [] → r ≡ decodeAs k command p
+judged-byte k command p byte a f e q size any listed none allows values =
+    judged-one k command 1 p a (byte ∷ []) f size any listed none
+    (q ∙ ap (λ (b : ℕ). allowed k (b ∷ [])) e ∙ sym allows) (ap (λ (b : ℕ). b ∷ []) e ∙ sym values)
+
 -- ---- a command's line
 
-module _ (k : Kind) {kind : Kind} {r : Read} (command : ℕ) (p : List ℕ) (of : kind ≡ kindOf command) (told : kind ≡ k) where
+module _ (k : Kind) {line : Line} (command : ℕ) (p : List ℕ) (of : line ≡ lineOf command) (told : line .kind ≡ k) where
+  is : kindOf command ≡ k
+  is = ap (λ (l : Line). l .kind) (sym of) ∙ told
+
   -- a payload is read as the command's line reads it
-  pub read-kind : r ≡ decodeAs k command p → r ≡ decodeOf command p
-  read-kind e = rw (← of, told) e
+  pub read-kind : {r : Read} → r ≡ decodeAs k command p → r ≡ decodeOf command p
+  read-kind e = e ∙ ap (λ (k : Kind). decodeAs k command p) (sym is)
 
   -- a line that has one command reads as that one
-  pub read-line : (n : ℕ) → soleOf k command ≡ n → r ≡ decodeAs k n p → r ≡ decodeOf command p
-  read-line n one e = read-kind (rw (only command k n one (sym of ∙ told)) e)
+  pub read-line : {r : Read} (n : ℕ) → soleOf k command ≡ n → r ≡ decodeAs k n p → r ≡ decodeOf command p
+  read-line n one e = read-kind (rw (only command k n one is) e)
 
-pub ruleset lines = (read-kind, read-line)
+pub ruleset lines = (read-kind, read-line, judged-one, judged-byte)

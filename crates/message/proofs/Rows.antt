@@ -1,4 +1,4 @@
--- A message can be read back from its values, and an answer from its line of the table, so no two have the same. Assumes nothing.
+-- A message can be read back from its values, and an answer from its row, so no two have the same. Assumes nothing.
 use Prim.Native.Nat.{ℕ}
 use mathlib.Core.Path.{_≡_, refl, ap}
 use mathlib.Core.Bool.{Bool, true, false, cond}
@@ -32,63 +32,9 @@ use Rattle.message.specs.declared.replies.Reply.the-variants as reply
 
 -- ---- the values
 
-abbrev value : List ℕ → ℕ → ℕ
-value l i = getD l i 0
-
-abbrev flag : List ℕ → ℕ → Bool
-flag l i = eqb (value l i) 1
-
 flag-back : (b : Bool) → eqb (num b) 1 ≡ b
 flag-back true = refl
 flag-back false = refl
-
-abbrev statusFrom : List ℕ → Status
-statusFrom l =
-    record {
-      feeding = flag l 0;
-      lamp = flag l 1;
-      mode = value l 2;
-      volume = value l 3;
-      leaf = value l 4;
-      double = flag l 5;
-      skipped = flag l 6;
-      fault = flag l 7;
-    }
-
-status-back : (s : Status) → statusFrom (statusIn s) ≡ s
-status-back s = simp flag-back
-
-abbrev controlFrom : List ℕ → Control
-controlFrom l =
-    record {
-      flags = record { lamp = flag l 0; mode = flag l 1; volume = flag l 2 };
-      lamp = flag l 3;
-      mode = value l 4;
-      volume = value l 5;
-    }
-
-control-back : (c : Control) → controlFrom (controlIn c) ≡ c
-control-back c = simp flag-back
-
-abbrev networkFrom : List ℕ → Network
-networkFrom l =
-    record {
-      softap = flag l 0;
-      station = flag l 1;
-      onboarding = flag l 2;
-      binding = flag l 3;
-      router = flag l 4;
-      server = flag l 5;
-      strength = value l 6;
-      app = flag l 7;
-      testing = flag l 8;
-    }
-
-network-back : (n : Network) → networkFrom (networkIn n) ≡ n
-network-back n = simp flag-back
-
-abbrev extraFrom : ℕ → ℕ → Extra
-extraFrom size attributes = cond (eqb size 66) extra.Absent (cond (eqb size 74) (extra.Attributes attributes) (extra.AttributesAndSecret attributes))
 
 abbrev unixFrom : List ℕ → Unix
 unixFrom [] = unix.Absent
@@ -98,20 +44,68 @@ unix-back : (u : Unix) → unixFrom (unixIn u) ≡ u
 unix-back unix.Absent = refl
 unix-back (unix.Seconds seconds) = refl
 
-abbrev timeFrom : List ℕ → Time
-timeFrom l =
-    record {
-      year = value l 0;
-      month = value l 1;
-      day = value l 2;
-      hour = value l 3;
-      minute = value l 4;
-      second = value l 5;
-      unix = unixFrom (drop 6 l);
-    }
+abbrev value : List ℕ → ℕ → ℕ
+value l i = getD l i 0
+
+-- from a row's values, as numbers and as flags
+module _ (l : List ℕ) where
+  abbrev v : ℕ → ℕ
+  v i = value l i
+
+  abbrev f : ℕ → Bool
+  f i = eqb (v i) 1
+
+  abbrev statusFrom : Status
+  statusFrom =
+      record {
+        feeding = f 0;
+        lamp = f 1;
+        mode = v 2;
+        volume = v 3;
+        leaf = v 4;
+        double = f 5;
+        skipped = f 6;
+        fault = f 7;
+      }
+
+  abbrev controlFrom : Control
+  controlFrom =
+      record { flags = record { lamp = f 0; mode = f 1; volume = f 2 }; lamp = f 3; mode = v 4; volume = v 5 }
+
+  abbrev networkFrom : Network
+  networkFrom =
+      record {
+        softap = f 0;
+        station = f 1;
+        onboarding = f 2;
+        binding = f 3;
+        router = f 4;
+        server = f 5;
+        strength = v 6;
+        app = f 7;
+        testing = f 8;
+      }
+
+  abbrev timeFrom : Time
+  timeFrom =
+      record { year = v 0; month = v 1; day = v 2; hour = v 3; minute = v 4; second = v 5; unix = unixFrom (drop 6 l) }
+
+status-back : (s : Status) → statusFrom (statusIn s) ≡ s
+status-back s = simp flag-back
+
+control-back : (c : Control) → controlFrom (controlIn c) ≡ c
+control-back c = simp flag-back
+
+network-back : (n : Network) → networkFrom (networkIn n) ≡ n
+network-back n = simp flag-back
 
 time-back : (c : Time) → timeFrom (timeIn c) ≡ c
 time-back c = simp (unix-back (c .unix))
+
+abbrev extraFrom : ℕ → ℕ → Extra
+extraFrom size attributes =
+    cond (eqb size 66) extra.Absent
+    (cond (eqb size 74) (extra.Attributes attributes) (extra.AttributesAndSecret attributes))
 
 -- ---- a message
 

@@ -1,6 +1,6 @@
--- A message that is written: its tests passed, and its payload from the parts that the frame writer is handed. Assumes nothing.
+-- A message that is written: its tests passed, and its payload from the parts that it is written in. Assumes nothing.
 use Prim.Native.Nat.{ℕ, _-_}
-use mathlib.Core.Path.{_≡_, sym, ap, _∙_}
+use mathlib.Core.Path.{_≡_, refl, sym, ap, _∙_}
 use mathlib.Core.Bool.{Bool, true, false, cond, _&&_}
 use mathlib.Core.List.{List, [], _∷_, _++_, cons≢nil}
 use native.Mathlib.Omega.{arith}
@@ -14,7 +14,8 @@ use Rattle.frame.specs.Calls.{writeOf}
 use Rattle.message.specs.Commands.{table, lineIn, kindOf, isListed, sizeFits}
 use Rattle.message.specs.Parts.{noParts}
 use Rattle.message.specs.Reading.{Read, got, refusal, decodeOf}
-use Rattle.message.specs.Writing.{sendAs, sendOf, informationBytes, informationNumbers, informationLent, timeBytes, unixBytes}
+use Rattle.message.specs.Writing.{sendAs, sendBare, sendOf, informationBytes, informationNumbers, informationLent}
+use Rattle.message.specs.Writing.{timeBytes, unixBytes}
 use Rattle.message.specs.declared.parts.Parts.{Parts}
 use Rattle.message.specs.declared.values.Message.{Message}
 use Rattle.message.specs.declared.values.Message.the-variants as message
@@ -28,27 +29,33 @@ use Rattle.message.proofs.Written.{empty-read}
 -- ---- answers
 
 -- three tests that are passed
-passed : {A : Type 0} {t u v : Bool} (x y z w : A) → t ≡ true → u ≡ true → v ≡ true → x ≡ cond t (cond u (cond v x y) z) w
+passed : {A : Type 0} {t u v : Bool} (x y z w : A) → t ≡ true → u ≡ true → v ≡ true
+    → x ≡ cond t (cond u (cond v x y) z) w
 passed x y z w p q r = rw (p, q, r)
 
 -- a row passed on
 pub onward : {a b : Row} {left : List ℕ} {w : Write} → a ≡ b → outcome b left ≡ w → outcome a left ≡ w
 onward p e = rw p e
 
--- what is refused neither as a command nor for its size nor for a field is a frame with the payload, whose row is passed on
-pub sent : {listed sized allows : Bool} (limit command number flags : ℕ) {bytes payload : List ℕ} (out : List ℕ) {a b : Row} {left : List ℕ}
+-- what is refused neither as a command nor for its size nor for a field is a frame with the payload, whose row is
+-- passed on
+pub sent : {listed sized allows : Bool} (limit command number flags : ℕ) {bytes payload : List ℕ} (out : List ℕ)
+    {a b : Row} {left : List ℕ}
     → listed ≡ true → sized ≡ true → allows ≡ true → bytes ≡ payload → a ≡ b
-    → outcome b left ≡ writeOf limit command number flags bytes out → outcome a left ≡ sendAs limit listed sized allows command number flags payload out
-sent limit command number flags out l s a p q e = onward q e ∙ ap (λ (b : List ℕ). writeOf limit command number flags b out) p ∙ passed _ _ _ _ l s a
+    → outcome b left ≡ writeOf limit command number flags bytes out
+    → outcome a left ≡ sendAs limit listed sized allows command number flags payload out
+sent limit command number flags out l s a p q e = onward q e ∙ ap
+    (λ (b : List ℕ). writeOf limit command number flags b out) p ∙ passed _ _ _ _ l s a
 
 -- a message that takes nothing lent: its bytes are its payload, and its values are allowed as was tested
 pub bare :
-    (command number flags : ℕ) (lent out : List ℕ) {bytes payload : List ℕ} {a b : Bool} {w : Write} → bytes ≡ payload → a ≡ b
-    → w ≡ sendAs frameLimit true (eqb (length lent) 0) a command number flags bytes out
-    → w ≡ sendAs frameLimit true (eqb (length lent) 0) b command number flags payload out
+    (command number flags : ℕ) (lent out : List ℕ) {bytes payload : List ℕ} {a b : Bool} {w : Write} → bytes ≡ payload
+    → a ≡ b
+    → w ≡ sendBare frameLimit a command number flags lent bytes out
+    → w ≡ sendBare frameLimit b command number flags lent payload out
 bare command number flags lent out {bytes} {payload} {a} {b} p q e =
-    e ∙ ap (λ (x : Bool). sendAs frameLimit true (eqb (length lent) 0) x command number flags bytes out) q
-    ∙ ap (λ (x : List ℕ). sendAs frameLimit true (eqb (length lent) 0) b command number flags x out) p
+    e ∙ ap (λ (x : Bool). sendBare frameLimit x command number flags lent bytes out) q
+    ∙ ap (λ (x : List ℕ). sendBare frameLimit b command number flags lent x out) p
 
 -- the message that was told
 pub arm :
@@ -56,19 +63,21 @@ pub arm :
     → w ≡ sendOf limit m number flags lent out → w ≡ sendOf limit message number flags lent out
 arm m limit number flags lent out told e = e ∙ ap (λ (x : Message). sendOf limit x number flags lent out) (sym told)
 
-pub ruleset arms = (arm)
+pub ruleset arms = (arm, bare)
 
 -- ---- no payload, by what reading says of it
 
 module _ (limit c number flags : ℕ) (lent out : List ℕ) where
   pub empty-got :
       {vs : List ℕ} {s : Parts} {w : Write} → got vs s ≡ decodeOf c []
-      → w ≡ sendAs limit true (eqb (length lent) 0) true c number flags [] out → w ≡ sendOf limit (message.Empty c) number flags lent out
+      → w ≡ sendAs limit true (eqb (length lent) 0) true c number flags [] out
+      → w ≡ sendOf limit (message.Empty c) number flags lent out
   empty-got e f =
       let a = accepted {k = kindOf c} {command = c} (sym (ap (λ (r : Read). r .row) e)) in
       rw (a .listed, a .sized, and-true) f
 
-  pub empty-refused : (n : ℕ) → refusal n ≡ decodeOf c [] → outcome (row n []) out ≡ sendOf limit (message.Empty c) number flags lent out
+  pub empty-refused : (n : ℕ) → refusal n ≡ decodeOf c []
+      → outcome (row n []) out ≡ sendOf limit (message.Empty c) number flags lent out
   empty-refused n e = go (isListed (kindOf c)) (sizeFits (kindOf c) []) (e ∙ empty-read (kindOf c) c)
     where
       go : (l s : Bool) → refusal n ≡ cond l (cond s (got (c ∷ []) noParts) (refusal 32)) (refusal 31)
@@ -90,15 +99,19 @@ between numbers lent = rw (take-all (length lent - 64) (drop 64 lent) (omega (ar
 
 -- information by what it has beside timeout, texts and key
 pub informed :
-    (timeout number flags : ℕ) (lent out : List ℕ) (more : Extra) {told : Extra} {numbers : List ℕ} {w : Write} → told ≡ more
+    (timeout number flags : ℕ) (lent out : List ℕ) (more : Extra) {told : Extra} {numbers : List ℕ} {w : Write}
+    → told ≡ more
     → numbers ≡ informationNumbers timeout more
-    → w ≡ sendAs frameLimit true (eqb (length lent) (informationLent more)) true 2 number flags (informationBytes numbers lent) out
+    → w ≡ sendAs frameLimit true (eqb (length lent) (informationLent more)) true 2 number flags
+    (informationBytes numbers lent) out
     → w ≡ sendOf frameLimit (message.Information timeout told) number flags lent out
 unfolding table lineIn
 informed timeout number flags lent out more e p f =
-    f ∙ ap (λ (n : List ℕ). sendAs frameLimit true (eqb (length lent) (informationLent more)) true 2 number flags (informationBytes n lent) out) p
+    f ∙ ap (λ (n : List ℕ). sendAs frameLimit true (eqb (length lent) (informationLent more)) true 2 number flags
+    (informationBytes n lent) out) p
     ∙ ap (λ (x : Extra). sendOf frameLimit (message.Information timeout x) number flags lent out) (sym e)
 
 -- a time's bytes, by what it has behind the second
-pub dated : (time : Time) {u : Unix} → time .unix ≡ u → timeBytes time (unixBytes u) ≡ timeBytes time (unixBytes (time .unix))
+pub dated : (time : Time) {u : Unix} → time .unix ≡ u
+    → timeBytes time (unixBytes u) ≡ timeBytes time (unixBytes (time .unix))
 dated time told = rw told

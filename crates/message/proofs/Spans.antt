@@ -1,7 +1,7 @@
--- Each part that reading gives lies in its payload, by the sizes that reading accepts, and is handed out whole. Assumes nothing.
+-- Each part that reading gives lies in its payload, by the accepted sizes, and is handed out whole. Assumes nothing.
 use Prim.Native.Nat.{ℕ, _+_, _≤_, min}
-use mathlib.Core.Path.{_≡_, refl}
-use mathlib.Core.Bool.{true, cond}
+use mathlib.Core.Path.{_≡_}
+use mathlib.Core.Bool.{true}
 use mathlib.Core.List.{List, [], _∷_}
 use native.Mathlib.Omega.{arith}
 use borrow.Author.Tests.{eqb-true, leb-true}
@@ -12,14 +12,13 @@ use Rattle.base.proofs.Tests.{by-test, both}
 use Rattle.base.proofs.Keys.{among-holds}
 use Rattle.message.proofs.Lines.{by-kind}
 use Rattle.base.specs.Keys.{among}
-use Rattle.message.specs.Commands.{isListed, sizesOf, chosenOf, fits, sizeFits, allowed, partsIn, kindOf}
+use Rattle.message.specs.Commands.{isListed, sizesOf, fits, sizeFits, allowed, partsIn, kindOf}
 use Rattle.message.specs.Reading.{Read}
 use Rattle.message.specs.Parts.{textsAnd, EachPlace, PartAt}
 use Rattle.message.specs.Claims.{PartsWithin, HandedOut, WholePart}
 use Rattle.message.specs.declared.kind.Kind.{Kind}
 use Rattle.message.specs.declared.kind.Kind.the-variants as kind
 use Rattle.message.specs.declared.parts.Place.{Place}
-use Rattle.message.specs.declared.parts.Parts.{Parts}
 
 abbrev Within : List ℕ → Place → Type 0
 Within p s = s .start + s .size ≤ length p
@@ -33,13 +32,16 @@ information-within : Fitting kind.Information
 unfolding among fits
 information-within p h =
     let least : 66 ≤ length p = among-holds (λ n. 66 ≤ n) (length p) (66 ∷ 74 ∷ 106 ∷ []) (omega arith) h in
-    by-test (λ s. EachPlace (Within p) (textsAnd s)) (eqb (length p) 106) (λ e. omega (arith, eqb-true)) (λ _. omega arith)
+    by-test (λ s. EachPlace (Within p) (textsAnd s)) (eqb (length p) 106) (λ e. omega (arith, eqb-true))
+    (λ _. omega arith)
 
 kind-within : (k : Kind) → Fitting k
 unfolding among fits
 kind-within =
-    by-kind Fitting (λ p h. omega arith) (λ p h. omega arith) information-within (λ p h. omega arith) (λ p h. omega arith)
-    (λ p h. omega arith) (λ p h. omega arith) (λ p h. omega arith) (λ p h. omega arith) (λ p h. omega arith) (λ p h. omega arith)
+    by-kind Fitting (λ p h. omega arith) (λ p h. omega arith) information-within (λ p h. omega arith)
+    (λ p h. omega arith)
+    (λ p h. omega arith) (λ p h. omega arith) (λ p h. omega arith) (λ p h. omega arith) (λ p h. omega arith)
+    (λ p h. omega arith)
     (λ p h. omega (arith, eqb-true)) (λ p h. omega (arith, eqb-true)) (λ p h. omega (arith, leb-true))
 
 pub parts-within : PartsWithin
@@ -54,7 +56,8 @@ parts-within command p =
     (λ _. omega arith)
 
 -- a place that lies in the payload is not clipped
-whole : (payload : RefT (List ℕ)) (s : Place) → Within (now payload) s → (part : RefT (List ℕ)) → PartAt payload part s → WholePart payload part s
+whole : (payload : RefT (List ℕ)) (s : Place) → Within (now payload) s → (part : RefT (List ℕ)) → PartAt payload part s
+    → WholePart payload part s
 whole payload s h part given =
     let front : min (s .start) (length (now payload)) ≡ s .start = omega arith in
     record { part-is = rw front at given; within = h }

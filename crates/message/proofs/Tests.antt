@@ -20,7 +20,8 @@ module _ {A : Type 0} (rowIn : A → Row) (refusal : ℕ → A) (h : (n : ℕ) �
   abbrev tested : Bool → Bool → Bool → A → A
   tested a b c x = cond a (cond b (cond c x (refusal 33)) (refusal 32)) (refusal 31)
 
-  pub passed : (a b c : Bool) (x : A) {vs : List ℕ} → rowIn (tested a b c x) ≡ row 0 vs → (a ≡ true) × (b ≡ true) × (c ≡ true) × (tested a b c x ≡ x)
+  pub passed : (a b c : Bool) (x : A) {vs : List ℕ} → rowIn (tested a b c x) ≡ row 0 vs
+      → (a ≡ true) × (b ≡ true) × (c ≡ true) × (tested a b c x ≡ x)
   passed true true true x e = (refl, refl, refl, refl)
   passed true true false x e = refused (sym (h 33) ∙ e)
   passed true false c x e = refused (sym (h 32) ∙ e)

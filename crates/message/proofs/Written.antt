@@ -10,12 +10,13 @@ use lib.ListN.{length, length-append}
 use lib.Seq.{take-at, take-length, take-all, take-nil, drop-nil}
 use Rattle.base.specs.Numbers.{two, twoAt}
 use Rattle.base.proofs.Tests.{both, cond-same}
-use Rattle.message.specs.Commands.{kindOf, table, lineIn, isListed, sizeFits, fits, from, counted, allowed, valuesOf, partsIn}
+use Rattle.message.specs.Commands.{kindOf, table, lineIn, isListed, sizeFits, fits, from, counted, allowed}
+use Rattle.message.specs.Commands.{valuesOf, partsIn}
 use Rattle.message.specs.Parts.{noParts, bytesIn}
 use Rattle.message.specs.Reading.{Read, got, refusal, decodeAs}
 use Rattle.base.specs.Keys.{among}
-use Rattle.message.specs.Writing.{commandIn, messageIn, payloadIn, unixIn, timeBytes, unixBytes}
-use Rattle.message.specs.Claims.{Writable, WrittenRead, effective, lentParts}
+use Rattle.message.specs.Writing.{commandIn, messageIn, readIn, payloadIn, unixIn, timeBytes, unixBytes}
+use Rattle.message.specs.Claims.{Writable, WrittenRead, lentParts}
 use Rattle.message.specs.declared.kind.Kind.{Kind}
 use Rattle.message.specs.declared.kind.Kind.the-variants as kind
 use Rattle.message.specs.declared.parts.Parts.{Parts}
@@ -37,8 +38,10 @@ pub empty-read : (k : Kind) (c : ℕ)
     → decodeAs k c [] ≡ cond (isListed k) (cond (sizeFits k []) (got (c ∷ []) noParts) (refusal 32)) (refusal 31)
 unfolding sizeFits fits among
 empty-read =
-    by-kind (λ k. (c : ℕ) → decodeAs k c [] ≡ cond (isListed k) (cond (sizeFits k []) (got (c ∷ []) noParts) (refusal 32)) (refusal 31))
-    (λ c. refl) (λ c. refl) (λ c. refl) (λ c. refl) (λ c. refl) (λ c. refl) (λ c. refl) (λ c. refl) (λ c. refl) (λ c. refl)
+    by-kind (λ k. (c : ℕ) → decodeAs k c [] ≡ cond (isListed k)
+    (cond (sizeFits k []) (got (c ∷ []) noParts) (refusal 32)) (refusal 31))
+    (λ c. refl) (λ c. refl) (λ c. refl) (λ c. refl) (λ c. refl) (λ c. refl) (λ c. refl) (λ c. refl) (λ c. refl)
+    (λ c. refl)
     (λ c. refl) (λ c. refl) (λ c. refl) (λ c. refl)
 
 empty-accepted : (k : Kind) (c : ℕ) → isListed k ≡ true → sizeFits k [] ≡ true → Accepted k c [] (c ∷ [])
@@ -65,19 +68,21 @@ module _ (p : List ℕ) where
   unfolding fits
   least-size least h = rw (le-leb least (length p) h) any-size
 
-  counted-size : (before behind : ℕ) → length p ≡ before + 2 + twoAt p before + behind → (fits (counted before behind) p && fits (from 0) p) ≡ true
+  counted-size : (before behind : ℕ) → length p ≡ before + 2 + twoAt p before + behind
+      → (fits (counted before behind) p && fits (from 0) p) ≡ true
   unfolding fits
   counted-size before behind h = rw (eq-eqb (length p) (before + 2 + twoAt p before + behind) h) any-size
 
 -- ---- each message
 
 plain :
-    {k : Kind} {c : ℕ} {p vs lent : List ℕ} → isListed k ≡ true → sizeFits k p ≡ true → bytesIn (partsIn k p) p ≡ lentParts c lent
+    {k : Kind} {c : ℕ} {p vs lent : List ℕ} → isListed k ≡ true → sizeFits k p ≡ true
+    → bytesIn (partsIn k p) p ≡ lentParts c lent
     → allowed k p ≡ true → c ∷ valuesOf k p ≡ vs → Back k c p vs lent
 plain l s parts a v = record { values = record { listed = l; sized = s; allows = a; values = v }; parts = parts }
 
 back : (m : Message) (lent : List ℕ) → Writable m lent
-    → Back (kindOf (commandIn m)) (commandIn m) (payloadIn m lent) (messageIn (effective m)) lent
+    → Back (kindOf (commandIn m)) (commandIn m) (payloadIn m lent) (readIn m) lent
 unfolding table lineIn among sizeFits fits
 back (message.Empty c) lent w =
     let size = both (eqb (length lent) 0) (w .sized) in
@@ -88,14 +93,18 @@ back (message.Empty c) lent w =
     }
 back (message.Information timeout more) lent w = information-back timeout more lent (w .sized)
 back (message.Control control) lent w =
-    plain refl refl refl (control-allowed control (w .allows)) (ap (λ (l : List ℕ). 0x03 ∷ 1 ∷ l) (control-back control (w .allows)))
+    plain refl refl refl (control-allowed control (w .allows))
+    (ap (λ (l : List ℕ). 0x03 ∷ 1 ∷ l) (control-back control (w .allows)))
 back message.Query lent w = plain refl refl refl refl refl
 back (message.Status status) lent w =
-    plain refl refl refl (status-allowed status (w .allows)) (ap (λ (l : List ℕ). 0x04 ∷ 3 ∷ l) (status-back status (w .allows)))
+    plain refl refl refl (status-allowed status (w .allows))
+    (ap (λ (l : List ℕ). 0x04 ∷ 3 ∷ l) (status-back status (w .allows)))
 back (message.Report status) lent w =
-    plain refl refl refl (status-allowed status (w .allows)) (ap (λ (l : List ℕ). 0x05 ∷ 4 ∷ l) (status-back status (w .allows)))
+    plain refl refl refl (status-allowed status (w .allows))
+    (ap (λ (l : List ℕ). 0x05 ∷ 4 ∷ l) (status-back status (w .allows)))
 back (message.Onboarding way) lent w = plain refl refl refl (w .allows) refl
-back (message.Network network) lent w = plain refl refl refl refl (ap (λ (l : List ℕ). 0x0D ∷ l) (network-back network (w .allows)))
+back (message.Network network) lent w = plain refl refl refl refl
+    (ap (λ (l : List ℕ). 0x0D ∷ l) (network-back network (w .allows)))
 back (message.ModuleReject code) lent w = plain refl refl refl (w .allows) refl
 back (message.BoxReject code) lent w = plain refl refl refl (w .allows) refl
 back (message.Time time) lent w = time-back (time .unix)

@@ -15,12 +15,12 @@ use Rattle.message.specs.declared.kind.Due.the-variants.{Nothing, AskInf
 
 -- ---- what a frame calls for
 
--- a message without a fault, by its values, the command first: as its line of the table says, but "03 read [asks the caller] for status"
+-- a message without a fault, by its values, the command first: what its line says, but a query asks for the status
 abbrev pub dueFor : List ℕ → Due
 dueFor values =
     cond (eqb (getD values 0 0) 0x03 && eqb (getD values 1 0) 2) AskStatus (owedOf (getD values 0 0))
 
--- "COMMAND, or a listed command that only the box sends .., code 2" whatever its payload; "any other SIZE or FIELD code 3"
+-- a command that is not listed, or that only the box sends, gets code 2, whatever its payload; another fault code 3
 abbrev pub dueAfter : ℕ → Row → Due
 dueAfter command reading =
     cond (fromBox command) (Reject 2)
@@ -35,7 +35,8 @@ dueOf command p = dueAfter command (readOf command p)
 
 -- a 12 that was written is told with its command and code
 abbrev pub withCode : ℕ → Write → Write
-withCode code w = cond (eqb (w .row .number) 0) (outcome (row 0 (getD (w .row .values) 0 0 ∷ 0x12 ∷ code ∷ [])) (w .out)) w
+withCode code w =
+    cond (eqb (w .row .number) 0) (outcome (row 0 (getD (w .row .values) 0 0 ∷ 0x12 ∷ code ∷ [])) (w .out)) w
 
 -- "12 with code ..", "with the number received"
 abbrev pub rejectOf : ℕ → ℕ → ℕ → List ℕ → Write
@@ -57,7 +58,8 @@ answerReadOf limit command number reading out = answeredOf limit (dueAfter comma
 abbrev pub answerFrameOf : ℕ → ℕ → ℕ → List ℕ → List ℕ → Write
 answerFrameOf limit command number p out = answerReadOf limit command number (readOf command p) out
 
--- to an answer of the reader, with the body that it holds then: a FRAME as above; "SUM gets 12 with code 1"; "All else gets no answer"
+-- to an answer of the reader, with the body that it holds then: a FRAME as above; "SUM gets 12 with code 1"; "All else
+-- gets no answer"
 abbrev pub answerOf : ℕ → Row → List ℕ → List ℕ → Write
 answerOf limit said body out =
     cond (eqb (said .number) 1) (answerFrameOf limit (commandOf body) (numberOf body) (payloadOf body) out)

@@ -20,9 +20,8 @@ use Rattle.message.specs.Commands.{CommandLine, table, kindOf, isListed,
 use Rattle.message.specs.Table.{readingOf, sentRowOf, replyRowOf}
 use Rattle.message.specs.Reading.{readOf, partsOf}
 use Rattle.message.specs.Parts.{EachPlace, bytesIn, PartAt}
-use Rattle.message.specs.Writing.{commandIn, messageIn, payloadIn, lentFits, allowedIn, sendOf}
-use Rattle.message.specs.Answers.{dueOf}
-use Rattle.message.specs.declared.counter.Control.{Control}
+use Rattle.message.specs.Writing.{commandIn, messageIn, readIn, payloadIn, lentFits, allowedIn, sendOf}
+use Rattle.message.specs.Answers.{dueFor, dueOf}
 use Rattle.message.specs.declared.values.Message.{Message}
 use Rattle.message.specs.declared.values.Message.the-variants as message
 use Rattle.message.specs.declared.parts.Place.{Place}
@@ -32,7 +31,8 @@ use Rattle.message.specs.declared.kind.Kind.the-variants as kind
 use Rattle.message.specs.declared.kind.Due.the-variants as due
 use Rattle.message.specs.declared.replies.Reply.{Reply}
 
--- ---- rows-tell: two messages, or two answers of one enum, never have the same number and values, so an equation of rows fixes the answer
+-- ---- rows-tell: two messages, or two answers of one enum, never have the same number and values, so an equation of
+-- ---- rows fixes the answer
 pub record RowsTell : Type 0 where
   pub messages : (a b : Message) → messageIn a ≡ messageIn b → a ≡ b
   pub readings : (a b : Reading) → readingOf a ≡ readingOf b → a ≡ b
@@ -76,10 +76,15 @@ pub record PaperLists : Type 0 where
       map kindOf otherCommands
       ≡ kind.Information ∷ kind.Action ∷ kind.Status ∷ kind.Report ∷ kind.Onboarding ∷ kind.Network
       ∷ kind.ModuleReject ∷ kind.BoxReject ∷ kind.Time ∷ kind.Announcement ∷ kind.Ready ∷ kind.Piece ∷ []
-  -- "07, 0D, 0F and 03 control get command plus 1 ..; 01 asks the caller for device information .. All else gets no answer"
-  pub acknowledged : (command : ℕ) → among command (0x03 ∷ 0x07 ∷ 0x0D ∷ 0x0F ∷ []) ≡ true → owedOf command ≡ due.Acknowledge (command + 1)
+  -- what is owed without a fault: command plus 1, device information, or nothing
+  pub acknowledged :
+      (command : ℕ) → among command (0x03 ∷ 0x07 ∷ 0x0D ∷ 0x0F ∷ []) ≡ true
+      → owedOf command ≡ due.Acknowledge (command + 1)
   pub asked : owedOf 0x01 ≡ due.AskInformation
-  pub no-answer : (command : ℕ) → among command (0x01 ∷ 0x03 ∷ 0x07 ∷ 0x0D ∷ 0x0F ∷ []) ≡ false → owedOf command ≡ due.Nothing
+  pub control : (values : List ℕ) → dueFor (0x03 ∷ 1 ∷ values) ≡ due.Acknowledge 0x04
+  pub query : (values : List ℕ) → dueFor (0x03 ∷ 2 ∷ values) ≡ due.AskStatus
+  pub no-answer :
+      (command : ℕ) → among command (0x01 ∷ 0x03 ∷ 0x07 ∷ 0x0D ∷ 0x0F ∷ []) ≡ false → owedOf command ≡ due.Nothing
 
 -- ---- parts-within: each part lies in its payload, whatever that is
 abbrev pub PartsWithin : Type 0
@@ -96,7 +101,8 @@ pub record WholePart (payload part : RefT (List ℕ)) (s : Place) : Type 0 where
 abbrev pub HandedOut : Type 0
 HandedOut =
     (command : ℕ) (payload : RefT (List ℕ))
-    → EachPlace (λ s. (part : RefT (List ℕ)) → PartAt payload part s → WholePart payload part s) (partsOf command (now payload))
+    → EachPlace (λ s. (part : RefT (List ℕ)) → PartAt payload part s → WholePart payload part s)
+    (partsOf command (now payload))
 
 -- ---- written-read: what may be written is read as the same message, with the same parts
 
@@ -105,33 +111,6 @@ pub record Writable (m : Message) (lent : List ℕ) : Type 0 where
   pub listed : isListed (kindOf (commandIn m)) ≡ true
   pub sized : lentFits m (length lent) ≡ true
   pub allows : allowedIn m ≡ true
-
--- "A value whose flag is 0 is ignored when read and written as 0."
-abbrev pub effectiveControl : Control → Control
-effectiveControl c =
-    record {
-      flags = c .flags;
-      lamp = c .flags .lamp && c .lamp;
-      mode = num (c .flags .mode) * c .mode;
-      volume = num (c .flags .volume) * c .volume;
-    }
-
--- a message without the values that are ignored
-abbrev pub effective : Message → Message
-effective (message.Empty command) = message.Empty command
-effective (message.Information timeout more) = message.Information timeout more
-effective (message.Control control) = message.Control (effectiveControl control)
-effective message.Query = message.Query
-effective (message.Status status) = message.Status status
-effective (message.Report status) = message.Report status
-effective (message.Onboarding way) = message.Onboarding way
-effective (message.Network network) = message.Network network
-effective (message.ModuleReject code) = message.ModuleReject code
-effective (message.BoxReject code) = message.BoxReject code
-effective (message.Time time) = message.Time time
-effective (message.Announcement size) = message.Announcement size
-effective (message.Ready piece) = message.Ready piece
-effective (message.Piece index total) = message.Piece index total
 
 -- the parts of the lent bytes that a reader of the message is to find
 abbrev pub lentParts : ℕ → List ℕ → List (List ℕ)
@@ -144,14 +123,15 @@ lentParts command lent =
 
 -- a command and a payload are this message, with these parts
 pub record Decodes (m : Message) (lent : List ℕ) (command : ℕ) (p : List ℕ) : Type 0 where
-  pub message : readOf command p ≡ row 0 (messageIn (effective m))
+  pub message : readOf command p ≡ row 0 (readIn m)
   pub parts : bytesIn (partsOf command p) p ≡ lentParts (commandIn m) lent
 
 -- of every message
 abbrev pub WrittenRead : Type 0
 WrittenRead = (m : Message) (lent : List ℕ) → Writable m lent → Decodes m lent (commandIn m) (payloadIn m lent)
 
--- ---- read-written: what is read is refused by none of 31, 32, 33 when written again; with written-read, both allow the same values
+-- ---- read-written: what is read is refused by none of 31, 32, 33 when written again; with written-read, both allow
+-- ---- the same values
 
 -- the bytes of a payload that its message takes as they are
 abbrev pub lentOf : ℕ → List ℕ → List ℕ
@@ -161,21 +141,24 @@ lentOf command p =
     (cond (eqb command 0x1B) (take (twoAt p 0) (drop 2 p))
     (cond (eqb command 0x1D) (drop 4 p) [])))
 
--- of every message that reading gives: it may be written, and what is written is read as the same message, with the same parts
+-- of every message that reading gives: it may be written, and what is written is read as the same message, with the
+-- same parts
 pub record ReadWritten (command : ℕ) (p : List ℕ) (m : Message) : Type 0 where
   pub command-is : commandIn m ≡ command
   pub writable : Writable m (lentOf command p)
   pub message : readOf command (payloadIn m (lentOf command p)) ≡ readOf command p
   pub parts :
-      bytesIn (partsOf command (payloadIn m (lentOf command p))) (payloadIn m (lentOf command p)) ≡ bytesIn (partsOf command p) p
+      bytesIn (partsOf command (payloadIn m (lentOf command p))) (payloadIn m (lentOf command p))
+      ≡ bytesIn (partsOf command p) p
 
 -- of every command and payload of bytes
 abbrev pub ReadsWritten : Type 0
 ReadsWritten =
-    (command : ℕ) (p : List ℕ) → ((i : ℕ) → getD p i 0 < 256) → (m : Message) → readOf command p ≡ row 0 (messageIn m) → ReadWritten command p m
+    (command : ℕ) (p : List ℕ) → ((i : ℕ) → getD p i 0 < 256) → (m : Message) → readOf command p ≡ row 0 (messageIn m)
+    → ReadWritten command p m
 
--- ---- message-round-trip: after any calls of a fresh reader, the calls that took what a message call wrote end in FRAME at its last byte, and the
--- ---- body that the reader holds is read as the same message
+-- ---- message-round-trip: after any calls of a fresh reader, the calls that took what a message call wrote end in
+-- ---- FRAME at its last byte, and the body that the reader holds is read as the same message
 pub record MessageBack (start : ℕ) (m : Message) (number flags : ℕ) (lent : List ℕ) (log : List Entry) : Type 0 where
   pub frame : ReadBack start (commandIn m) number flags (payloadIn m lent) log
   pub message : Decodes m lent (commandOf (frame .last .after .body)) (payloadOf (frame .last .after .body))
@@ -186,11 +169,13 @@ MessageRoundTrip =
     (limit : ℕ) → limit ≤ widest → (m : Message) (number flags count : ℕ) (lent out : List ℕ)
     → sendOf limit m number flags lent out .row ≡ row 0 (count ∷ [])
     → (earlier later : List Call)
-    → stream (logOf limit (stateAfter limit (freshOf limit) earlier) later) ≡ take count (sendOf limit m number flags lent out .out)
+    → stream (logOf limit (stateAfter limit (freshOf limit) earlier) later)
+    ≡ take count (sendOf limit m number flags lent out .out)
     → MessageBack (length (stream (logOf limit (freshOf limit) earlier))) m number flags lent
     (logOf limit (stateAfter limit (freshOf limit) earlier) later)
 
--- ---- answers-are-read: what the box writes as an answer is a message that only the box sends, and that reading accepts
+-- ---- answers-are-read: what the box writes as an answer is a message that only the box sends, and that reading
+-- ---- accepts
 
 -- a command and a payload that the box may answer with, as this message
 abbrev pub BoxSends : ℕ → List ℕ → Message → Type 0
@@ -209,12 +194,23 @@ AnswersAreRead = (command : ℕ) (p : List ℕ) → AnswersRead command p
 -- ---- example-4: "Volume 3, leaf 255, gathering, feeding, number 2 .. 19 bytes"
 abbrev pub example4 : Message
 example4 =
-    message.Report (record { feeding = true; lamp = false; mode = 1; volume = 3; leaf = 255; double = false; skipped = false; fault = false })
+    message.Report
+    (record {
+      feeding = true;
+      lamp = false;
+      mode = 1;
+      volume = 3;
+      leaf = 255;
+      double = false;
+      skipped = false;
+      fault = false;
+    })
 
 -- its bytes
 abbrev pub example4Bytes : List ℕ
 example4Bytes =
-    0xFF ∷ 0xFF ∷ 0x00 ∷ 0x0E ∷ 0x05 ∷ 0x02 ∷ 0x00 ∷ 0x00 ∷ 0x04 ∷ 0x05 ∷ 0x00 ∷ 0x03 ∷ 0x00 ∷ 0x00 ∷ 0x00 ∷ 0xFF ∷ 0x55 ∷ 0x00 ∷ 0x20 ∷ []
+    0xFF ∷ 0xFF ∷ 0x00 ∷ 0x0E ∷ 0x05 ∷ 0x02 ∷ 0x00 ∷ 0x00 ∷ 0x04 ∷ 0x05 ∷ 0x00 ∷ 0x03 ∷ 0x00 ∷ 0x00 ∷ 0x00 ∷ 0xFF ∷ 0x55
+    ∷ 0x00 ∷ 0x20 ∷ []
 
 -- written into any output that has room for them, under any limit that lets its 9 bytes of payload pass
 abbrev pub Example4 : Type 0

@@ -155,7 +155,8 @@ informationValues p = length p ∷ twoAt p 64 ∷ cond (eqb (length p) 66) [] (e
 -- "bits 0 to 5, strength bits 8 to 10, bits 11 and 12 are read, the reserved ones ignored"
 abbrev pub networkValues : List ℕ → List ℕ
 networkValues p =
-    bit 0 (twoAt p 0) ∷ bit 1 (twoAt p 0) ∷ bit 2 (twoAt p 0) ∷ bit 3 (twoAt p 0) ∷ bit 4 (twoAt p 0) ∷ bit 5 (twoAt p 0)
+    bit 0 (twoAt p 0) ∷ bit 1 (twoAt p 0) ∷ bit 2 (twoAt p 0) ∷ bit 3 (twoAt p 0) ∷ bit 4 (twoAt p 0) ∷ bit 5
+    (twoAt p 0)
     ∷ bits 8 3 (twoAt p 0) ∷ bit 11 (twoAt p 0) ∷ bit 12 (twoAt p 0) ∷ []
 
 -- "year 2, month, day, hour, minute, second", then others
@@ -216,8 +217,10 @@ byte p = getD p 0 0 ∷ []
 abbrev pub none : List ℕ → Parts
 none p = noParts
 
--- each kind's: its sizes, the sizes that its first byte asks for, its allowed values, its values, its parts. "four 8-byte texts, product
--- key 32, timeout 2, then perhaps attributes 8, then perhaps secret 32"; "19: size 4, n in 2, n bytes"; "1B: n in 2, n bytes"
+-- each kind's: its sizes, the sizes that its first byte asks for, its allowed values, its values, its parts. "four
+-- 8-byte texts, product
+-- key 32, timeout 2, then perhaps attributes 8, then perhaps secret 32"; "19: size 4, n in 2, n bytes"; "1B: n in 2, n
+-- bytes"
 abbrev pub layoutOf : Kind → Layout
 layoutOf Unlisted =
     record { listed = false; sizes = exactly []; chosen = any; allowed = λ p. false; values = λ p. []; parts = none }

@@ -11,7 +11,8 @@ use Rattle.message.specs.declared.counter.Control.{Control}
 
 -- ---- read. `s` is the status' 8 bytes, `c` the control's 4
 
--- "byte 0 bit 0 feeding, bit 1 lamp, bits 3-2 mode ..; bytes 1-2 volume; bytes 3-6 leaf; byte 7 bit 0 double leaf, bit 1 skipped leaf, bit 2 sensor fault"
+-- "byte 0 bit 0 feeding, bit 1 lamp, bits 3-2 mode ..; bytes 1-2 volume; bytes 3-6 leaf; byte 7 bit 0 double leaf, bit
+-- 1 skipped leaf, bit 2 sensor fault"
 abbrev pub statusValues : List ℕ → List ℕ
 statusValues s =
     bit 0 (getD s 0 0) ∷ bit 1 (getD s 0 0) ∷ bits 2 2 (getD s 0 0) ∷ twoAt s 1 ∷ fourAt s 3
@@ -21,16 +22,19 @@ statusValues s =
 abbrev pub statusAllowed : List ℕ → Bool
 statusAllowed s = ltb (getD s 0 0) (2 ^ 4) && (ltb (getD s 7 0) (2 ^ 3) && ltb (bits 2 2 (getD s 0 0)) 3)
 
--- "flags bit 0 lamp, bit 1 mode, bit 2 volume; then bit 0 lamp, bits 2-1 mode; then volume 2"; "A value whose flag is 0 is ignored when read"
+-- "flags bit 0 lamp, bit 1 mode, bit 2 volume; then bit 0 lamp, bits 2-1 mode; then volume 2"; "A value whose flag is 0
+-- is ignored when read"
 abbrev pub controlValues : List ℕ → List ℕ
 controlValues c =
     bit 0 (getD c 0 0) ∷ bit 1 (getD c 0 0) ∷ bit 2 (getD c 0 0)
-    ∷ (bit 0 (getD c 0 0) * bit 0 (getD c 1 0)) ∷ (bit 1 (getD c 0 0) * bits 1 2 (getD c 1 0)) ∷ (bit 2 (getD c 0 0) * twoAt c 2) ∷ []
+    ∷ (bit 0 (getD c 0 0) * bit 0 (getD c 1 0)) ∷ (bit 1 (getD c 0 0) * bits 1 2 (getD c 1 0))
+    ∷ (bit 2 (getD c 0 0) * twoAt c 2) ∷ []
 
 -- "Mode 3 is FIELD, in control only if its flag is set"
 abbrev pub controlAllowed : List ℕ → Bool
 controlAllowed c =
-    ltb (getD c 0 0) (2 ^ 3) && (ltb (getD c 1 0) (2 ^ 3) && cond (eqb (bit 1 (getD c 0 0)) 0) true (ltb (bits 1 2 (getD c 1 0)) 3))
+    ltb (getD c 0 0) (2 ^ 3) && (ltb (getD c 1 0) (2 ^ 3) && cond (eqb (bit 1 (getD c 0 0)) 0) true
+    (ltb (bits 1 2 (getD c 1 0)) 3))
 
 -- ---- the same values of what the code has
 

@@ -1,4 +1,4 @@
--- What a reader of this crate has to believe: numbers and bits, the counter's layout, the table of commands, then reading, writing and answering.
+-- What a reader of this crate has to believe: numbers, the table of commands, then reading, writing and answering.
 pub mod Numbers
 pub mod Counter
 pub mod Parts

@@ -1,4 +1,4 @@
--- Paper 01, "Messages": what a command and a payload are. COMMAND 31, SIZE 32, FIELD 33, in this order; "Flags refuse nothing."
+-- Paper 01, "Messages": what a command and a payload are. COMMAND 31, SIZE 32, FIELD 33; "Flags refuse nothing."
 use Prim.Native.Nat.{ℕ}
 use mathlib.Core.Bool.{Bool, cond}
 use mathlib.Core.List.{List, [], _∷_}

@@ -1,4 +1,4 @@
--- The number and the values of each answer, as a row of paper 01's table. A message that was read has no number there and stands under 0.
+-- The number and the values of each answer, as a row of paper 01's table. A message that was read stands under 0.
 use mathlib.Core.List.{[], _∷_}
 use Rattle.base.specs.Rows.{Row, row}
 use Rattle.message.specs.Reading.{Read, got, refusal}
@@ -26,7 +26,8 @@ sentRowOf sent.Command = row 31 []
 sentRowOf sent.Size = row 32 []
 sentRowOf sent.Field = row 33 []
 
--- the box's answer: nothing; no bytes, and the command that the caller is asked for, with the number received; the count of an
+-- the box's answer: nothing; no bytes, and the command that the caller is asked for, with the number received; the
+-- count of an
 -- acknowledgement; the count of a 12, its command and its code; ROOM 22
 abbrev pub replyRowOf : Reply → Row
 replyRowOf reply.Nothing = row 0 []

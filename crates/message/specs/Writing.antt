@@ -1,4 +1,4 @@
--- Paper 01, "Messages": a message's values, as a row has them, as a payload and as a frame. "A call that writes a message tests 31 to 33 before 21 and 22."
+-- Paper 01, "Messages": a message's values as a row has them, as a payload, and as a frame; 31 to 33 before 21 and 22.
 use Prim.Native.Nat.{ℕ, _+_, _*_}
 use mathlib.Core.Bool.{Bool, true, cond, _&&_}
 use mathlib.Core.List.{List, [], _∷_, _++_}
@@ -11,6 +11,7 @@ use Rattle.frame.specs.Calls.{writeOf}
 use Rattle.message.specs.Numbers.{num, eight}
 use Rattle.message.specs.Commands.{isListed, kindOf, sizeFits, wayAllowed, codeAllowed}
 use Rattle.message.specs.Counter.{statusIn, controlIn, statusBytes, controlBytes, modeAllowed}
+use Rattle.message.specs.declared.counter.Control.{Control}
 use Rattle.message.specs.declared.values.Extra.{Extra}
 use Rattle.message.specs.declared.values.Extra.the-variants as extra
 use Rattle.message.specs.declared.values.Unix.{Unix}
@@ -36,7 +37,8 @@ informationNumbers timeout (extra.AttributesAndSecret attributes) = two timeout 
 abbrev pub networkBytes : Network → List ℕ
 networkBytes n =
     (n .strength + num (n .app) * 8 + num (n .testing) * 16)
-    ∷ (num (n .softap) + num (n .station) * 2 + num (n .onboarding) * 4 + num (n .binding) * 8 + num (n .router) * 16 + num (n .server) * 32)
+    ∷ (num (n .softap) + num (n .station) * 2 + num (n .onboarding) * 4 + num (n .binding) * 8 + num (n .router) * 16 +
+    num (n .server) * 32)
     ∷ []
 
 -- 18, before others
@@ -81,13 +83,24 @@ unixIn (unix.Seconds seconds) = seconds ∷ []
 abbrev pub timeIn : Time → List ℕ
 timeIn c = c .year ∷ c .month ∷ c .day ∷ c .hour ∷ c .minute ∷ c .second ∷ unixIn (c .unix)
 
+-- 03: "A value whose flag is 0 is ignored when read and written as 0."
+abbrev pub effectiveControl : Control → Control
+effectiveControl c =
+    record {
+      flags = c .flags;
+      lamp = c .flags .lamp && c .lamp;
+      mode = num (c .flags .mode) * c .mode;
+      volume = num (c .flags .volume) * c .volume;
+    }
+
 -- ---- the form of each message
 
 -- what a message is written and read as
 pub record Form : Type 0 where
   pub command : ℕ
-  -- its values behind the command
+  -- its values behind the command, and those of them that a reader is to find
   pub values : List ℕ
+  pub read : List ℕ
   -- 32: whether it is lent as many bytes as it takes
   pub takes : ℕ → Bool
   -- 33: whether each value may be written: modes, ways and codes as in reading, and a strength that has three bits
@@ -98,12 +111,23 @@ pub record Form : Type 0 where
 -- with lent bytes, and values that are all allowed
 abbrev pub lending : ℕ → List ℕ → (ℕ → Bool) → (List ℕ → List ℕ) → Form
 lending command values takes payload =
-    record { command = command; values = values; takes = takes; allows = true; payload = payload }
+    record { command = command; values = values; read = values; takes = takes; allows = true; payload = payload }
 
 -- with nothing lent
+abbrev pub bareRead : ℕ → List ℕ → List ℕ → Bool → List ℕ → Form
+bareRead command values read allows payload =
+    record {
+      command = command;
+      values = values;
+      read = read;
+      takes = λ n. eqb n 0;
+      allows = allows;
+      payload = λ lent. payload;
+    }
+
+-- and nothing ignored
 abbrev pub bare : ℕ → List ℕ → Bool → List ℕ → Form
-bare command values allows payload =
-    record { command = command; values = values; takes = λ n. eqb n 0; allows = allows; payload = λ lent. payload }
+bare command values allows payload = bareRead command values values allows payload
 
 -- each message's
 abbrev pub formOf : Message → Form
@@ -112,7 +136,8 @@ formOf (message.Information timeout more) =
     lending 0x02 (informationIn timeout more) (λ n. eqb n (informationLent more))
     (informationBytes (informationNumbers timeout more))
 formOf (message.Control control) =
-    bare 0x03 (1 ∷ controlIn control) (modeAllowed (control .flags .mode) (control .mode)) (1 ∷ controlBytes control)
+    bareRead 0x03 (1 ∷ controlIn control) (1 ∷ controlIn (effectiveControl control))
+    (modeAllowed (control .flags .mode) (control .mode)) (1 ∷ controlBytes control)
 formOf message.Query = bare 0x03 (2 ∷ []) true (2 ∷ [])
 formOf (message.Status status) = bare 0x04 (3 ∷ statusIn status) (ltb (status .mode) 3) (3 ∷ statusBytes status)
 formOf (message.Report status) = bare 0x05 (4 ∷ statusIn status) (ltb (status .mode) 3) (4 ∷ statusBytes status)
@@ -134,6 +159,10 @@ commandIn m = formOf m .command
 abbrev pub messageIn : Message → List ℕ
 messageIn m = formOf m .command ∷ formOf m .values
 
+-- what a reader is to find of them
+abbrev pub readIn : Message → List ℕ
+readIn m = formOf m .command ∷ formOf m .read
+
 -- whether so many lent bytes are as many as it takes
 abbrev pub lentFits : Message → ℕ → Bool
 lentFits m n = formOf m .takes n
@@ -152,10 +181,17 @@ payloadIn m lent = formOf m .payload lent
 abbrev pub sendAs : ℕ → Bool → Bool → Bool → ℕ → ℕ → ℕ → List ℕ → List ℕ → Write
 sendAs limit listed sized allows command number flags payload out =
     cond listed
-    (cond sized (cond allows (writeOf limit command number flags payload out) (outcome (row 33 []) out)) (outcome (row 32 []) out))
+    (cond sized (cond allows (writeOf limit command number flags payload out) (outcome (row 33 []) out))
+    (outcome (row 32 []) out))
     (outcome (row 31 []) out)
+
+-- a listed message that takes nothing lent
+abbrev pub sendBare : ℕ → Bool → ℕ → ℕ → ℕ → List ℕ → List ℕ → List ℕ → Write
+sendBare limit allows command number flags lent payload out =
+    sendAs limit true (eqb (length lent) 0) allows command number flags payload out
 
 -- a message, under a number and flags
 abbrev pub sendOf : ℕ → Message → ℕ → ℕ → List ℕ → List ℕ → Write
 sendOf limit m number flags lent out =
-    sendAs limit (isListed (kindOf (commandIn m))) (lentFits m (length lent)) (allowedIn m) (commandIn m) number flags (payloadIn m lent) out
+    sendAs limit (isListed (kindOf (commandIn m))) (lentFits m (length lent)) (allowedIn m) (commandIn m) number flags
+    (payloadIn m lent) out

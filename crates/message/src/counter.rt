@@ -7,7 +7,8 @@ ghost use mathlib.Core.Bool.{true};
 ghost use mathlib.Core.List.{_∷_};
 ghost use Prim.Native.Nat.{_<_};
 ghost use lib.ListN.{drop};
-ghost use Rattle.message.specs.Counter.{statusAllowed, controlAllowed, statusValues, controlValues, statusIn, controlIn, statusBytes, controlBytes, modeAllowed};
+ghost use Rattle.message.specs.Counter.{statusAllowed, controlAllowed, statusValues, controlValues};
+ghost use Rattle.message.specs.Counter.{statusIn, controlIn, statusBytes, controlBytes, modeAllowed};
 
 // What the counter says of itself.
 pub struct Status {
@@ -68,7 +69,8 @@ pub(crate) fn status_of(payload: &[u8]) -> Status
     }
 }
 
-// Whether a payload's control has only 0 in the bits that have no meaning and, where the mode is to be set, one that there is.
+// Whether a payload's control has only 0 in the bits that have no meaning,
+// and a mode that there is where it is to be set.
 pub(crate) fn control_allowed(payload: &[u8]) -> bool
     ensures { λ r. ⌜ r ≡ controlAllowed (drop 1 (now (payload .entry))) ⌝ }
 {

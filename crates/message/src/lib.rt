@@ -1,4 +1,5 @@
-// Messages of the Gizwits serial protocol and of our counter: read from a payload, written as a frame, and answered by the box.
+// Messages of the Gizwits serial protocol and of our counter: read from a payload,
+// written as a frame, answered by the box.
 mod bytes;
 mod counter;
 mod kind;

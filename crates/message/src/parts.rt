@@ -1,4 +1,4 @@
-// The parts of a message that are no values: texts, key, secret, check code and data. Reading tells their places; they are handed out where they lie.
+// The parts of a message that are no values: texts, key, secret, check code and data, by the places that reading gives.
 ghost use mathlib.Core.Path.{_≡_};
 ghost use Rattle.message.specs.Parts.{place, textsAnd, noTexts, noParts, PartAt};
 

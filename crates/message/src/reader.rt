@@ -6,6 +6,7 @@ use super::counter::control_of;
 use super::counter::status_allowed;
 use super::counter::status_of;
 use super::kind::Kind;
+use super::kind::Line;
 use super::kind::line_of;
 use super::parts::Parts;
 use super::parts::no_parts;
@@ -19,7 +20,7 @@ use super::values::Unix;
 use super::values::code_allowed;
 use super::values::way_allowed;
 ghost use mathlib.Core.Path.{_≡_};
-ghost use Rattle.message.specs.Commands.{kindOf, networkValues, timeValues};
+ghost use Rattle.message.specs.Commands.{lineOf, networkValues, timeValues};
 ghost use Rattle.message.specs.Parts.{noParts};
 ghost use Rattle.message.specs.Reading.{judgedOf, decodeAs, decodeOf};
 ghost use Rattle.message.specs.Writing.{messageIn, networkIn, timeIn, unixIn};
@@ -149,18 +150,6 @@ fn read_report(payload: &[u8]) -> Reading
     judged(size == 9, allowed, Message::Report { status })
 }
 
-// How the module is to be set up.
-fn read_onboarding(payload: &[u8]) -> Reading
-    ensures { λ r. ⌜ readingOf r ≡ decodeAs kind.Onboarding 0x09 (now (payload .entry)) ⌝ }
-{
-    let way = base::byte_at(payload, 0);
-    judged(
-        payload.len() == 1,
-        way_allowed(way),
-        Message::Onboarding { way },
-    )
-}
-
 // The bits of the module's state; the reserved ones are ignored.
 fn network_of(payload: &[u8]) -> Network
     ensures { λ r. ⌜ networkIn r ≡ networkValues (now (payload .entry)) ⌝ }
@@ -177,38 +166,6 @@ fn network_of(payload: &[u8]) -> Network
         app: lowest_bit(bits / 2048),
         testing: lowest_bit(bits / 4096),
     }
-}
-
-// The state of the module's networks.
-fn read_network(payload: &[u8]) -> Reading
-    ensures { λ r. ⌜ readingOf r ≡ decodeAs kind.Network 0x0D (now (payload .entry)) ⌝ }
-{
-    let network = network_of(payload);
-    judged(payload.len() == 2, true, Message::Network { network })
-}
-
-// The module's word that a frame was invalid.
-fn read_module_reject(payload: &[u8]) -> Reading
-    ensures { λ r. ⌜ readingOf r ≡ decodeAs kind.ModuleReject 0x11 (now (payload .entry)) ⌝ }
-{
-    let code = base::byte_at(payload, 0);
-    judged(
-        payload.len() == 1,
-        code_allowed(code),
-        Message::ModuleReject { code },
-    )
-}
-
-// The box's word that a frame was invalid.
-fn read_box_reject(payload: &[u8]) -> Reading
-    ensures { λ r. ⌜ readingOf r ≡ decodeAs kind.BoxReject 0x12 (now (payload .entry)) ⌝ }
-{
-    let code = base::byte_at(payload, 0);
-    judged(
-        payload.len() == 1,
-        code_allowed(code),
-        Message::BoxReject { code },
-    )
 }
 
 // The time, with what it has behind the second.
@@ -295,29 +252,47 @@ fn read_piece(payload: &[u8]) -> Reading
     }
 }
 
-// A command without payload.
-fn read_empty(command: u8, payload: &[u8]) -> Reading
-    ensures { λ r. ⌜ readingOf r ≡ decodeAs kind.Empty command (now (payload .entry)) ⌝ }
-{
-    judged(payload.len() == 0, true, Message::Empty { command })
-}
-
-// A payload read as its command's kind says.
-fn read_as(kind: Kind, command: u8, payload: &[u8]) -> Reading
-    requires { ⌜ kind ≡ kindOf command ⌝ }
+// A payload read as its command's line says.
+fn read_as(line: Line, command: u8, payload: &[u8]) -> Reading
+    requires { ⌜ line ≡ lineOf command ⌝ }
     ensures { λ r. ⌜ readingOf r ≡ decodeOf command (now (payload .entry)) ⌝ }
 {
+    let kind = line.kind;
     match kind {
         Kind::Unlisted => Reading::Command,
-        Kind::Empty => read_empty(command, payload),
+        Kind::Empty => judged(payload.len() == 0, true, Message::Empty { command }),
         Kind::Information => read_information(payload),
         Kind::Action => read_action(payload),
         Kind::Status => read_status(payload),
         Kind::Report => read_report(payload),
-        Kind::Onboarding => read_onboarding(payload),
-        Kind::Network => read_network(payload),
-        Kind::ModuleReject => read_module_reject(payload),
-        Kind::BoxReject => read_box_reject(payload),
+        Kind::Onboarding => {
+            let way = base::byte_at(payload, 0);
+            judged(
+                payload.len() == 1,
+                way_allowed(way),
+                Message::Onboarding { way },
+            )
+        }
+        Kind::Network => {
+            let network = network_of(payload);
+            judged(payload.len() == 2, true, Message::Network { network })
+        }
+        Kind::ModuleReject => {
+            let code = base::byte_at(payload, 0);
+            judged(
+                payload.len() == 1,
+                code_allowed(code),
+                Message::ModuleReject { code },
+            )
+        }
+        Kind::BoxReject => {
+            let code = base::byte_at(payload, 0);
+            judged(
+                payload.len() == 1,
+                code_allowed(code),
+                Message::BoxReject { code },
+            )
+        }
         Kind::Time => read_time(payload),
         Kind::Announcement => read_announcement(payload),
         Kind::Ready => read_ready(payload),
@@ -329,7 +304,5 @@ fn read_as(kind: Kind, command: u8, payload: &[u8]) -> Reading
 pub fn read(command: u8, payload: &[u8]) -> Reading
     ensures { λ r. ⌜ readingOf r ≡ decodeOf command (now (payload .entry)) ⌝ }
 {
-    let line = line_of(command);
-    let kind = line.kind;
-    read_as(kind, command, payload)
+    read_as(line_of(command), command, payload)
 }

@@ -106,7 +106,7 @@ fn reject(code: u8, number: u8, out: &mut [u8]) -> Reply
     }
 }
 
-// What the box answers to a frame that was read: written at the front of the output under the number received, or asked of the caller, or nothing.
+// What the box answers to a frame that was read: a frame at the front of the output, a wish to the caller, or nothing.
 pub fn answer_reading(command: u8, number: u8, reading: Reading, out: &mut [u8]) -> Reply
     ensures { λ r. ⌜ outcome (replyRowOf r) (now (out .exit))
         ≡ answerReadOf frameLimit command number (readingOf reading .row) (now (out .entry)) ⌝ }
@@ -151,7 +151,8 @@ fn answer_decided(verdict: Verdict, body: &[u8], out: &mut [u8]) -> Reply
 
 // What the box answers when its reader has said something, by the body that the reader then holds.
 pub fn answer(said: Answer, body: &[u8], out: &mut [u8]) -> Reply
-    ensures { λ r. ⌜ outcome (replyRowOf r) (now (out .exit)) ≡ answerOf frameLimit (rowOf said) (now (body .entry)) (now (out .entry)) ⌝ }
+    ensures { λ r. ⌜ outcome (replyRowOf r) (now (out .exit))
+        ≡ answerOf frameLimit (rowOf said) (now (body .entry)) (now (out .entry)) ⌝ }
 {
     match said {
         Answer::Decided { verdict, .. } => answer_decided(verdict, body, out),

@@ -1,5 +1,5 @@
 -- `bytes::lowest_bit` is the lowest bit.
-use Rattle.message.proofs.Bits.{lowest}
+use Rattle.message.proofs.Numbers.{lowest}
 use Rattle.message.proofs.bytes.lowest_bit.Statement.{statement}
 use Rattle.message.proofs.bytes.lowest_bit.Tie as tie
 

@@ -12,6 +12,15 @@ control-allowed-spec =
     (λ c κs. search needs)
     (λ c κs. search needs)
     (λ c. simp (getD-drop, ← (c .before .byte-at2 .ensures), ← (c .before .before .byte-at .ensures)) (search tests))
-    (λ c. simp (getD-drop, ← (c .before .before .byte-at2 .ensures), ← (c .before .before .before .byte-at .ensures)) (search tests))
-    (λ c. simp (getD-drop, ← (c .before .before .before .byte-at2 .ensures), ← (c .before .before .before .before .byte-at .ensures)) (search tests))
-    λ c. simp (getD-drop, ← (c .before .before .before .byte-at2 .ensures), ← (c .before .before .before .before .byte-at .ensures)) (search tests))
+    (λ c. simp (getD-drop, ← (c .before .before .byte-at2 .ensures), ← (c .before .before .before .byte-at .ensures))
+    (search tests))
+    (λ c. simp (
+      getD-drop,
+      ← (c .before .before .before .byte-at2 .ensures),
+      ← (c .before .before .before .before .byte-at .ensures),
+    ) (search tests))
+    λ c. simp (
+      getD-drop,
+      ← (c .before .before .before .byte-at2 .ensures),
+      ← (c .before .before .before .before .byte-at .ensures),
+    ) (search tests))

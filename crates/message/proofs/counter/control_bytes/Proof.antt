@@ -3,7 +3,7 @@ use native.Mathlib.Nat.{mul-one}
 use native.Mathlib.Omega.{arith}
 use borrow.Author.Needs.{needs}
 use Rattle.message.specs.Numbers.{num}
-use Rattle.message.proofs.Bits.{mode-most}
+use Rattle.message.proofs.Numbers.{mode-most}
 use Rattle.message.proofs.counter.control_bytes.Statement.{statement}
 use Rattle.message.proofs.counter.control_bytes.Tie as tie
 

@@ -1,4 +1,4 @@
--- `counter::status_bytes` adds up the bits of the first byte and of the last, and has the numbers between them byte by byte.
+-- `counter::status_bytes` adds up the bits of its first byte and of its last; between them stand the numbers.
 use native.Mathlib.Nat.{mul-one}
 use borrow.Author.Needs.{needs}
 use Rattle.message.specs.Numbers.{num}
@@ -15,7 +15,8 @@ status-bytes-spec =
     tie.close
     (tie.spec
     -- the first byte and the last
-    (λ c κs. search needs) (λ c κs. search needs) (λ c. search needs) (λ c. search needs) (λ c. search needs) (λ c. search needs)
+    (λ c κs. search needs) (λ c κs. search needs) (λ c. search needs) (λ c. search needs) (λ c. search needs)
+    (λ c. search needs)
     (λ c κs. search needs) (λ c κs. search needs) (λ c. search needs) (λ c κs. search needs) (λ c. search needs)
     -- each byte fits
     (λ c. search needs) (λ c. search needs) (λ c. search needs) (λ c. search needs) (λ c. search needs)

@@ -30,8 +30,10 @@ unfolding among table lineIn
 line-of-spec =
     tie.close
     (tie.spec
-    (search needs) (search needs) (search needs) (search needs) (search needs) (search needs) (search needs) (search needs) (search needs)
-    (search needs) (search needs) (search needs) (search needs) (search needs) (search needs) (search needs) (search needs) (search needs)
+    (search needs) (search needs) (search needs) (search needs) (search needs) (search needs) (search needs)
+    (search needs) (search needs)
+    (search needs) (search needs) (search needs) (search needs) (search needs) (search needs) (search needs)
+    (search needs) (search needs)
     (λ c. c .to-box .ensures ∙ at-keys lineOf _ (one 0x01) _ refl (c .before .match .keys1))
     (λ c. c .by-box .ensures ∙ at-keys lineOf _ (one 0x02) _ refl (c .before .match .keys2))
     (λ c. c .to-box2 .ensures ∙ at-keys lineOf _ (one 0x03) _ refl (c .before .match .keys3))

@@ -11,11 +11,13 @@ use Rattle.message.proofs.reader.read_action.Tie as tie
 
 control : tie.Need-returns-2
 control c =
-    chosen Action 3 5 _ (c .before .control-allowed .result) (1 ∷ controlIn (c .before .before .control-of .result)) (c .judged .ensures) refl (search sizes) (search sizes) (search (sizes, c .before .control-allowed .ensures))
+    chosen Action 3 5 _ (c .before .control-allowed .result) (1 ∷ controlIn (c .before .before .control-of .result))
+    (c .judged .ensures) refl (search sizes) (search sizes) (search (sizes, c .before .control-allowed .ensures))
     (search (sizes, c .before .before .before .if2 .taken, c .before .before .control-of .ensures))
 
 query : tie.Need-returns-3
-query c = chosen Action 3 1 _ true (2 ∷ []) (c .judged2 .ensures) refl (search sizes) (search sizes) (search sizes) (search (sizes, c .before .if3 .taken))
+query c = chosen Action 3 1 _ true (2 ∷ []) (c .judged2 .ensures) refl (search sizes) (search sizes) (search sizes)
+    (search (sizes, c .before .if3 .taken))
 
 pub read-action-spec : {M : Type 1} → statement M
 read-action-spec = tie.close (tie.spec

@@ -1,6 +1,8 @@
--- `reader::read_as` goes by the command's line: each arm has what its call ensures, of the one command that the line has.
+-- `reader::read_as` goes by the command's line: each arm has what its call ensures, of the one command of that line.
+use mathlib.Core.Path.{refl}
+use Rattle.message.specs.declared.kind.Kind.the-variants as kind
+use Rattle.message.proofs.Reading.{read-line, lines}
 use borrow.Author.Needs.{needs}
-use Rattle.message.proofs.Reading.{lines}
 use Rattle.message.proofs.reader.read_as.Statement.{statement}
 use Rattle.message.proofs.reader.read_as.Tie as tie
 
@@ -8,9 +10,19 @@ pub read-as-spec : {M : Type 1} → statement M
 read-as-spec =
     tie.close
     (tie.spec
-    (search needs) (search needs) (search needs) (search needs) (search needs) (search needs) (search needs) (search needs) (search needs)
-    (search needs) (search needs) (search needs) (search needs) (search needs) (search needs) (search needs) (search needs) (search needs)
-    (search needs) (search needs) (search needs) (search needs) (search needs) (search needs) (search needs) (search needs) (search needs)
+    (search needs) (search needs) (search needs) (search needs) (search needs) (search needs) (search needs)
+    (search needs) (search needs) (search needs) (search needs) (search needs) (search needs) (search needs)
+    (search needs) (search needs) (search needs) (search needs) (search needs) (search needs) (search needs)
+    (search needs) (search needs) (search needs) (search needs) (search needs) (search needs) (search needs)
+    (search needs) (search needs) (search needs) (search needs) (search needs) (search needs)
     (λ c. search lines) (λ c. search lines) (λ c. search lines) (λ c. search lines) (λ c. search lines)
-    (λ c. search lines) (λ c. search lines) (λ c. search lines) (λ c. search lines) (λ c. search lines)
+    (λ c. search lines)
+    (λ c. let t = c .before .before .before in let s = t .before .before .before in
+    read-line kind.Onboarding _ _ (s .pre) (t .enum-told7 .given .1) 0x09 refl (search lines))
+    (λ c. let t = c .before .before in let s = t .before .before .before in
+    read-line kind.Network _ _ (s .pre) (t .enum-told8 .given .1) 0x0D refl (search lines))
+    (λ c. let t = c .before .before .before in let s = t .before .before .before in
+    read-line kind.ModuleReject _ _ (s .pre) (t .enum-told9 .given .1) 0x11 refl (search lines))
+    (λ c. let t = c .before .before .before in let s = t .before .before .before in
+    read-line kind.BoxReject _ _ (s .pre) (t .enum-told10 .given .1) 0x12 refl (search lines))
     (λ c. search lines) (λ c. search lines) (λ c. search lines) λ c. search lines)

@@ -15,7 +15,19 @@ read-information-spec =
     (search needs)
     (λ c. search (sizes, c .texts-and .ensures, c .before .if1 .taken, c .before .before .two-at .ensures))
     (search needs) (search needs)
-    (λ c. search (sizes, c .texts-and2 .ensures, c .before .if2 .taken, ← (c .before .before .eight-at .ensures), c .before .before .before .before .two-at .ensures))
+    (λ c. search (
+      sizes,
+      c .texts-and2 .ensures,
+      c .before .if2 .taken,
+      ← (c .before .before .eight-at .ensures),
+      c .before .before .before .before .two-at .ensures,
+    ))
     (search needs)
-    (λ c. search (sizes, c .texts-and3 .ensures, c .before .if3 .taken, ← (c .before .before .before .eight-at .ensures), c .before .before .before .before .before .two-at .ensures))
+    (λ c. search (
+      sizes,
+      c .texts-and3 .ensures,
+      c .before .if3 .taken,
+      ← (c .before .before .before .eight-at .ensures),
+      c .before .before .before .before .before .two-at .ensures,
+    ))
     λ c. search sizes)

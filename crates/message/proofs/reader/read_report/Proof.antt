@@ -10,7 +10,8 @@ use Rattle.message.proofs.reader.read_report.Tie as tie
 
 status : tie.Need-returns-3
 status c =
-    chosen Report 5 9 _ (c .before .status-allowed .result) (4 ∷ statusIn (c .before .before .status-of .result)) (c .judged .ensures) refl (search sizes) (search sizes) (search (sizes, c .before .status-allowed .ensures))
+    chosen Report 5 9 _ (c .before .status-allowed .result) (4 ∷ statusIn (c .before .before .status-of .result))
+    (c .judged .ensures) refl (search sizes) (search sizes) (search (sizes, c .before .status-allowed .ensures))
     (search (sizes, c .before .before .before .if2 .left, c .before .before .status-of .ensures))
 
 pub read-report-spec : {M : Type 1} → statement M

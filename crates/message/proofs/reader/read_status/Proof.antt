@@ -10,7 +10,8 @@ use Rattle.message.proofs.reader.read_status.Tie as tie
 
 status : tie.Need-returns-3
 status c =
-    chosen Status 4 9 _ (c .before .status-allowed .result) (3 ∷ statusIn (c .before .before .status-of .result)) (c .judged .ensures) refl (search sizes) (search sizes) (search (sizes, c .before .status-allowed .ensures))
+    chosen Status 4 9 _ (c .before .status-allowed .result) (3 ∷ statusIn (c .before .before .status-of .result))
+    (c .judged .ensures) refl (search sizes) (search sizes) (search (sizes, c .before .status-allowed .ensures))
     (search (sizes, c .before .before .before .if2 .left, c .before .before .status-of .ensures))
 
 pub read-status-spec : {M : Type 1} → statement M

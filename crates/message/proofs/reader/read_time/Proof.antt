@@ -11,5 +11,11 @@ read-time-spec =
     (search needs) (search needs)
     (λ c. search (sizes, c .no-parts .ensures, c .before .before .if1 .taken, c .before .time-of .ensures))
     (search needs) (search needs) (search needs)
-    (λ c. search (sizes, c .no-parts2 .ensures, c .before .before .before .if2 .taken, c .before .time-of2 .ensures, ← (c .before .before .four-at .ensures)))
+    (λ c. search (
+      sizes,
+      c .no-parts2 .ensures,
+      c .before .before .before .if2 .taken,
+      c .before .time-of2 .ensures,
+      ← (c .before .before .four-at .ensures),
+    ))
     λ c. search sizes)

@@ -8,7 +8,8 @@ answer-spec =
     tie.close
     (tie.spec
     (search needs) (search needs) (search needs) (search needs) (search needs) (search needs)
-    (λ c. let call = c .before .before in rw (call .before .before .before .said .given .1) (call .answer-decided .ensures))
+    (λ c. let call = c .before .before in rw (call .before .before .before .said .given .1)
+    (call .answer-decided .ensures))
     (λ c. simp (c .enum-told .given .1))
     (λ c. simp (c .enum-told2 .given .1))
     λ c. simp (c .enum-told3 .given .1))

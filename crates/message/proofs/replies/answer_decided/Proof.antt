@@ -13,20 +13,23 @@ frame c =
     let command = a .before .before .before .before .command in
     let args = a .before .before .before .before .before .before .before .before .before .args in
     simp (a .before .before .before .before .before .enum-told .given .1)
-    (by-body frameLimit (args .body .now) (args .out .now) (command .result) (number .result) (payload .result .now) (command .ensures) (number .ensures) (payload .ensures .0) (a .answer-frame .ensures))
+    (by-body frameLimit (args .body .now) (args .out .now) (command .result) (number .result) (payload .result .now)
+    (command .ensures) (number .ensures) (payload .ensures .0) (a .answer-frame .ensures))
 
 sum : tie.Need-returns-2
 sum c =
     let a = c .before .before in
     let number = a .before .before .number2 in
     let args = a .before .before .before .before .before .before .before .args in
-    simp (a .before .before .before .enum-told2 .given .1) (by-sum frameLimit (args .body .now) (args .out .now) (number .result) (number .ensures) (a .reject .ensures))
+    simp (a .before .before .before .enum-told2 .given .1)
+    (by-sum frameLimit (args .body .now) (args .out .now) (number .result) (number .ensures) (a .reject .ensures))
 
 pub answer-decided-spec : {M : Type 1} → statement M
 answer-decided-spec =
     tie.close
     (tie.spec
-    (search needs) (search needs) (search needs) (search needs) (search needs) (search needs) (search needs) (search needs)
+    (search needs) (search needs) (search needs) (search needs) (search needs) (search needs)
+    (search needs) (search needs)
     (search needs) (search needs) (search needs) (search needs)
     (search needs)
     frame

@@ -18,7 +18,10 @@ due-after-spec =
     (search needs)
     (λ c. simp (outward (c .before) (c .if1 .taken)))
     (search needs) (search needs) (search needs) (search needs) (search needs)
-    (λ c. simp (outward (c .before .before .before .before .before) (c .before .before .before .before .if1 .left), c .before .before .reading .given .1) (c .due-for .ensures))
+    (λ c. simp (
+      outward (c .before .before .before .before .before) (c .before .before .before .before .if1 .left),
+      c .before .before .reading .given .1,
+    ) (c .due-for .ensures))
     (λ c. simp (outward (c .before .before .before) (c .before .before .if1 .left), c .enum-told .given .1))
     (λ c. simp (outward (c .before .before .before) (c .before .before .if1 .left), c .enum-told2 .given .1))
     (λ c. simp (outward (c .before .before .before) (c .before .before .if1 .left), c .enum-told3 .given .1)))

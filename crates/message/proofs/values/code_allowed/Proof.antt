@@ -5,4 +5,5 @@ use Rattle.message.proofs.values.code_allowed.Statement.{statement}
 use Rattle.message.proofs.values.code_allowed.Tie as tie
 
 pub code-allowed-spec : {M : Type 1} → statement M
-code-allowed-spec = tie.close (tie.spec (λ c. rw (c .if1 .taken)) λ c. rw (le-leb 1 (c .before .args .code) (omega arith)))
+code-allowed-spec = tie.close (tie.spec (λ c. rw (c .if1 .taken)) λ c. rw
+    (le-leb 1 (c .before .args .code) (omega arith)))

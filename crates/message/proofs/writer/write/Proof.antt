@@ -14,6 +14,7 @@ write-spec =
     (search needs) (search needs) (search needs) (search needs) (search needs) (search needs) (search needs)
     (search needs) (search needs) (search needs) (search needs) (search needs) (search needs) (search needs)
     (search needs) (search needs) (search needs) (search needs) (search needs) (search needs) (search needs)
+    (search needs) (search needs) (search needs)
     (search needs) (λ c. search arms) (search needs) (λ c. search arms) (search needs) (λ c. search arms)
     (search needs) (λ c. search arms) (search needs) (λ c. search arms) (search needs) (λ c. search arms)
     (search needs) (λ c. search arms) (search needs) (λ c. search arms) (search needs) (λ c. search arms)

@@ -1,6 +1,7 @@
 -- `write_bare` meets its contract: nothing lent, and values that are allowed.
 use borrow.Author.Tests.{eq-eqb}
 use Rattle.base.proofs.Tests.{tests}
+use Rattle.message.proofs.Sends.{onward}
 use borrow.Author.Needs.{needs}
 use Rattle.message.proofs.writer.write_bare.Statement.{statement}
 use Rattle.message.proofs.writer.write_bare.Tie as tie
@@ -10,6 +11,9 @@ write-bare-spec =
     tie.close
     (tie.spec
     (λ c. search tests)
-    (search needs) (search needs)
-    (λ c. let a = c .before .before .before .before in simp (eq-eqb _ _ (a .before .if1 .left), a .if2 .taken) (c .before .before .write-frame .ensures))
+    (search needs) (search needs) (search needs)
+    (λ c.
+    let a = c .before .before .before .before .before in
+    simp (eq-eqb _ _ (a .before .if1 .left), a .if2 .taken)
+    (onward (c .passed-on .ensures) (c .before .before .before .write .ensures)))
     (λ c. simp (eq-eqb _ _ (c .before .if1 .left), c .if2 .left)))

@@ -19,5 +19,6 @@ write-between-spec =
     (λ c.
     let t = c .before .before .before .before .before .before .before in
     let s = t .before .before .before .before .args in
-    sent _ _ _ _ _ refl (eq-eqb _ _ (t .if1 .left)) refl (between (s .numbers .now) (s .lent .now)) (c .passed-on .ensures)
+    sent _ _ _ _ _ refl (eq-eqb _ _ (t .if1 .left)) refl (between (s .numbers .now) (s .lent .now))
+    (c .passed-on .ensures)
     (c .before .before .before .write-parts .ensures)))

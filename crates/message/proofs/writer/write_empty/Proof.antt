@@ -17,7 +17,8 @@ write-empty-spec =
     let r = c .before .before .before .before .before .before .before in
     let s = r .before .before .before .before .args in
     empty-got frameLimit (s .command) (s .number) (s .flags) (s .lent .now) (s .out .now)
-    (ap readingOf (sym (c .before .before .before .before .before .enum-told .given .1)) ∙ r .read .ensures) (c .before .before .write-bare .ensures))
+    (ap readingOf (sym (c .before .before .before .before .before .enum-told .given .1)) ∙ r .read .ensures)
+    (c .before .before .write-bare .ensures))
     (λ c.
     let s = c .before .before .before .before .before .before .args in
     empty-refused frameLimit (s .command) (s .number) (s .flags) (s .lent .now) (s .out .now) 31

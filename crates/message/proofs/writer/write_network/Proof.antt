@@ -18,5 +18,6 @@ write-network-spec =
     (λ c.
     let b = c .before .before .before .before .before in
     let s = b .before .before .before .before .before .args in
-    bare 0x0D (s .number) (s .flags) (s .lent .now) (s .out .now) (b .network-bytes .ensures) (sym (lt-ltb _ _ (b .before .if1 .left)))
+    bare 0x0D (s .number) (s .flags) (s .lent .now) (s .out .now) (b .network-bytes .ensures)
+    (sym (lt-ltb _ _ (b .before .if1 .left)))
     (c .before .before .write-bare2 .ensures)))

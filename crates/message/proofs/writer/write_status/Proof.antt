@@ -16,5 +16,6 @@ write-status-spec =
     (λ c.
     let b = c .before .before .before .before .before in
     let s = b .before .before .before .before .before .args in
-    bare (s .command) (s .number) (s .flags) (s .lent .now) (s .out .now) (b .status-bytes .ensures) (sym (lt-ltb _ _ (b .before .if1 .left)))
+    bare (s .command) (s .number) (s .flags) (s .lent .now) (s .out .now) (b .status-bytes .ensures)
+    (sym (lt-ltb _ _ (b .before .if1 .left)))
     (c .before .before .write-bare2 .ensures)))
