@@ -8,7 +8,7 @@ import time
 import model
 from door import PATIENCE, Live, is_line, run
 
-SOURCES = ["crates.txt", "crates/frame/src/lib.rt", "crates/listing/specs/Lines.antt", "crates/list/src/main.rt"]
+SOURCES = ["crates.txt", "crates/base/src/lib.rt", "crates/frame/src/lib.rt", "crates/listing/specs/Lines.antt", "crates/list/src/main.rt"]
 OTHER_SOURCE = "crates/message/src/lib.rt"
 NO_SOURCES = ["crates/frame/must-fail/fault.edit", "crates/list/stdout"]  # in the folders of sources
 TOOLS = "sh cat cp dirname find flock mkdir mktemp readlink rm rmdir sleep stty touch tr".split()
