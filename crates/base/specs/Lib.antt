@@ -1,5 +1,5 @@
--- What the layers share, and a reader of any of them has to believe: rows, outcomes, parts,
--- numbers and sums. Nothing of a protocol.
+-- What the layers share, and a reader of any of them has to believe: rows by the table's numbers, outcomes, stores,
+-- parts, numbers, sums and keys. Nothing of a protocol's bytes.
 pub mod Rows
 pub mod Outcomes
 pub mod Stores

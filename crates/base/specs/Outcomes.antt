@@ -32,8 +32,8 @@ onto w out = w ++ drop (length w) out
 abbrev pub writtenIn : Row → ℕ
 writtenIn r = getD (r .values) 0 0
 
--- bytes that fit stand at the front of the output, under 0 with their count (0 is no number of the table,
--- and not MORE); others are ROOM 22, with the output as it was
+-- bytes that fit stand at the front of the output; their count has no number in the table and stands under 0 (not
+-- MORE). Others are ROOM 22, with the output as it was
 abbrev pub placed : List ℕ → List ℕ → Write
 placed w out =
     cond (ltb (length out) (length w)) (outcome (row 22 (0 ∷ [])) out) (outcome (row 0 (length w ∷ [])) (onto w out))

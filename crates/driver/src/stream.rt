@@ -75,8 +75,8 @@ fn again(m: Message, p: Parts, payload: &[u8], number: u8, flags: u16) -> bool {
     }
 }
 
-// A frame is read once: its lines, and the box's answer, come of that reading.
-fn received(body: &[u8], out: &mut [u8]) -> bool {
+// A frame's lines, all of one reading.
+fn received(body: &[u8]) -> bool {
     let command = frame::command(body);
     let number = frame::number(body);
     let flags = frame::flags(body);
@@ -94,7 +94,7 @@ fn received(body: &[u8], out: &mut [u8]) -> bool {
     } = r {
         shown = shown && parts(p, payload) && again(m, p, payload, number, flags);
     }
-    shown && replied(message::answer_reading(command, number, r, out), out)
+    shown
 }
 
 fn replied(r: Reply, out: &[u8]) -> bool {
@@ -114,7 +114,7 @@ fn decided(answer: Answer, body: &[u8]) -> bool {
     let row = frames::row_of(answer);
     let number = row.number;
     match number {
-        1 => received(body, &mut out),
+        1 => received(body) && replied(message::answer(answer, body, &mut out), &out),
         15 => {
             text::line(b"sum", &[frame::number(body) as u64])
                 && replied(message::answer(answer, body, &mut out), &out)

@@ -1,7 +1,7 @@
 -- Paper 01, "Counted examples": "Marked examples, proved of the definitions together as one statement over one list.
 -- Hex; places decimal".
--- Each definition that is asked is one that the contract of a public call states, at the code's limit of 1,024;
--- which of the reader's bytes are the body, `frontBody`, is demand 3's.
+-- Each definition that is asked is one that the contract of a public call states, at the code's limit of 1,024, or, of
+-- `readOf`, the row of one; which of the reader's bytes are the body, `frontBody`, is demand 3's.
 use Prim.Native.Nat.{ℕ}
 use mathlib.Core.Path.{_≡_}
 use mathlib.Core.Bool.{Bool, true, false, cond, _||_}

@@ -28,8 +28,8 @@ codeFor limit g = codeOf (answered limit g .row)
 abbrev pub wireFor : Given → List ℕ
 wireFor g = wire (bodyOf (g .command) (g .number) (g .flags) (g .payload))
 
--- ---- counts-below: no count is above 2 and twice the bytes of the longest body,
--- which for C's limit is 2,054; so none reaches 65,536
+-- ---- counts-below: no count is above 2 and twice the bytes of the longest body; for C's limit that is 2,054, so none
+-- reaches 65,536
 pub record CountsBelow : Type 0 where
   pub any : (limit : ℕ) (g : Given) → countIn (answered limit g .row) ≤ 2 + 2 * (limit + 2)
   pub ours : (g : Given) → countIn (answered frameLimit g .row) ≤ 2054
@@ -50,7 +50,8 @@ RefusalUnchanged =
     (limit : ℕ) → 2 + 2 * (limit + 2) < 65536 → (g : Given) → refused ≤ codeFor limit g → answered limit g .out ≡ g .out
 
 -- ---- code-when: the table's "Given exactly when" of 21 and 22, and the count otherwise, in the numbers that C gets.
--- The three cases are all there are and, by counts-below, their numbers differ, so each comes only then
+-- The three cases are all there are. Where no count reaches 65,536, as under C's limit, their numbers differ, so each
+-- comes only then
 pub record CodeWhen (limit : ℕ) (g : Given) : Type 0 where
   pub payload : limit < length (g .payload) + 5 → codeFor limit g ≡ 65557
   pub room : length (g .payload) + 5 ≤ limit → length (g .out) < length (wireFor g) → codeFor limit g ≡ 65558

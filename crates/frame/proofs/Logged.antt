@@ -146,6 +146,8 @@ module _ (limit : ℕ) (r q : State) (bs : List ℕ) (k s : ℕ)
           used = λ e. absurd (omega arith);
           unused = λ e. fits;
           asked = λ e. not-asked e;
+          asked-row = λ e. not-asked e;
+          used-none = λ e. absurd (omega arith);
           used-kept = λ e. absurd (omega arith);
           asked-kept = λ e. not-asked e;
         };
@@ -188,6 +190,8 @@ module _ (limit : ℕ) (r q : State) (bs : List ℕ) (k s : ℕ)
           used = λ e. absurd (omega (arith, n .high));
           unused = λ e. fits;
           asked = λ e. not-asked e;
+          asked-row = λ e. not-asked e;
+          used-none = λ e. absurd (omega (arith, n .high));
           used-kept = λ e. absurd (omega (arith, n .high));
           asked-kept = λ e. not-asked e;
         };
@@ -225,6 +229,8 @@ module _ (limit : ℕ) (small : limit ≤ 65279) (r : State) (i : Inv limit r) (
           used = λ e. over;
           unused = λ e. absurd (e refl);
           asked = λ e. not-asked e;
+          asked-row = λ e. not-asked e;
+          used-none = λ e. refl;
           used-kept = λ e. refl;
           asked-kept = λ e. not-asked e;
         };
@@ -234,8 +240,9 @@ module _ (limit : ℕ) (small : limit ≤ 65279) (r : State) (i : Inv limit r) (
 
   -- CLEAN or OPEN, of number d
   end-called : (d : ℕ) (v : List ℕ)
-      → decided d ≡ false → 2 ≤ d → d < 17 → getD v 0 0 ≡ taken r → Called limit r ask (reply (row d v) r)
-  end-called d v undecided low high first =
+      → (d ≡ 2) ⊎ (d ≡ 16) → decided d ≡ false → 2 ≤ d → d < 17 → getD v 0 0 ≡ taken r
+      → Called limit r ask (reply (row d v) r)
+  end-called d v named undecided low high first =
       let other : eqb d 1 ≡ false = ne-eqb d 1 (λ e. omega arith) in
       record {
         holds = i;
@@ -250,6 +257,8 @@ module _ (limit : ℕ) (small : limit ≤ 65279) (r : State) (i : Inv limit r) (
           used = λ e. absurd (omega arith);
           unused = λ e. omega arith;
           asked = λ e. first;
+          asked-row = λ e. named;
+          used-none = λ e. refl;
           used-kept = λ e. refl;
           asked-kept = λ e. refl;
         };
@@ -261,11 +270,11 @@ module _ (limit : ℕ) (small : limit ≤ 65279) (r : State) (i : Inv limit r) (
   ask-called = rw in-range (go (r .scan .phase))
     where
       go : (f : Phase) → Called limit r ask (reply (endingRow f (r .scan)) r)
-      go Idle = end-called 2 (taken r ∷ []) refl (omega arith) (omega arith) refl
-      go Half = end-called 2 (taken r ∷ []) refl (omega arith) (omega arith) refl
-      go Header = end-called 16 (taken r ∷ r .scan .start ∷ []) refl (omega arith) (omega arith) refl
-      go Open = end-called 16 (taken r ∷ r .scan .start ∷ []) refl (omega arith) (omega arith) refl
-      go Escape = end-called 16 (taken r ∷ r .scan .start ∷ []) refl (omega arith) (omega arith) refl
+      go Idle = end-called 2 (taken r ∷ []) (inl refl) refl (omega arith) (omega arith) refl
+      go Half = end-called 2 (taken r ∷ []) (inl refl) refl (omega arith) (omega arith) refl
+      go Header = end-called 16 (taken r ∷ r .scan .start ∷ []) (inr refl) refl (omega arith) (omega arith) refl
+      go Open = end-called 16 (taken r ∷ r .scan .start ∷ []) (inr refl) refl (omega arith) (omega arith) refl
+      go Escape = end-called 16 (taken r ∷ r .scan .start ∷ []) (inr refl) refl (omega arith) (omega arith) refl
 
   pub called : (c : Call) → Called limit r c (callOf limit r c)
   called (give bs) = give-called bs

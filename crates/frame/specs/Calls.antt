@@ -40,13 +40,17 @@ nextOf limit r x =
       body = putOf (advanceOf limit (r .scan) x .put) (r .body) (r .scan .have) (advanceOf limit (r .scan) x .byte);
     }
 
+-- the row of what a byte decides, the count-th of its call
+abbrev pub decisionOf : ℕ → State → ℕ → ℕ → Row
+decisionOf limit r x count =
+    eventRow (advanceOf limit (r .scan) x .event) count (r .scan .start) (nextOf limit r x .scan .taken)
+
 -- bytes from the n-th of a call on: it "stops behind the byte that decides something, and says how many bytes it took"
 unfoldable pub runOf : ℕ → List ℕ → ℕ → State → Reply State
 runOf limit [] n r = reply (row 0 (n ∷ [])) r
 runOf limit (x ∷ xs) n r =
     cond (decidesOf (advanceOf limit (r .scan) x .event))
-    (reply (eventRow (advanceOf limit (r .scan) x .event) (n + 1) (r .scan .start) (nextOf limit r x .scan .taken))
-    (nextOf limit r x))
+    (reply (decisionOf limit r x (n + 1)) (nextOf limit r x))
     (runOf limit xs (n + 1) (nextOf limit r x))
 
 -- bytes given. "Order: 17, then 18"

@@ -95,8 +95,8 @@ EndsTold =
 -- ---- one-list: `Lists` and the equation with `framesOf` say the same, since a stream has one such list
 abbrev pub OneList : Type 0
 OneList =
-    (limit : ℕ) → limit ≤ widest → (t : List ℕ) → Lists limit t (framesOf limit t)
-    × ((l : List Found) → Lists limit t l → l ≡ framesOf limit t)
+    (limit : ℕ) → limit ≤ widest → (t : List ℕ)
+    → Lists limit t (framesOf limit t) × ((l : List Found) → Lists limit t l → l ≡ framesOf limit t)
 
 -- ---- within: "never more than were offered", of any reader
 abbrev pub Within : Type 0
@@ -146,12 +146,15 @@ SentAgain =
 
 -- ---- sent-whole: after any calls, a sender that offers each piece until it is taken has all of its bytes taken,
 -- up to 2^62 in all
+abbrev pub sentAfter : ℕ → State → List (List ℕ) → List Entry
+sentAfter limit r pieces = logOf limit r (send limit r pieces)
+
+-- of every list of calls before, and all pieces
 abbrev pub SentWhole : Type 0
 SentWhole =
     (limit : ℕ) → limit ≤ widest → (earlier : List Call) (pieces : List (List ℕ))
     → length (stream (logOf limit (freshOf limit) earlier)) + length (joined pieces) ≤ 2 ^ 62
-    → stream (logOf limit (stateAfter limit (freshOf limit) earlier)
-    (send limit (stateAfter limit (freshOf limit) earlier) pieces)) ≡ joined pieces
+    → stream (sentAfter limit (stateAfter limit (freshOf limit) earlier) pieces) ≡ joined pieces
 
 -- ---- round-trip: of the calls that took a wire form, in whatever pieces, the last that took a byte is answered FRAME;
 -- its values are read back
@@ -162,8 +165,9 @@ pub record ReadBack (start command number flags : ℕ) (payload : List ℕ) (log
   pub parts : log ≡ early ++ last ∷ late
   pub nothing-later : stream late ≡ []
   pub some-taken : 1 ≤ takenIn last
-  pub frame : last .row ≡ row 1 (takenIn last ∷ start
-      ∷ (start + length (wire (bodyOf command number flags payload))) ∷ [])
+  pub frame :
+      last .row
+      ≡ row 1 (takenIn last ∷ start ∷ (start + length (wire (bodyOf command number flags payload))) ∷ [])
   pub body : frontBody (last .after .body) ≡ bodyOf command number flags payload
   pub command-is : commandOf (last .after .body) ≡ command
   pub number-is : numberOf (last .after .body) ≡ number

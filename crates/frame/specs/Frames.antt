@@ -15,6 +15,10 @@ pub record Found : Type 0 where
   pub end : ℕ
   pub body : List ℕ
 
+-- the same of the three
+abbrev pub found : ℕ → ℕ → List ℕ → Found
+found start end body = record { start = start; end = end; body = body }
+
 -- the stretch is a frame: the wire form of a good body. No reader and no parser is named.
 pub record IsFrame (limit : ℕ) (stream : List ℕ) (f : Found) : Type 0 where
   pub before : List ℕ

@@ -29,17 +29,20 @@ pub data Decides (limit : ℕ) (raw : List ℕ) (number : ℕ) (body : List ℕ)
   is-short : (b : List ℕ)
       → number ≡ 11 → body ≡ [] → raw ≡ wire b → length b ≡ 2 → lengthOf b < 5 → Decides limit raw number body
   -- LONG: "length read, above 1,024"; under a limit below 4 the two would overlap, and SHORT comes first
-  is-long : (b : List ℕ) → number ≡ 12 → body ≡ [] → raw ≡ wire b → length b ≡ 2 → getD b 0 0 ≢ 255 → 5 ≤ lengthOf b
-      → limit < lengthOf b → Decides limit raw number body
+  is-long : (b : List ℕ)
+      → number ≡ 12 → body ≡ [] → raw ≡ wire b → length b ≡ 2 → getD b 0 0 ≢ 255 → 5 ≤ lengthOf b → limit < lengthOf b
+      → Decides limit raw number body
   -- STUFF: "FF other than the header's, then neither 55 nor FF, in an open frame"
-  is-stuff : (b : List ℕ) (x : ℕ) → number ≡ 13 → body ≡ [] → raw ≡ wire b ++ 255 ∷ x ∷ [] → Unfinished limit b → x ≢ 85
-      → x ≢ 255 → Decides limit raw number body
+  is-stuff : (b : List ℕ) (x : ℕ)
+      → number ≡ 13 → body ≡ [] → raw ≡ wire b ++ 255 ∷ x ∷ [] → Unfinished limit b → x ≢ 85 → x ≢ 255
+      → Decides limit raw number body
   -- CUT: "header made in an open frame, not by moving the start"
-  is-cut : (b : List ℕ) → number ≡ 14 → body ≡ [] → raw ≡ wire b ++ 255 ∷ 255 ∷ [] → Unfinished limit b
+  is-cut : (b : List ℕ)
+      → number ≡ 14 → body ≡ [] → raw ≡ wire b ++ 255 ∷ 255 ∷ [] → Unfinished limit b
       → Decides limit raw number body
   -- SUM: "frame complete, sum wrong"; "reader holds the body"
-  is-sum : (b : List ℕ) → number ≡ 15 → body ≡ b → raw ≡ wire b → length b ≡ lengthOf b + 2
-      → 5 ≤ lengthOf b → lengthOf b ≤ limit
+  is-sum : (b : List ℕ)
+      → number ≡ 15 → body ≡ b → raw ≡ wire b → length b ≡ lengthOf b + 2 → 5 ≤ lengthOf b → lengthOf b ≤ limit
       → getD b (lengthOf b + 1) 0 ≢ checksum (take (lengthOf b + 1) b) → Decides limit raw number body
 
 -- an answer about a stretch of the stream: its number, start, end and, at FRAME and SUM, the body held

@@ -1,12 +1,12 @@
 -- Lists of calls of one reader, with what each was answered. Paper 01, "Demand 3, word by word".
 use Prim.Native.Nat.{ℕ, zero, suc, _+_, _≤_, _<_, _^_}
 use mathlib.Core.Path.{_≡_}
-use mathlib.Core.Logic.{_≢_}
+use mathlib.Core.Logic.{_≢_, _⊎_}
 use mathlib.Core.Bool.{Bool, cond, true, _&&_, _||_}
 use mathlib.Core.List.{List, [], _∷_, _++_}
 use lib.ListN.{length, getD, take, drop}
 use lib.Dec.{eqb, leb}
-use Rattle.frame.specs.Frames.{Found, frontBody}
+use Rattle.frame.specs.Frames.{Found, found, frontBody}
 use Rattle.base.specs.Rows.{Row}
 use Rattle.frame.specs.Table.{countOf}
 use Rattle.frame.specs.State.{State}
@@ -68,8 +68,7 @@ stream (e ∷ es) = take (takenIn e) (offered (e .call)) ++ stream es
 abbrev pub handed : Entry → List Found → List Found
 handed e l =
     cond (eqb (e .row .number) 1)
-    (record { start = getD (e .row .values) 1 0; end = getD (e .row .values) 2 0; body = frontBody (e .after .body) }
-    ∷ l)
+    (found (getD (e .row .values) 1 0) (getD (e .row .values) 2 0) (frontBody (e .after .body)) ∷ l)
     l
 
 -- the FRAME answers, in the order of the calls
@@ -91,7 +90,10 @@ pub record Account (n : ℕ) (e : Entry) : Type 0 where
   pub used : e .row .number ≡ 18 → 2 ^ 62 < n + length (offered (e .call))  -- USED, "exactly when"
   pub unused : e .row .number ≢ 18 → n + length (offered (e .call)) ≤ 2 ^ 62
   pub asked : e .call ≡ ask → getD (e .row .values) 0 0 ≡ n  -- "is the sum of all counts before it"
-  pub used-kept : e .row .number ≡ 18 → e .after ≡ e .before  -- USED and an end asked "leave the reader unchanged"
+  pub asked-row : e .call ≡ ask → (e .row .number ≡ 2) ⊎ (e .row .number ≡ 16)  -- CLEAN or OPEN
+  -- USED and an end asked take none and "leave the reader unchanged"
+  pub used-none : e .row .number ≡ 18 → takenIn e ≡ 0
+  pub used-kept : e .row .number ≡ 18 → e .after ≡ e .before
   pub asked-kept : e .call ≡ ask → e .after ≡ e .before
 
 -- of each call of a list, of which the counts before it add up to n

@@ -73,8 +73,8 @@ pub record Good (limit : ℕ) (b : List ℕ) : Type 0 where
   pub most : lengthOf b ≤ limit
   pub sum-holds : getD b (lengthOf b + 1) 0 ≡ checksum (take (lengthOf b + 1) b)
 
--- "With L from 65,280 the wire would read FF FF FF 55 ..
--- Our limit keeps that away." The limit that the claims over streams allow
+-- "With L from 65,280 the wire would read FF FF FF 55 .. Our limit keeps that away."
+-- The greatest limit that the claims over streams allow
 abbrev pub widest : ℕ
 widest = 65279
 

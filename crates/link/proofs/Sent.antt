@@ -31,7 +31,8 @@ unfolding among table lineIn
 box-commands command =
     record {
       either = joined (fromBox command) (mayWait command) (among command answersModule)
-          (λ h. agree (λ c. mayWait c || among c answersModule) (λ _. true) boxCommands command refl (sym (paper-lists .from-box command) ∙ h))
+          (λ h. agree (λ c. mayWait c || among c answersModule) (λ _. true) boxCommands command refl
+          (sym (paper-lists .from-box command) ∙ h))
           (agree fromBox (λ _. true) waitCommands command refl)
           (agree fromBox (λ _. true) answersModule command refl);
       not-both = apart (mayWait command) _ (agree (λ c. among c answersModule) (λ _. false) waitCommands command refl);

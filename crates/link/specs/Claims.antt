@@ -125,13 +125,15 @@ pub record WorkedRun : Type 0 where
   pub last : numberAt firstNumber 254 ≡ 255
   pub round : numberAt firstNumber 255 ≡ 1
 
--- ---- example-11: "Clock 4,294,967,200, then 104: elapsed 200, due; 103: not due."
+-- ---- example-11, and of a fresh link that is offered a report at the first clock
+abbrev pub reportSent : Link
+reportSent = offerOf firstNumber mostRepeats (freshOf firstNumber) 0x05 4294967200 .state
+
+-- "Clock 4,294,967,200, then 104: elapsed 200, due; 103: not due."
 pub record Example11 : Type 0 where
   pub elapsed : elapsedOf 104 4294967200 ≡ 200
   pub due : isDue 104 4294967200 ≡ true
   pub not-due : isDue 103 4294967200 ≡ false
   -- the same of a fresh link that is offered a report at the first clock, and then ticked
-  pub again : tickOf firstNumber mostRepeats (offerOf firstNumber mostRepeats
-      (freshOf firstNumber) 0x05 4294967200 .state) 104 .row ≡ againRow 0x05 1
-  pub nothing : tickOf firstNumber mostRepeats (offerOf firstNumber mostRepeats
-      (freshOf firstNumber) 0x05 4294967200 .state) 103 .row ≡ nothingRow
+  pub again : tickOf firstNumber mostRepeats reportSent 104 .row ≡ againRow 0x05 1
+  pub nothing : tickOf firstNumber mostRepeats reportSent 103 .row ≡ nothingRow

@@ -60,8 +60,9 @@ pub record History (first most : ℕ) (log : List Entry) : Type 0 where
   pub waiting : (before : List Entry) (a : Entry) (during : List Entry) (e : Entry) (after : List Entry)
       → log ≡ before ++ (a ∷ (during ++ (e ∷ after)))
       → accepted a ≡ true → noneEnds during ≡ true
-      → e .row ≡ waitingRow most (commandIn (a .call)) (numberIn a) (lastSent (clockIn (a .call)) during)
-      (repeatsIn during) (e .call)
+      → e .row
+      ≡ waitingRow most (commandIn (a .call)) (numberIn a) (lastSent (clockIn (a .call)) during) (repeatsIn during)
+      (e .call)
   -- what is counted there
   pub waits : (before : List Entry) (a : Entry) (during after : List Entry) → log ≡ before ++ (a ∷ (during ++ after))
       → accepted a ≡ true → noneEnds during ≡ true → Waits most a during

@@ -14,11 +14,11 @@ waitCommands = 0x05 ∷ 0x09 ∷ 0x0B ∷ 0x13 ∷ 0x15 ∷ 0x17 ∷ 0x1B ∷ 0x
 abbrev pub mayWait : ℕ → Bool
 mayWait command = among command waitCommands
 
--- paper 01's first number, and its most repeats of a command after the first sending.
--- The definitions take them as `first` and `most`; every contract states these two
+-- paper 01's first number. The definitions take it as `first`, and the contracts state this one
 abbrev pub firstNumber : ℕ
 firstNumber = 1
 
+-- its most repeats of a command, after the first sending; the definitions take it as `most`
 abbrev pub mostRepeats : ℕ
 mostRepeats = 3
 

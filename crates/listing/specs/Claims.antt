@@ -97,12 +97,12 @@ PaperListing =
 
 -- ---- each-kind: a listing for each kind of line that the paper's example lacks
 pub record EachKind : Type 0 where
-  pub short : listingOf frameLimit (give (0xFF ∷ 0xFF ∷ 0x00 ∷ 0x04 ∷ []) ∷ ask ∷ []) ≡ headingText
-      ++ ascii "short 0 4 - - - -\nclean 4\n"
-  pub long : listingOf frameLimit (give (0xFF ∷ 0xFF ∷ 0xFF ∷ 0x55 ∷ 0x00 ∷ []) ∷ ask ∷ []) ≡ headingText
-      ++ ascii "long 1 5 - - - -\nclean 5\n"
-  pub stuff : listingOf frameLimit (give (0xFF ∷ 0xFF ∷ 0x00 ∷ 0x05 ∷ 0x07 ∷ 0xFF ∷ 0x00 ∷ []) ∷ ask ∷ []) ≡ headingText
-      ++ ascii "stuff 0 7 - - - -\nclean 7\n"
+  pub short : listingOf frameLimit (give (0xFF ∷ 0xFF ∷ 0x00 ∷ 0x04 ∷ []) ∷ ask ∷ [])
+      ≡ headingText ++ ascii "short 0 4 - - - -\nclean 4\n"
+  pub long : listingOf frameLimit (give (0xFF ∷ 0xFF ∷ 0xFF ∷ 0x55 ∷ 0x00 ∷ []) ∷ ask ∷ [])
+      ≡ headingText ++ ascii "long 1 5 - - - -\nclean 5\n"
+  pub stuff : listingOf frameLimit (give (0xFF ∷ 0xFF ∷ 0x00 ∷ 0x05 ∷ 0x07 ∷ 0xFF ∷ 0x00 ∷ []) ∷ ask ∷ [])
+      ≡ headingText ++ ascii "stuff 0 7 - - - -\nclean 7\n"
   pub sum : listingOf frameLimit (give (0xFF ∷ 0xFF ∷ 0x00 ∷ 0x05 ∷ 0x07 ∷ 0x01 ∷ 0x00 ∷ 0x00 ∷ 0x0E ∷ []) ∷ ask ∷ [])
       ≡ headingText ++ ascii "sum 0 9 - - - -\nclean 9\n"
   pub left-open : listingOf frameLimit (give (0xFF ∷ 0xFF ∷ 0xFF ∷ 0x00 ∷ 0x05 ∷ []) ∷ ask ∷ [])
@@ -179,6 +179,6 @@ pub record AnyCut (limit : ℕ) : Type 0 where
       → listingOf limit (send limit (freshOf limit) ps ++ ask ∷ [])
       ≡ listingOf limit (send limit (freshOf limit) qs ++ ask ∷ [])
 
--- of every limit
+-- of every limit up to the widest
 abbrev pub AnyCuts : Type 0
 AnyCuts = (limit : ℕ) → limit ≤ widest → AnyCut limit

@@ -95,6 +95,7 @@ pub paper-lists : PaperLists
 unfolding among table lineIn
 paper-lists =
     record {
+      sizes = refl;
       box = refl;
       from-box = every fromBox (λ c. among c boxCommands) refl
           (λ c none h. ap (λ (l : Line). l .outward) none ∙ sym (none-of boxCommands refl c h));

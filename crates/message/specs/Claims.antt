@@ -16,7 +16,7 @@ use Rattle.frame.specs.Calls.{freshOf}
 use Rattle.frame.specs.Logs.{Call, Entry, logOf, stateAfter, stream}
 use Rattle.frame.specs.Claims.{ReadBack}
 use Rattle.message.specs.Numbers.{num}
-use Rattle.message.specs.Commands.{CommandLine, table, kindOf, isListed, fromBox, owedOf}
+use Rattle.message.specs.Commands.{CommandLine, table, sizesOf, kindOf, isListed, fromBox, owedOf}
 use Rattle.message.specs.Table.{readingOf, sentRowOf, replyRowOf}
 use Rattle.message.specs.Reading.{readOf, partsOf}
 use Rattle.message.specs.Parts.{EachPlace, bytesIn, PartAt}
@@ -32,7 +32,7 @@ use Rattle.message.specs.declared.kind.Due.the-variants as due
 use Rattle.message.specs.declared.replies.Reply.{Reply}
 
 -- ---- rows-tell: two messages, or two answers of one enum, never have the same number and values, so an equation of
--- ---- rows fixes the answer
+-- rows fixes the answer
 pub record RowsTell : Type 0 where
   pub messages : (a b : Message) → messageIn a ≡ messageIn b → a ≡ b
   pub readings : (a b : Reading) → readingOf a ≡ readingOf b → a ≡ b
@@ -68,6 +68,8 @@ otherCommands = 0x02 ∷ 0x03 ∷ 0x04 ∷ 0x05 ∷ 0x09 ∷ 0x0D ∷ 0x11 ∷ 0
 
 -- of every command
 pub record PaperLists : Type 0 where
+  -- the sizes that a line names are those that its kind's layout is read by
+  pub sizes : map (λ e. e .sizes) table ≡ map (λ e. sizesOf (e .line .kind)) table
   pub box : sentByBox table ≡ boxCommands
   pub from-box : (command : ℕ) → fromBox command ≡ among command boxCommands
   pub listed : (command : ℕ) → isListed (kindOf command) ≡ (among command emptyCommands || among command otherCommands)
@@ -131,7 +133,7 @@ abbrev pub WrittenRead : Type 0
 WrittenRead = (m : Message) (lent : List ℕ) → Writable m lent → Decodes m lent (commandIn m) (payloadIn m lent)
 
 -- ---- read-written: what is read is refused by none of 31, 32, 33 when written again; with written-read, both allow
--- ---- the same values
+-- the same values
 
 -- the bytes of a payload that its message takes as they are
 abbrev pub lentOf : ℕ → List ℕ → List ℕ
@@ -158,7 +160,7 @@ ReadsWritten =
     → ReadWritten command p m
 
 -- ---- message-round-trip: after any calls of a fresh reader, the calls that took what a message call wrote end in
--- ---- FRAME at its last byte, and the body that the reader holds is read as the same message
+-- FRAME at its last byte, and the body that the reader holds is read as the same message
 pub record MessageBack (start : ℕ) (m : Message) (number flags : ℕ) (lent : List ℕ) (log : List Entry) : Type 0 where
   pub frame : ReadBack start (commandIn m) number flags (payloadIn m lent) log
   pub message : Decodes m lent (commandOf (frame .last .after .body)) (payloadOf (frame .last .after .body))
@@ -175,7 +177,7 @@ MessageRoundTrip =
     (logOf limit (stateAfter limit (freshOf limit) earlier) later)
 
 -- ---- answers-are-read: what the box writes as an answer is a message that only the box sends, and that reading
--- ---- accepts
+-- accepts
 
 -- a command and a payload that the box may answer with, as this message
 abbrev pub BoxSends : ℕ → List ℕ → Message → Type 0

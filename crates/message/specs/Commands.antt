@@ -33,9 +33,19 @@ use Rattle.message.specs.declared.kind.Due.the-variants.{Nothing, AskInf
 
 -- ---- the table
 
--- a command, and its line
+-- what the sizes of a payload may be
+pub data Sizes : Type 0 where
+  -- one of these
+  exactly : List ℕ → Sizes
+  -- this or more
+  from : ℕ → Sizes
+  -- bytes before a count, the count n in 2, n bytes, and bytes behind them, no more
+  counted : ℕ → ℕ → Sizes
+
+-- a command, the sizes of its payload, and its line
 pub record CommandLine : Type 0 where
   pub command : ℕ
+  pub sizes : Sizes
   pub line : Line
 
 -- a line: the payload's kind, whether only the box sends it, and what the box answers to it without a fault
@@ -43,8 +53,12 @@ abbrev pub lineWith : Kind → Bool → Due → Line
 lineWith kind outward owed = record { kind = kind; outward = outward; owed = owed }
 
 -- a command's
-abbrev pub entry : ℕ → Kind → Bool → Due → CommandLine
-entry command kind outward owed = record { command = command; line = lineWith kind outward owed }
+abbrev pub entry : ℕ → Sizes → Kind → Bool → Due → CommandLine
+entry command sizes kind outward owed = record { command = command; sizes = sizes; line = lineWith kind outward owed }
+
+-- no payload
+abbrev pub nothing : Sizes
+nothing = exactly (0 ∷ [])
 
 -- only the box sends it
 abbrev pub byBox : Bool
@@ -54,45 +68,46 @@ byBox = true
 abbrev pub toBox : Bool
 toBox = false
 
--- the listed commands. 03's answer is a control's; a query asks for the status instead (see `dueFor`)
+-- the listed commands: sizes of the payload, its kind (`layoutOf` says what it holds), who sends it, and what the box
+-- answers without a fault. 03's answer is a control's; a query asks for the status instead (`dueFor`)
 unfoldable pub table : List CommandLine
 table =
-    entry 0x01 Empty toBox AskInformation
-    ∷ entry 0x02 Information byBox Nothing
-    ∷ entry 0x03 Action toBox (Acknowledge 0x04)
-    ∷ entry 0x04 Status byBox Nothing
-    ∷ entry 0x05 Report byBox Nothing
-    ∷ entry 0x06 Empty toBox Nothing
-    ∷ entry 0x07 Empty toBox (Acknowledge 0x08)
-    ∷ entry 0x08 Empty byBox Nothing
-    ∷ entry 0x09 Onboarding byBox Nothing
-    ∷ entry 0x0A Empty toBox Nothing
-    ∷ entry 0x0B Empty byBox Nothing
-    ∷ entry 0x0C Empty toBox Nothing
-    ∷ entry 0x0D Network toBox (Acknowledge 0x0E)
-    ∷ entry 0x0E Empty byBox Nothing
-    ∷ entry 0x0F Empty toBox (Acknowledge 0x10)
-    ∷ entry 0x10 Empty byBox Nothing
-    ∷ entry 0x11 ModuleReject toBox Nothing
-    ∷ entry 0x12 BoxReject byBox Nothing
-    ∷ entry 0x13 Empty byBox Nothing
-    ∷ entry 0x14 Empty toBox Nothing
-    ∷ entry 0x15 Empty byBox Nothing
-    ∷ entry 0x16 Empty toBox Nothing
-    ∷ entry 0x17 Empty byBox Nothing
-    ∷ entry 0x18 Time toBox Nothing
-    ∷ entry 0x19 Announcement toBox Nothing
-    ∷ entry 0x1A Empty byBox Nothing
-    ∷ entry 0x1B Ready byBox Nothing
-    ∷ entry 0x1C Empty toBox Nothing
-    ∷ entry 0x1D Piece toBox Nothing
-    ∷ entry 0x1E Empty byBox Nothing
-    ∷ entry 0x1F Empty toBox Nothing
-    ∷ entry 0x20 Empty byBox Nothing
-    ∷ entry 0x27 Empty byBox Nothing
-    ∷ entry 0x28 Empty toBox Nothing
-    ∷ entry 0x29 Empty byBox Nothing
-    ∷ entry 0x2A Empty toBox Nothing
+    entry 0x01 nothing Empty toBox AskInformation
+    ∷ entry 0x02 (exactly (66 ∷ 74 ∷ 106 ∷ [])) Information byBox Nothing
+    ∷ entry 0x03 (from 1) Action toBox (Acknowledge 0x04)
+    ∷ entry 0x04 (from 0) Status byBox Nothing
+    ∷ entry 0x05 (from 1) Report byBox Nothing
+    ∷ entry 0x06 nothing Empty toBox Nothing
+    ∷ entry 0x07 nothing Empty toBox (Acknowledge 0x08)
+    ∷ entry 0x08 nothing Empty byBox Nothing
+    ∷ entry 0x09 (exactly (1 ∷ [])) Onboarding byBox Nothing
+    ∷ entry 0x0A nothing Empty toBox Nothing
+    ∷ entry 0x0B nothing Empty byBox Nothing
+    ∷ entry 0x0C nothing Empty toBox Nothing
+    ∷ entry 0x0D (exactly (2 ∷ [])) Network toBox (Acknowledge 0x0E)
+    ∷ entry 0x0E nothing Empty byBox Nothing
+    ∷ entry 0x0F nothing Empty toBox (Acknowledge 0x10)
+    ∷ entry 0x10 nothing Empty byBox Nothing
+    ∷ entry 0x11 (exactly (1 ∷ [])) ModuleReject toBox Nothing
+    ∷ entry 0x12 (exactly (1 ∷ [])) BoxReject byBox Nothing
+    ∷ entry 0x13 nothing Empty byBox Nothing
+    ∷ entry 0x14 nothing Empty toBox Nothing
+    ∷ entry 0x15 nothing Empty byBox Nothing
+    ∷ entry 0x16 nothing Empty toBox Nothing
+    ∷ entry 0x17 nothing Empty byBox Nothing
+    ∷ entry 0x18 (exactly (7 ∷ 11 ∷ [])) Time toBox Nothing
+    ∷ entry 0x19 (counted 4 0) Announcement toBox Nothing
+    ∷ entry 0x1A nothing Empty byBox Nothing
+    ∷ entry 0x1B (counted 0 2) Ready byBox Nothing
+    ∷ entry 0x1C nothing Empty toBox Nothing
+    ∷ entry 0x1D (from 4) Piece toBox Nothing
+    ∷ entry 0x1E nothing Empty byBox Nothing
+    ∷ entry 0x1F nothing Empty toBox Nothing
+    ∷ entry 0x20 nothing Empty byBox Nothing
+    ∷ entry 0x27 nothing Empty byBox Nothing
+    ∷ entry 0x28 nothing Empty toBox Nothing
+    ∷ entry 0x29 nothing Empty byBox Nothing
+    ∷ entry 0x2A nothing Empty toBox Nothing
     ∷ []
 
 -- ---- the table looked up
@@ -155,24 +170,14 @@ informationValues p = length p ∷ twoAt p 64 ∷ cond (eqb (length p) 66) [] (e
 -- "bits 0 to 5, strength bits 8 to 10, bits 11 and 12 are read, the reserved ones ignored"
 abbrev pub networkValues : List ℕ → List ℕ
 networkValues p =
-    bit 0 (twoAt p 0) ∷ bit 1 (twoAt p 0) ∷ bit 2 (twoAt p 0) ∷ bit 3 (twoAt p 0) ∷ bit 4 (twoAt p 0) ∷ bit 5
-    (twoAt p 0)
-    ∷ bits 8 3 (twoAt p 0) ∷ bit 11 (twoAt p 0) ∷ bit 12 (twoAt p 0) ∷ []
+    bit 0 (twoAt p 0) ∷ bit 1 (twoAt p 0) ∷ bit 2 (twoAt p 0) ∷ bit 3 (twoAt p 0) ∷ bit 4 (twoAt p 0)
+    ∷ bit 5 (twoAt p 0) ∷ bits 8 3 (twoAt p 0) ∷ bit 11 (twoAt p 0) ∷ bit 12 (twoAt p 0) ∷ []
 
 -- "year 2, month, day, hour, minute, second", then others
 abbrev pub timeValues : List ℕ → List ℕ → List ℕ
 timeValues p more = twoAt p 0 ∷ getD p 2 0 ∷ getD p 3 0 ∷ getD p 4 0 ∷ getD p 5 0 ∷ getD p 6 0 ∷ more
 
 -- ---- the layout of each kind
-
--- what the sizes of a payload may be
-pub data Sizes : Type 0 where
-  -- one of these
-  exactly : List ℕ → Sizes
-  -- this or more
-  from : ℕ → Sizes
-  -- bytes before a count, the count n in 2, n bytes, and bytes behind them, no more
-  counted : ℕ → ℕ → Sizes
 
 -- what a payload of a kind has to be, and what it says
 pub record Layout : Type 0 where
@@ -217,10 +222,7 @@ byte p = getD p 0 0 ∷ []
 abbrev pub none : List ℕ → Parts
 none p = noParts
 
--- each kind's: its sizes, the sizes that its first byte asks for, its allowed values, its values, its parts. "four
--- 8-byte texts, product
--- key 32, timeout 2, then perhaps attributes 8, then perhaps secret 32"; "19: size 4, n in 2, n bytes"; "1B: n in 2, n
--- bytes"
+-- each kind's: its sizes, the sizes that its first byte asks for, its allowed values, its values, its parts
 abbrev pub layoutOf : Kind → Layout
 layoutOf Unlisted =
     record { listed = false; sizes = exactly []; chosen = any; allowed = λ p. false; values = λ p. []; parts = none }

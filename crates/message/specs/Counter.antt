@@ -33,8 +33,8 @@ controlValues c =
 -- "Mode 3 is FIELD, in control only if its flag is set"
 abbrev pub controlAllowed : List ℕ → Bool
 controlAllowed c =
-    ltb (getD c 0 0) (2 ^ 3) && (ltb (getD c 1 0) (2 ^ 3) && cond (eqb (bit 1 (getD c 0 0)) 0) true
-    (ltb (bits 1 2 (getD c 1 0)) 3))
+    ltb (getD c 0 0) (2 ^ 3)
+    && (ltb (getD c 1 0) (2 ^ 3) && cond (eqb (bit 1 (getD c 0 0)) 0) true (ltb (bits 1 2 (getD c 1 0)) 3))
 
 -- ---- the same values of what the code has
 

@@ -35,8 +35,8 @@ noParts = noTexts nowhere nowhere
 -- what holds of each of the eight
 abbrev pub EachPlace : (Place → Type 0) → Parts → Type 0
 EachPlace P s =
-    P (s .serial) × P (s .protocol) × P (s .hardware) × P (s .software) × P (s .key) × P (s .secret) × P (s .code) × P
-    (s .piece)
+    P (s .serial) × P (s .protocol) × P (s .hardware) × P (s .software)
+    × P (s .key) × P (s .secret) × P (s .code) × P (s .piece)
 
 -- the bytes at a place
 abbrev pub bytesOf : Place → List ℕ → List ℕ

@@ -26,9 +26,8 @@ sentRowOf sent.Command = row 31 []
 sentRowOf sent.Size = row 32 []
 sentRowOf sent.Field = row 33 []
 
--- the box's answer: nothing; no bytes, and the command that the caller is asked for, with the number received; the
--- count of an
--- acknowledgement; the count of a 12, its command and its code; ROOM 22
+-- the box's answer: nothing; no bytes, and the command that the caller is asked for, with the number received;
+-- the count of an acknowledgement; the count of a 12, its command and its code; ROOM 22
 abbrev pub replyRowOf : Reply → Row
 replyRowOf reply.Nothing = row 0 []
 replyRowOf (reply.InformationWanted number) = row 0 (0 ∷ 0x02 ∷ number ∷ [])

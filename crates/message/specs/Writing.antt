@@ -37,8 +37,8 @@ informationNumbers timeout (extra.AttributesAndSecret attributes) = two timeout 
 abbrev pub networkBytes : Network → List ℕ
 networkBytes n =
     (n .strength + num (n .app) * 8 + num (n .testing) * 16)
-    ∷ (num (n .softap) + num (n .station) * 2 + num (n .onboarding) * 4 + num (n .binding) * 8 + num (n .router) * 16 +
-    num (n .server) * 32)
+    ∷ (num (n .softap) + num (n .station) * 2 + num (n .onboarding) * 4
+    + num (n .binding) * 8 + num (n .router) * 16 + num (n .server) * 32)
     ∷ []
 
 -- 18, before others
