@@ -63,8 +63,10 @@ def prove(room, name):
 
 
 def first_error(said):
-    """The line of the first error or, where the prover answers a function by itself, of its first note; notes on speed are none."""
-    return re.search(r"^(\S+:\d+:\d+): error.*", said, re.M) or re.search(r"^note: (\S+:\d+:\d+): .*", said, re.M)
+    """The line of the first error that is no consequence of another or, where the prover answers a function by itself, of its first note."""
+    errors = [e for e in re.finditer(r"^(\S+:\d+:\d+): error.*", said, re.M)]
+    own = next((e for e in errors if "was not admitted" not in e.group(0)), None)
+    return own or re.search(r"^note: (\S+:\d+:\d+): .*", said, re.M) or next(iter(errors), None)
 
 
 def wrong_with(room, name, edit):

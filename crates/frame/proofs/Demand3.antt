@@ -1,11 +1,12 @@
 -- Demand 3, and that no call of a reader that began fresh is answered STATE. Assumes nothing.
 use Prim.Native.Nat.{ℕ, _+_, _≤_}
-use mathlib.Core.List.{List}
+use mathlib.Core.List.{List, [], _∷_}
+use mathlib.Core.Path.{refl}
 use native.Mathlib.Omega.{arith}
 use lib.ListN.{length-replicate}
 use Rattle.frame.specs.Calls.{freshOf, zeros}
-use Rattle.frame.specs.Logs.{Call, logOf, stream}
-use Rattle.frame.specs.Claims.{Demand3s, NeverState}
+use Rattle.frame.specs.Logs.{Call, logOf, stream, callOf, Chains}
+use Rattle.frame.specs.Claims.{Demand3s, NeverState, LogChains, StateKept}
 use Rattle.frame.proofs.Listed.{framesOf-lists}
 use Rattle.frame.proofs.Moves.{Inv}
 use Rattle.frame.proofs.Logged.{Logged, logged}
@@ -30,3 +31,11 @@ demand-3 limit small calls =
 
 pub never-state : NeverState
 never-state limit small calls = from-fresh limit small calls .never
+
+pub log-chains : LogChains
+unfolding logOf Chains
+log-chains limit r [] = tt
+log-chains limit r (c ∷ cs) = (refl, log-chains limit (callOf limit r c .state) cs)
+
+pub state-kept : StateKept
+state-kept limit r bytes h = (rw h, rw h)

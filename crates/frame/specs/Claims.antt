@@ -15,7 +15,7 @@ use Rattle.base.specs.Outcomes.{reply}
 use Rattle.frame.specs.Calls.{freshOf, feedOf, finishOf}
 use Rattle.frame.specs.Lines.{Line, Answers, linesOf, IsOpen}
 use Rattle.frame.specs.Logs.{Call, Entry, logOf, stateAfter, takenIn, stream, handedOut, Accounts, OffersFront}
-use Rattle.frame.specs.Logs.{send, joined}
+use Rattle.frame.specs.Logs.{send, joined, Chains}
 use Rattle.frame.specs.declared.reader.Answer.{Answer}
 use Rattle.frame.specs.declared.reader.Ending.{Ending}
 use Rattle.frame.specs.declared.reader.Reader.{Reader}
@@ -197,3 +197,13 @@ ReadAnywhere =
       body = bodyOf command number flags payload;
     })
     (handedOut (logOf limit (freshOf limit) calls))
+
+-- ---- log-chains: the state before a call is the one that the call before it left, and the first is the reader's own
+abbrev pub LogChains : Type 0
+LogChains = (limit : ℕ) (r : State) (calls : List Call) → Chains r (logOf limit r calls)
+
+-- ---- state-kept: STATE, "count 0, state unchanged", of both calls
+abbrev pub StateKept : Type 0
+StateKept =
+    (limit : ℕ) (r : State) (bytes : List ℕ) → inRangeOf limit (r .scan) ≡ false
+    → (feedOf limit r bytes ≡ reply (row 17 (0 ∷ [])) r) × (finishOf limit r ≡ reply (row 17 (0 ∷ [])) r)

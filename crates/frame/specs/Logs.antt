@@ -121,3 +121,8 @@ send limit r (p ∷ ps) = offer limit (length p) r p ++ send limit (stateAfter l
 unfoldable pub joined : List (List ℕ) → List ℕ
 joined [] = []
 joined (p ∷ ps) = p ++ joined ps
+
+-- each call is one of the reader that the call before it left
+unfoldable pub Chains : State → List Entry → Type 0
+Chains r [] = Unit {0}
+Chains r (e ∷ es) = (e .before ≡ r) × Chains (e .after) es

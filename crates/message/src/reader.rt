@@ -258,6 +258,7 @@ fn read_as(line: Line, command: u8, payload: &[u8]) -> Reading
     ensures { λ r. ⌜ readingOf r ≡ decodeOf command (now (payload .entry)) ⌝ }
 {
     let kind = line.kind;
+    let one = payload.len() == 1;
     match kind {
         Kind::Unlisted => Reading::Command,
         Kind::Empty => judged(payload.len() == 0, true, Message::Empty { command }),
@@ -267,11 +268,7 @@ fn read_as(line: Line, command: u8, payload: &[u8]) -> Reading
         Kind::Report => read_report(payload),
         Kind::Onboarding => {
             let way = base::byte_at(payload, 0);
-            judged(
-                payload.len() == 1,
-                way_allowed(way),
-                Message::Onboarding { way },
-            )
+            judged(one, way_allowed(way), Message::Onboarding { way })
         }
         Kind::Network => {
             let network = network_of(payload);
@@ -279,19 +276,11 @@ fn read_as(line: Line, command: u8, payload: &[u8]) -> Reading
         }
         Kind::ModuleReject => {
             let code = base::byte_at(payload, 0);
-            judged(
-                payload.len() == 1,
-                code_allowed(code),
-                Message::ModuleReject { code },
-            )
+            judged(one, code_allowed(code), Message::ModuleReject { code })
         }
         Kind::BoxReject => {
             let code = base::byte_at(payload, 0);
-            judged(
-                payload.len() == 1,
-                code_allowed(code),
-                Message::BoxReject { code },
-            )
+            judged(one, code_allowed(code), Message::BoxReject { code })
         }
         Kind::Time => read_time(payload),
         Kind::Announcement => read_announcement(payload),
