@@ -3,9 +3,9 @@ use Prim.Native.Nat.{ℕ, _+_, _*_, _≤_, _<_}
 use mathlib.Core.Path.{_≡_}
 use mathlib.Core.Bool.{true, false, cond, _&&_, _||_}
 use mathlib.Core.List.{List, [], _∷_, _++_, map}
-use lib.ListN.{length, getD, take, drop}
+use lib.ListN.{length, getD, take, drop, replicate}
 use lib.Dec.{eqb}
-use Rattle.frame.specs.Wire.{widest, commandOf, payloadOf}
+use Rattle.frame.specs.Wire.{widest, commandOf, numberOf, payloadOf}
 use Rattle.base.specs.Rows.{row}
 use Rattle.base.specs.Outcomes.{outcome}
 use Rattle.base.specs.Parts.{IsPart}
@@ -15,15 +15,17 @@ use denote.Ref.{RefT, now}
 use Rattle.frame.specs.Calls.{freshOf}
 use Rattle.frame.specs.Logs.{Call, Entry, logOf, stateAfter, stream}
 use Rattle.frame.specs.Claims.{ReadBack}
-use Rattle.message.specs.Numbers.{num}
+use Rattle.message.specs.Numbers.{num, eightAt, eight}
 use Rattle.message.specs.Commands.{CommandLine, table, sizesOf, kindOf, isListed, fromBox, owedOf}
 use Rattle.message.specs.Table.{readingOf, sentRowOf, replyRowOf}
 use Rattle.message.specs.Reading.{readOf, partsOf}
 use Rattle.message.specs.Parts.{EachPlace, bytesIn, PartAt}
 use Rattle.message.specs.Writing.{commandIn, messageIn, readIn, payloadIn, lentFits, allowedIn, sendOf}
-use Rattle.message.specs.Answers.{dueFor, dueOf}
+use Rattle.message.specs.Answers.{dueFor, dueOf, rejectOf, answerOf}
 use Rattle.message.specs.declared.values.Message.{Message}
 use Rattle.message.specs.declared.values.Message.the-variants as message
+use Rattle.message.specs.declared.values.Unix.the-variants as unix
+use Rattle.message.specs.declared.values.Extra.the-variants as extra
 use Rattle.message.specs.declared.parts.Place.{Place}
 use Rattle.message.specs.declared.reader.Reading.{Reading}
 use Rattle.message.specs.declared.writer.Sent.{Sent}
@@ -219,3 +221,89 @@ abbrev pub Example4 : Type 0
 Example4 =
     (limit : ℕ) → 14 ≤ limit → (out : List ℕ) → 19 ≤ length out
     → sendOf limit example4 2 0 [] out ≡ outcome (row 0 (19 ∷ [])) (example4Bytes ++ drop 19 out)
+
+-- ---- worked-payloads: literal bytes and the message that they are, by computation
+pub record WorkedPayloads : Type 0 where
+  pub time :
+      readOf 0x18 (0x07 ∷ 0xEA ∷ 11 ∷ 16 ∷ 6 ∷ 34 ∷ 58 ∷ [])
+      ≡ row 0 (messageIn (message.Time (record {
+        year = 2026;
+        month = 11;
+        day = 16;
+        hour = 6;
+        minute = 34;
+        second = 58;
+        unix = unix.Absent;
+      })))
+  pub piece : readOf 0x1D (0 ∷ 1 ∷ 0 ∷ 2 ∷ 0xAA ∷ []) ≡ row 0 (messageIn (message.Piece 1 2))
+  pub status :
+      readOf 0x04 (3 ∷ 5 ∷ 0 ∷ 3 ∷ 0 ∷ 0 ∷ 0 ∷ 255 ∷ 0 ∷ [])
+      ≡ row 0 (messageIn (message.Status (record {
+        feeding = true;
+        lamp = false;
+        mode = 1;
+        volume = 3;
+        leaf = 255;
+        double = false;
+        skipped = false;
+        fault = false;
+      })))
+  pub query : readOf 0x03 (2 ∷ []) ≡ row 0 (messageIn message.Query)
+  pub control :
+      readOf 0x03 (1 ∷ 7 ∷ 3 ∷ 0 ∷ 3 ∷ [])
+      ≡ row 0 (messageIn (message.Control (record {
+        flags = record { lamp = true; mode = true; volume = true };
+        lamp = true;
+        mode = 1;
+        volume = 3;
+      })))
+  pub information :
+      readOf 0x02 (replicate 64 0 ++ 0 ∷ 30 ∷ 0 ∷ 0 ∷ 0 ∷ 0 ∷ 0 ∷ 0 ∷ 0 ∷ 1 ∷ [])
+      ≡ row 0 (messageIn (message.Information 30 (extra.Attributes 1)))
+  pub eight-read : eightAt (1 ∷ 2 ∷ 3 ∷ 4 ∷ 5 ∷ 6 ∷ 7 ∷ 8 ∷ []) 0 ≡ 72623859790382856
+  pub eight-written : eight 72623859790382856 [] ≡ 1 ∷ 2 ∷ 3 ∷ 4 ∷ 5 ∷ 6 ∷ 7 ∷ 8 ∷ []
+
+-- ---- worked-answers: what the box does about each answer of the reader: the caller is asked, a wrong sum is rejected,
+-- and another refused frame gets nothing
+pub record WorkedAnswer (limit number : ℕ) (v body out : List ℕ) : Type 0 where
+  pub wants-information :
+      answerOf limit (row 1 v) (0 ∷ 5 ∷ 0x01 ∷ number ∷ 0 ∷ 0 ∷ []) out
+      ≡ outcome (row 0 (0 ∷ 0x02 ∷ number ∷ [])) out
+  pub wants-status :
+      answerOf limit (row 1 v) (0 ∷ 6 ∷ 0x03 ∷ number ∷ 0 ∷ 0 ∷ 2 ∷ []) out
+      ≡ outcome (row 0 (0 ∷ 0x04 ∷ number ∷ [])) out
+  pub wrong-sum : answerOf limit (row 15 v) body out ≡ rejectOf limit 1 (numberOf body) out
+  pub silent-short : answerOf limit (row 11 v) body out ≡ outcome (row 0 []) out
+  pub silent-long : answerOf limit (row 12 v) body out ≡ outcome (row 0 []) out
+  pub silent-stuff : answerOf limit (row 13 v) body out ≡ outcome (row 0 []) out
+  pub silent-cut : answerOf limit (row 14 v) body out ≡ outcome (row 0 []) out
+
+-- of all numbers and bodies
+abbrev pub WorkedAnswers : Type 0
+WorkedAnswers = (limit number : ℕ) (v body out : List ℕ) → WorkedAnswer limit number v body out
+
+-- ---- worked-replies: the bytes of an acknowledgement and of a 12, under the number received, in literal bytes
+pub record WorkedReply (limit : ℕ) (v out : List ℕ) : Type 0 where
+  pub acknowledged :
+      answerOf limit (row 1 v) (0 ∷ 5 ∷ 0x07 ∷ 9 ∷ 0 ∷ 0 ∷ 21 ∷ []) out
+      ≡ outcome (row 0 (9 ∷ []))
+      (0xFF ∷ 0xFF ∷ 0x00 ∷ 0x05 ∷ 0x08 ∷ 0x09 ∷ 0x00 ∷ 0x00 ∷ 0x16 ∷ drop 9 out)
+  pub wrong-sum :
+      answerOf limit (row 15 v) (0 ∷ 5 ∷ 0x07 ∷ 9 ∷ 0 ∷ 0 ∷ 0 ∷ []) out
+      ≡ outcome (row 0 (10 ∷ 0x12 ∷ 1 ∷ []))
+      (0xFF ∷ 0xFF ∷ 0x00 ∷ 0x06 ∷ 0x12 ∷ 0x09 ∷ 0x00 ∷ 0x00 ∷ 0x01 ∷ 0x22 ∷ drop 10 out)
+
+-- into any output with room for ten bytes, under any limit that lets a payload of one byte pass
+abbrev pub WorkedReplies : Type 0
+WorkedReplies = (limit : ℕ) → 6 ≤ limit → (v out : List ℕ) → 10 ≤ length out → WorkedReply limit v out
+
+-- ---- faults-answered: the code that a frame with a fault is rejected with
+pub record FaultAnswered (command : ℕ) (p : List ℕ) : Type 0 where
+  pub box-only : fromBox command ≡ true → dueOf command p ≡ due.Reject 2
+  pub unlisted : readOf command p ≡ row 31 [] → dueOf command p ≡ due.Reject 2
+  pub size : fromBox command ≡ false → readOf command p ≡ row 32 [] → dueOf command p ≡ due.Reject 3
+  pub field : fromBox command ≡ false → readOf command p ≡ row 33 [] → dueOf command p ≡ due.Reject 3
+
+-- of every frame
+abbrev pub FaultsAnswered : Type 0
+FaultsAnswered = (command : ℕ) (p : List ℕ) → FaultAnswered command p
