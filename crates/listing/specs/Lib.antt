@@ -1,5 +1,5 @@
 -- What a reader of this crate has to believe: a number as decimal text,
--- the lines of the listing, the calls, then the claims.
+-- the lines of the listing, the rows of the calls that put one, then the claims.
 pub mod Decimal
 pub mod Lines
 pub mod Table
