@@ -172,17 +172,28 @@ def terminal(raw):
     return master, slave, os.ttyname(slave)
 
 
-def child_of(pid):
-    """The process that pid started, or None."""
+def processes():
+    """Each process with its state, its parent and its group, and what else its stat says behind the name."""
     for name in filter(str.isdigit, os.listdir("/proc")):
         try:
             with open(f"/proc/{name}/stat") as file:
-                fields = file.read().rpartition(")")[2].split()
+                yield int(name), file.read().rpartition(")")[2].split()
         except OSError:
             continue
-        if int(fields[1]) == pid:
-            return int(name)
-    return None
+
+
+def child_of(pid):
+    """The process that pid started, or None."""
+    return next((process for process, fields in processes() if int(fields[1]) == pid), None)
+
+
+def stands_still(group):
+    """Whether a group that was told to stop has done so: each process is stopped, gone, or waits for one that is."""
+    end = time.monotonic() + PATIENCE
+    while any(fields[0] in "RS" for _, fields in processes() if int(fields[2]) == group):
+        if time.monotonic() > end:
+            return False
+    return True
 
 
 def peak_memory(pid):

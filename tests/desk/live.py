@@ -1,7 +1,6 @@
 """The wire while it is live: each line comes at its deciding byte, before any further byte is sent."""
 import fcntl
 import itertools
-import itertools
 import os
 import random
 import select
@@ -10,7 +9,7 @@ import termios
 import threading
 
 import model
-from door import PAUSE, SILENT, Live, child_of, hung_up, is_line, peak_memory, play, terminal
+from door import PAUSE, SILENT, Live, child_of, hung_up, is_line, peak_memory, play, stands_still, terminal
 from model import HEADING
 
 # Written by hand: bytes, the lines behind them, and silence where no line is due yet.
@@ -184,6 +183,8 @@ def ends_by(test, door, word, who, send):
 def stopped(test, door):
     with Live([door, "list"], start_new_session=True) as live:
         os.killpg(live.process.pid, signal.SIGSTOP)
+        # Told to go on while a stop is under way, a process just begun can stay stopped for ever.
+        test("a run can be stopped", stands_still(live.process.pid))
         os.killpg(live.process.pid, signal.SIGCONT)
         wrong = play(live, stated_steps()[:3])
         live.close_wire()
