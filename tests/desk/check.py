@@ -5,14 +5,15 @@ check.py ROOT [SEED [COUNT]]: the repository, and COUNT random streams. The last
 """
 import os
 import pathlib
-import signal
 import sys
 import tempfile
 
 import firstuse
+import listener
 import live
 import model
-from door import Live, as_started_by_a_person, run
+import whole
+from door import as_started_by_a_person, run
 from model import HEADING
 
 sys.path.insert(0, str(pathlib.Path(__file__).resolve().parent.parent / "shared"))
@@ -143,31 +144,10 @@ def random_streams(door, seed, count):
         checks.test_random(place, "" if right else f"{found}\n  bytes: {data.hex(' ')}\n  should be: {model.listing(data)!r}")
 
 
-# Runs that end early.
-
-
-def unread(door, name, data, **more):
-    """The listing's reader goes after the heading, and the wire stays live."""
-    with Live([door.path, "list"], **more) as wire:
-        wire.line()
-        wire.process.stdout.close()
-        wire.process.stdout = open(os.devnull, "rb")
-        wire.send(data)
-        found = wire.ended()
-        test(name, found.is_quiet(b""), str(found))
+# Inputs that fail.
 
 
 def broken_ends(door, room):
-    data = model.wire(7, 1)
-    with open("/dev/full", "wb") as full:
-        found = door("list", data=data, stdout=full)
-    test("standard output is full", (found.status, found.err) == (0, b""), str(found))
-    found = run(["sh", "-c", '"$0" list >&-', door.path], data=data)
-    test("standard output is closed", (found.status, found.err) == (0, b""), str(found))
-    unread(door, "nobody reads the listing any more", data)
-    ignores = {"preexec_fn": lambda: signal.signal(signal.SIGPIPE, signal.SIG_IGN), "restore_signals": False}
-    unread(door, "the same where the signal of a broken pipe is ignored", data, **ignores)
-
     folder = os.open(room, os.O_RDONLY)
     found = door("list", stdin=folder)
     os.close(folder)
@@ -188,7 +168,7 @@ def broken_ends(door, room):
 
 def command_line(door, room):
     usage = door("--help")
-    words = [b"list [FILE]", b"listen DEVICE", b"--help"]
+    words = [b"list [FILE]", b"listen DEVICE", b"--help", b"Ctrl-C", b"one listener", b"  0  ", b"  1  ", b"  2  ", b"  141  "]
     test("--help", usage.status == 0 and usage.err == b"" and all(word in usage.out for word in words), str(usage))
     test("--help fits a terminal of 80 columns", max(map(len, usage.out.splitlines())) <= 80)
     for word in ("-h", "help", "list --help", "listen --help"):
@@ -300,9 +280,11 @@ def main():
         sample(door, root / "samples")
         random_streams(door, seed, count)
         live.wires(test, door.path, root / "samples" / "bench.bin", seed)
-        live.signals(test, door.path)
+        live.signals(test, door.path, room)
         live.memory(test, door.path, seed)
         broken_ends(door, room)
+        whole.all_outputs(test, door.path, root / "target/bin/list", room)
+        listener.all_uses(test, door.path, room)
         command_line(door, room)
         unreadable(root, room)
         places(door, root, room)

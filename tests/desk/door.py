@@ -1,7 +1,9 @@
 """The front door as a test runs it: to its end, or live, with bytes sent and lines awaited one by one."""
+import fcntl
 import os
 import select
 import signal
+import struct
 import subprocess
 import termios
 import time
@@ -16,6 +18,11 @@ def as_started_by_a_person():
     signal.signal(signal.SIGINT, signal.default_int_handler)
     for name in ("SIGHUP", "SIGQUIT", "SIGTERM"):
         signal.signal(getattr(signal, name), signal.SIG_DFL)
+
+
+def ends_of(number):
+    """The statuses of a front door that a signal ends; some shells ignore SIGQUIT themselves, and it ends with 1 then."""
+    return {-number, 1} if number == signal.SIGQUIT else {-number}
 
 
 class Ended:
@@ -182,9 +189,63 @@ def processes():
             continue
 
 
-def child_of(pid):
-    """The process that pid started, or None."""
-    return next((process for process, fields in processes() if int(fields[1]) == pid), None)
+def wait_for(happened):
+    """Whether it happens in time."""
+    end = time.monotonic() + PATIENCE
+    while not happened():
+        if time.monotonic() > end:
+            return False
+        time.sleep(0.01)
+    return True
+
+
+def name_of(pid):
+    """What a process runs, or '' where it is gone."""
+    try:
+        with open(f"/proc/{pid}/comm") as file:
+            return file.read().rstrip("\n")
+    except OSError:
+        return ""
+
+
+def below(pid, name):
+    """The process of that name that pid started, itself or through others, once there is one; or None."""
+    found = []
+
+    def look():
+        parents = {process: int(fields[1]) for process, fields in processes()}
+        found[:] = [process for process in parents if name_of(process) == name and is_below(parents, process, pid)]
+        return found
+
+    return found[0] if wait_for(look) else None
+
+
+def is_below(parents, process, pid):
+    while process in parents:
+        process = parents[process]
+        if process == pid:
+            return True
+    return False
+
+
+def program_of(pid):
+    """The listing program behind a front door, or None."""
+    return below(pid, "list")
+
+
+def session_of(pid):
+    return next((int(fields[3]) for process, fields in processes() if process == pid), None)
+
+
+def left_in(session):
+    """What runs in a session: each process and its name."""
+    return [(pid, name_of(pid)) for pid, fields in processes() if int(fields[3]) == session and fields[0] != "Z"]
+
+
+def is_full(pipe):
+    """Whether a pipe has no room for a line more."""
+    waiting = struct.unpack("i", fcntl.ioctl(pipe, termios.FIONREAD, b"\0" * 4))[0]
+    return waiting > fcntl.fcntl(pipe, fcntl.F_GETPIPE_SZ) - 4096
 
 
 def stands_still(group):
@@ -200,3 +261,9 @@ def peak_memory(pid):
     """The most memory that a process has had, in KiB."""
     with open(f"/proc/{pid}/status") as file:
         return next(int(line.split()[1]) for line in file if line.startswith("VmHWM:"))
+
+
+def written_by(pid):
+    """How many bytes a process has written."""
+    with open(f"/proc/{pid}/io") as file:
+        return next(int(line.split()[1]) for line in file if line.startswith("wchar:"))

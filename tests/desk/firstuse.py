@@ -1,4 +1,5 @@
 """The first use in a fresh checkout, over a stand-in for rt: what is built and said, and that no run disturbs another."""
+import itertools
 import os
 import pathlib
 import shutil
@@ -6,12 +7,12 @@ import signal
 import time
 
 import model
-from door import PATIENCE, Live, is_line, run
+from door import Live, ends_of, is_line, left_in, run, session_of, wait_for
 
 SOURCES = ["crates.txt", "crates/base/src/lib.rt", "crates/frame/src/lib.rt", "crates/listing/specs/Lines.antt", "crates/list/src/main.rt"]
 OTHER_SOURCE = "crates/message/src/lib.rt"
 NO_SOURCES = ["crates/frame/must-fail/fault.edit", "crates/list/stdout"]  # in the folders of sources
-TOOLS = "sh cat cp dirname find flock mkdir mktemp readlink rm rmdir sleep stty touch tr".split()
+TOOLS = "sh cat cp dirname find flock mkdir od readlink rm rmdir setsid sleep stty touch tr wc".split()
 STREAM = model.wire(7, 1)
 LISTING = model.listing(STREAM).encode()
 
@@ -22,6 +23,9 @@ FAILS = "exit 1"
 FAILS_LATE = f"{BUILDS}; exit 1"
 SLOW = f"sleep 0.5; {BUILDS}"
 STUCK = "sleep 600"
+STUBBORN = "trap '' HUP INT QUIT TERM; sleep 600"
+# rt leaves a program alone that it has proved, as its stamp says.
+BY_STAMP = f"[ -e target/stamp/list ] || {{ {BUILDS}; }}; mkdir -p target/stamp && : >target/stamp/list"
 
 
 def skeleton(root, place):
@@ -64,7 +68,7 @@ class Checkout:
 
     def rt(self, action):
         # It reads what it is given, says something on both sides, and takes no other run beside it.
-        lines = ["#!/bin/sh", 'echo "$PWD $*" >>"$CALLS"', "cat", "echo out of rt", "echo on the side >&2"]
+        lines = ["#!/bin/sh", 'echo "$PWD $*" >>"$CALLS"', 'echo $$ >"$CALLS.pid"', "cat", "echo out of rt", "echo on the side >&2"]
         lines += ['mkdir "$CALLS.busy" || exit 1', f"( {action} )", "status=$?", 'rmdir "$CALLS.busy"', "exit $status"]
         (self.tools / "rt").write_text("\n".join(lines) + "\n")
         (self.tools / "rt").chmod(0o755)
@@ -101,6 +105,7 @@ def all_uses(test, root, room):
     lacks(test, Checkout(root, room, "lacks"))
     two_at_once(test, Checkout(root, room, "two at once"))
     broken_off(test, Checkout(root, room, "broken off"))
+    not_whole(test, Checkout(root, room, "not whole"))
 
 
 def builds(test, fresh):
@@ -161,9 +166,10 @@ def fails(test, fresh):
 def lacks(test, fresh):
     fresh.tries(test, "there is no rt", [MISSING], 0, False)
     fresh.rt(BUILDS)
-    (fresh.tools / "flock").unlink()
-    fresh.tries(test, "there is no flock", ["flock is not on the PATH"], 0, False)
-    (fresh.tools / "flock").symlink_to(shutil.which("flock"))
+    for tool in ("flock", "setsid"):
+        (fresh.tools / tool).unlink()
+        fresh.tries(test, f"there is no {tool}", [f"{tool} is not on the PATH"], 0, False)
+        (fresh.tools / tool).symlink_to(shutil.which(tool))
     (fresh.place / "target").write_text("")
     (fresh.place / "target").chmod(0o444)
     fresh.tries(test, "target is no folder", ["target cannot be written"], 0, False)
@@ -185,22 +191,51 @@ def two_at_once(test, fresh):
     test("two first uses at once build once", calls == 1, str(calls))
 
 
-def wait_for(happened):
-    end = time.monotonic() + PATIENCE
-    while not happened() and time.monotonic() < end:
-        time.sleep(0.01)
-
-
 def broken_off(test, fresh):
-    fresh.rt(STUCK)
-    for number in (signal.SIGINT, signal.SIGKILL):
-        busy = pathlib.Path(f"{fresh.calls}.busy")
-        with fresh.live() as live:
-            wait_for(busy.exists)
-            os.killpg(live.process.pid, number)
-            found = live.ended()
-            test(f"{number.name} while rt runs", found.status == -number and found.out == b"" and is_line(found.err), str(found))
-        busy.rmdir()
+    """Whoever ends a use while rt runs, in whatever way, leaves none of rt behind."""
+    receivers = [("the front door", os.kill), ("all of the run, as by a terminal", os.killpg)]
+    numbers = (signal.SIGINT, signal.SIGTERM, signal.SIGHUP, signal.SIGQUIT, signal.SIGKILL)
+    for number, (who, send), action in itertools.product(numbers, receivers, (STUCK, STUBBORN)):
+        fresh.rt(action)
+        breaks_off(test, fresh, number, who, send)
     fresh.called()
     fresh.rt(BUILDS)
     fresh.tries(test, "a use that was broken off does not hinder the next", [BUILDING], 1, True)
+
+
+def breaks_off(test, fresh, number, who, send):
+    busy = pathlib.Path(f"{fresh.calls}.busy")
+    name = f"{number.name} to {who} while rt runs"
+    with fresh.live() as live:
+        wait_for(busy.exists)
+        session = session_of(int(pathlib.Path(f"{fresh.calls}.pid").read_text()))
+        running = left_in(session)
+        send(live.process.pid, number)
+        found = live.ended()
+        test(name, found.status in ends_of(number) and found.out == b"" and is_line(found.err), str(found))
+        gone = wait_for(lambda: not left_in(session))
+        test(f"{name}: it is ended too", running and gone, f"{running} ran, and {left_in(session)} is left")
+    if busy.exists():
+        busy.rmdir()
+
+
+def not_whole(test, fresh):
+    """What a full disk or a crash leaves of a program is built again, although rt's stamp says that it is proved."""
+    fresh.rt(BY_STAMP)
+    fresh.tries(test, "the first use", [BUILDING], 1, True)
+    size = fresh.program.stat().st_size
+    for name, data in [
+        ("of size 0", b""),
+        ("cut to half", fresh.program.read_bytes()[: size // 2]),
+        ("cut by a byte", fresh.program.read_bytes()[:-1]),
+        ("of zeros", bytes(size)),
+        ("of a few bytes", b"\x7fELF"),
+    ]:
+        fresh.program.write_bytes(data)
+        fresh.tries(test, f"a program {name} is built again", [BUILDING], 1, True)
+        fresh.tries(test, f"a program that was {name}: not again", [], 0, True)
+    fresh.program.unlink()
+    fresh.tries(test, "a program that is gone is built again", [BUILDING], 1, True)
+    fresh.program.write_bytes(b"")
+    fresh.rt(LEAVES)
+    fresh.tries(test, "rt leaves no whole program", [BUILDING, "remove"], 1, False)

@@ -9,7 +9,8 @@ import termios
 import threading
 
 import model
-from door import PAUSE, SILENT, Live, child_of, hung_up, is_line, peak_memory, play, stands_still, terminal
+from door import PAUSE, SILENT, Live, below, ends_of, hung_up, is_full, is_line, left_in, peak_memory, play, program_of, stands_still
+from door import terminal, wait_for, written_by
 from model import HEADING
 
 # Written by hand: bytes, the lines behind them, and silence where no line is due yet.
@@ -163,21 +164,59 @@ def session_leader(test, door):
         test("a session of its own", not wrong and hung_up(found, "clean 10"), wrong or str(found))
 
 
-# Signals: the run ends at once, and the program behind the front door with it.
+# Signals: the first ends the input, and the last line comes; where that cannot be, all ends at once.
 
 
-def ends_by(test, door, word, who, send):
-    """A signal to the front door, or to all of the run, ends both it and the program at once."""
+def nothing_left(test, name, session):
+    test(f"{name} leaves no process behind", wait_for(lambda: not left_in(session)), str(left_in(session)))
+
+
+def ends_input(test, door, word, who, send):
+    """The listing is whole: all that was read is listed, and the last line comes."""
     number = getattr(signal, word)
-    with Live([door, "list"], start_new_session=True) as live:
-        live.line()
-        program = child_of(live.process.pid)
-        send(live.process.pid, number)
+    for what, data, lines in [
+        ("nothing read", b"", ["clean 0"]),
+        ("a frame read", model.wire(7, 1), ["frame 0 9 7 1 0 0", "clean 9"]),
+        ("half a frame read", model.wire(7, 1) + b"\xff\xff\x00", ["frame 0 9 7 1 0 0", "open 9"]),
+    ]:
+        name = f"{word} to {who}, {what}"
+        with Live([door, "list"], start_new_session=True) as live:
+            wrong = play(live, [(b"", [HEADING]), (data, lines[:-1])])
+            relay = below(live.process.pid, "cat")
+            wait_for(lambda: written_by(relay) >= len(data))
+            send(live.process.pid, number)
+            found = live.ended()
+            test(name, not wrong and found.is_quiet(lines[-1].encode() + b"\n"), wrong or str(found))
+            nothing_left(test, name, live.process.pid)
+
+
+def ends_at_once(test, door, name, words, sends):
+    """Signals, one after the other, to a run whose output nobody reads: it ends by the last, and says nothing."""
+    with Live([door, *words], start_new_session=True) as live:
+        writer = threading.Thread(target=send_all, args=(live, model.wire(7, 1) * 999, 99), daemon=True)
+        if words == ["list"]:
+            writer.start()
+        full = wait_for(lambda: is_full(live.process.stdout))
+        for send, number in sends:
+            # The relay is ended before the program is.
+            send(live.process.pid, number)
+            wait_for(lambda: not any(what == "cat" for _, what in left_in(live.process.pid)))
         found = live.ended()
-        # Some shells ignore SIGQUIT themselves; the front door then ends with status 1.
-        ends = (-number, 1) if number == signal.SIGQUIT else (-number,)
-        test(f"{word} to {who}", found.status in ends and found.out + found.err == b"", str(found))
-        test(f"{word} to {who} ends the program", program and not os.path.exists(f"/proc/{program}"))
+        whole = found.out.splitlines()[-1].startswith((b"clean", b"open")) if found.out else False
+        test(name, full and found.status in ends_of(number) and not whole and found.err == b"", f"{full}, {found}")
+        nothing_left(test, name, live.process.pid)
+
+
+def at_once(test, door, room):
+    stream = room / "long stream"
+    stream.write_bytes(model.wire(7, 1) * 99999)
+    for word in ("SIGINT", "SIGTERM", "SIGHUP", "SIGQUIT"):
+        number = getattr(signal, word)
+        for who, send in RECEIVERS:
+            ends_at_once(test, door, f"{word} to {who} while a file is listed", ["list", stream], [(send, number)])
+    ends_at_once(test, door, "Ctrl-C twice", ["list"], [(os.killpg, signal.SIGINT)] * 2)
+    ends_at_once(test, door, "SIGTERM twice", ["list"], [(os.kill, signal.SIGTERM)] * 2)
+    ends_at_once(test, door, "SIGQUIT", ["list"], [(os.killpg, signal.SIGQUIT)])
 
 
 def stopped(test, door):
@@ -193,18 +232,37 @@ def stopped(test, door):
 
 
 def dies(test, door):
-    with Live([door, "list"]) as live:
+    with Live([door, "list"], start_new_session=True) as live:
         live.line()
-        os.kill(child_of(live.process.pid), signal.SIGSEGV)
+        os.kill(program_of(live.process.pid), signal.SIGSEGV)
         found = live.ended()
         test("a program that dies is reported", found.status == 1 and found.out == b"" and is_line(found.err), str(found))
+        nothing_left(test, "a program that dies", live.process.pid)
 
 
-def signals(test, door):
-    receivers = [("the front door", os.kill), ("all of the run, as by a terminal", os.killpg)]
-    for word, receiver in itertools.product(("SIGINT", "SIGTERM", "SIGHUP", "SIGQUIT"), receivers):
-        ends_by(test, door, word, *receiver)
+def waits_for_its_input(test, door, room):
+    """A named pipe that nobody writes to yet; the signal comes before there is anything to list."""
+    os.mkfifo(room / "silent")
+    for word, (who, send) in itertools.product(("SIGINT", "SIGTERM", "SIGHUP"), RECEIVERS):
+        number = getattr(signal, word)
+        name = f"{word} to {who} before the input is there"
+        with Live([door, "list", room / "silent"], start_new_session=True) as live:
+            wait_for(lambda: len(left_in(live.process.pid)) == 3)
+            send(live.process.pid, number)
+            found = live.ended()
+            test(name, found.status == -number and found.out + found.err == b"", str(found))
+            nothing_left(test, name, live.process.pid)
+
+
+RECEIVERS = [("the front door", os.kill), ("all of the run, as by a terminal", os.killpg)]
+
+
+def signals(test, door, room):
+    for word, receiver in itertools.product(("SIGINT", "SIGTERM", "SIGHUP"), RECEIVERS):
+        ends_input(test, door, word, *receiver)
+    at_once(test, door, room)
     control_c(test, door)
+    waits_for_its_input(test, door, room)
     stopped(test, door)
     dies(test, door)
 
@@ -215,9 +273,10 @@ def control_c(test, door):
     owns = {"start_new_session": True, "preexec_fn": lambda: fcntl.ioctl(0, termios.TIOCSCTTY, 0)}
     with Live([door, "list"], wire=master, stdin=slave, **owns) as live:
         os.close(slave)
-        wrong = play(live, [(b"", [HEADING]), (b"\x03", [])])
+        wrong = play(live, [(b"", [HEADING]), (b"abc\n\x03", [])])
         found = live.ended()
-        test("Ctrl-C", not wrong and found.status == -signal.SIGINT and found.out + found.err == b"", wrong or str(found))
+        test("Ctrl-C", not wrong and found.out in (b"clean 4\n", b"clean 0\n") and found.is_quiet(found.out), wrong or str(found))
+        nothing_left(test, "Ctrl-C", live.process.pid)
 
 
 # Long input in constant memory.
@@ -272,7 +331,7 @@ def through(test, door, data, lines, copies):
         found = received(live, len(expected))
         test(f"{name}, each line", found == expected, first_difference(found, expected))
         # Its input is still open, so that it can be looked at.
-        program = child_of(live.process.pid)
+        program = program_of(live.process.pid)
         peak = peak_memory(program) if program else MOST_KIB * 99
         sender.join(10)
         live.close_wire()

@@ -1,16 +1,19 @@
-"""Wrong programs, each an edit of one crate's code alone: the prover must refuse every one.
+"""Wrong programs, each an edit of one crate: the prover must refuse every one.
 
-An edit is tried over the crate's incremental folder, in seconds where a check from nothing takes a minute. For a refusal that is enough: the
-same folder proves the crate without the edit first. Edits that only a claim refuses stand in crates/NAME/must-fail and are tried from nothing.
+`code_` edits change the code alone, and its contract refuses them. `rule_` edits change a definition, and the code alike where it follows it: a
+claim refuses them. Each is tried over a copy of the crate's incremental folder, which is cheaper than a check from nothing. For a refusal that is
+enough: the same folder proves the crate without the edit first. One `rule_` edit of each crate at least stands in crates/NAME/must-fail, and is
+tried from nothing by rt.
 """
 import concurrent.futures
-import itertools
+import os
 import pathlib
 import re
 import shutil
 import subprocess
 import sys
 import tempfile
+import threading
 import time
 
 HERE = pathlib.Path(__file__).resolve().parent
@@ -19,6 +22,7 @@ sys.path.insert(0, str(HERE.parent / "shared"))
 from checks import Checks  # noqa: E402
 
 PATIENCE = 1200
+MAY_CHANGE = {"code": ("src/",), "rule": ("src/", "specs/")}
 
 
 def replacements(edit):
@@ -36,9 +40,10 @@ def replacements(edit):
 def edited(crate, edit):
     """The texts of the files that an edit changes; each old text has to be there once."""
     texts = {}
+    allowed = MAY_CHANGE.get(edit.stem.partition("_")[0], ())
     for file, old, new in replacements(edit):
-        if not (file or "").startswith("src/"):
-            raise ValueError(f"it changes {file}, which is not code")
+        if not (file or "").startswith(allowed):
+            raise ValueError(f"it changes {file}, and its name does not say so")
         text = texts.get(file) or (crate / file).read_text(encoding="utf-8")
         if not old or text.count(old) != 1:
             raise ValueError(f"an old text is not in {file} once: {old}")
@@ -46,6 +51,11 @@ def edited(crate, edit):
     if not texts:
         raise ValueError("it changes nothing")
     return texts
+
+
+def claims_of(edit):
+    """The claims that an edit says refuse it."""
+    return re.findall(r"^claim: (\S+)$", edit.read_text(encoding="utf-8"), re.M)
 
 
 def write(crate, texts):
@@ -69,6 +79,15 @@ def first_error(said):
     return own or re.search(r"^note: (\S+:\d+:\d+): .*", said, re.M) or next(iter(errors), None)
 
 
+def unrefused(edit, said):
+    """What is wrong with the claims that a `rule_` edit names: each theorem has to be among those that the prover did not admit."""
+    if not edit.stem.startswith("rule_"):
+        return ""
+    claims = claims_of(edit)
+    passed = [claim for claim in claims if f": error: `{claim}`: " not in said]
+    return "it names no claim" if not claims else passed and f"the claim {passed[0]} does not refuse it" or ""
+
+
 def wrong_with(room, name, edit):
     """Why an edit does not show what it is to show, or '', and a line on it."""
     crate = room / "crates" / name
@@ -88,36 +107,93 @@ def wrong_with(room, name, edit):
         return f"refused without a place: {said[-300:]}", ""
     if "has no `Need-" in error.group(0) or "can be named from here" in error.group(0):
         return f"refused only because a proof file does not fit the code: {error.group(0)[:300]}", ""
-    return "", f"refused, first at {error.group(1).removeprefix(str(crate) + '/')} ({time.monotonic() - began:.0f} s)"
+    place = error.group(1).removeprefix(str(crate) + "/")
+    wrong = unrefused(edit, said)
+    return wrong and f"{wrong}; first at {place}", f"refused, first at {place} ({time.monotonic() - began:.0f} s)"
 
 
-def try_crate(name):
-    """The results of one crate: (what, why it is wrong or '', a line)."""
-    edits = sorted((HERE / name).glob("*.edit"))
-    with tempfile.TemporaryDirectory() as folder:
-        room = pathlib.Path(folder)
-        shutil.copytree(ROOT / "crates", room / "crates")
-        shutil.copy(ROOT / "crates.txt", room)
-        for part in ("rlib", "stamp"):
-            if (ROOT / "target" / part).is_dir():
-                shutil.copytree(ROOT / "target" / part, room / "target" / part)
+def lend(source, room):
+    """A file that is only read: linked, or copied where the room is on another disk."""
+    try:
+        os.link(source, room)
+    except OSError:
+        shutil.copy2(source, room)
+
+
+def furnish(room, source):
+    """A room with the crates of another and what was proved there."""
+    shutil.copytree(source / "crates", room / "crates")
+    shutil.copy(source / "crates.txt", room)
+    for part, copy in (("rlib", lend), ("stamp", lend), ("inc", shutil.copy2)):
+        if (source / "target" / part).is_dir():
+            shutil.copytree(source / "target" / part, room / "target" / part, copy_function=copy)
+
+
+class Rooms:
+    """For each crate a room in which it is proved, and a copy for each worker: an edit is tried over the incremental folder there."""
+
+    def __init__(self, folder):
+        self.folder = pathlib.Path(folder)
+
+    def proved(self, name):
+        """Proves a crate without an edit; what is wrong, or ''."""
+        room = self.folder / name / "proved"
+        furnish(room, ROOT)
+        shutil.rmtree(room / "target" / "inc", ignore_errors=True)
         said, verdict = prove(room, name)
-        results = [(f"{name} without an edit", "" if verdict == "proved" else f"it is {verdict}: {said[-300:]}", "proved")]
-        if verdict == "proved":
-            results += [(f"{name}/{edit.stem}", *wrong_with(room, name, edit)) for edit in edits]
-    return results
+        return "" if verdict == "proved" else f"it is {verdict}: {said[-300:]}"
+
+    def own(self, name):
+        """The room of the worker that asks."""
+        room = self.folder / name / str(threading.get_ident())
+        if not room.is_dir():
+            furnish(room, self.folder / name / "proved")
+        return room
+
+    def try_edit(self, name, edit):
+        return wrong_with(self.own(name), name, edit)
+
+
+def rt_said(edit, name):
+    """What rt ci's own run of an edit said, if that run is newer than all that it is about; else None."""
+    log = ROOT / "target" / "must-fail" / name / edit.stem / ".log"
+    sources = [edit, *(path for part in ("src", "specs", "proofs") for path in (ROOT / "crates" / name / part).rglob("*") if path.is_file())]
+    if not log.is_file() or any(path.stat().st_mtime > log.stat().st_mtime for path in sources):
+        return None
+    return log.read_text(encoding="utf-8")
+
+
+def rules_of_rt():
+    """The `rule_` edits that rt ci tries from nothing, with their crates."""
+    return [(edit.parents[1].name, edit) for edit in sorted((ROOT / "crates").glob("*/must-fail/rule_*.edit"))]
+
+
+def tests(rooms, pool):
+    """(what, why it is wrong or '', a line) of everything that is tried."""
+    # The crates that take longest come first, so that both cores are busy to the end.
+    names = sorted((d.name for d in HERE.iterdir() if any(d.glob("*.edit"))), key=lambda n: -len(list((ROOT / "crates" / n / "proofs").rglob("*.antt"))))
+    stands = dict(zip(names, pool.map(rooms.proved, names)))
+    for name in names:
+        yield f"{name} without an edit", stands[name], "proved"
+    said = {edit: rt_said(edit, name) for name, edit in rules_of_rt()}
+    jobs = [(name, edit) for name in names for edit in sorted((HERE / name).glob("*.edit"))]
+    jobs += [(name, edit) for name, edit in rules_of_rt() if said[edit] is None]
+    jobs = [(name, edit) for name, edit in jobs if not stands[name]]
+    for (name, edit), (wrong, line) in zip(jobs, pool.map(lambda job: rooms.try_edit(*job), jobs)):
+        yield f"{name}/{edit.stem}", wrong, line
+    for name, edit in rules_of_rt():
+        if said[edit] is not None:
+            yield f"{name}/{edit.stem}", unrefused(edit, said[edit]), f"refused in rt ci by {', '.join(claims_of(edit))}"
+    yield "there are edits to try", "" if jobs else "there is none", ""
 
 
 def main():
     checks = Checks("edits")
-    # The crates that take longest come first, so that both cores are busy to the end.
-    names = sorted((d.name for d in HERE.iterdir() if any(d.glob("*.edit"))), key=lambda n: -len(list((ROOT / "crates" / n / "proofs").rglob("*.antt"))))
-    with concurrent.futures.ThreadPoolExecutor(2) as pool:
-        for what, wrong, line in itertools.chain.from_iterable(pool.map(try_crate, names)):
+    with tempfile.TemporaryDirectory() as folder, concurrent.futures.ThreadPoolExecutor(2) as pool:
+        for what, wrong, line in tests(Rooms(folder), pool):
             checks.test(what, not wrong, wrong)
-            if not wrong:
+            if not wrong and line:
                 checks.say(f"{what}: {line}")
-    checks.test("there are edits to try", bool(names))
     return checks.end()
 
 

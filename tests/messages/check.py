@@ -340,19 +340,21 @@ def stream_of(rand, family):
 def some_values(rand):
     """The values of a message of any kind."""
     number = rand.choice([0, 1, 2, 3, 4, 5, 7, 8, FF, rand.randrange(256)])
-    counter = [*rand.choices([0, 1], k=2), rand.choice([0, 1, 2, 3, 4, FF]), rand.randrange(65536), rand.randrange(2**32)]
+    mode = rand.randrange(3)
+    counter = [*rand.choices([0, 1], k=2), mode, rand.randrange(65536), rand.randrange(2**32)]
     bits = [rand.randrange(2) for _ in range(8)]
     device = [66, rand.randrange(65536)], [74, 0, rand.randrange(2**64)], [106, FF, rand.randrange(2**64)]
     return rand.choice(
         [
             [rand.choice([rand.choice(model.EMPTY), number, 0x21])],
             [0x02, *rand.choice(device)],
-            [0x03, model.CONTROL, *bits[:4], number, rand.randrange(65536)],
+            [0x03, model.CONTROL, *bits[:4], mode, rand.randrange(65536)],
             [0x03, model.READ],
             [0x04, model.STATE, *counter, *bits[:3]],
             [0x05, model.REPORT, *counter, *bits[:3]],
             [0x0D, *bits[:6], number, *bits[6:]],
-            [rand.choice([0x09, 0x11, 0x12]), number],
+            [0x09, rand.randint(1, 2)],
+            [rand.choice([0x11, 0x12]), rand.randint(1, 4)],
             [0x18, rand.randrange(65536), *rand.randbytes(5), *[rand.randrange(2**32)] * rand.randrange(2)],
             [0x19, rand.randrange(2**32)],
             [0x1B, rand.randrange(65536)],

@@ -260,7 +260,7 @@ def parts_of(command, payload):
 
 
 # Messages written. A message is its values, the command first as they were read, and its lent bytes: the parts, one behind
-# the other.
+# the other. Its mode, way or code is one that there is, so of its values only a strength can be refused.
 
 
 def lent_is_listed(values, lent):
@@ -279,16 +279,12 @@ def lent_is_listed(values, lent):
 
 
 def write_status(feeding, lamp, mode, volume, leaf, double, skipped, fault):
-    if mode > 2:
-        return None
     first = feeding | lamp << 1 | mode << 2
     alarms = double | skipped << 1 | fault << 2
     return bytes([first]) + volume.to_bytes(2, "big") + leaf.to_bytes(4, "big") + bytes([alarms])
 
 
 def write_control(has_lamp, has_mode, has_volume, lamp, mode, volume):
-    if has_mode and mode > 2:
-        return None
     # "A value whose flag is 0 is ... written as 0."
     lamp, mode, volume = lamp if has_lamp else 0, mode if has_mode else 0, volume if has_volume else 0
     flags = has_lamp | has_mode << 1 | has_volume << 2
@@ -314,14 +310,11 @@ def payload_of(values, lent):
         first = bytes([rest[0]])
         if rest[0] == READ:
             return first
-        data = write_control(*rest[1:]) if rest[0] == CONTROL else write_status(*rest[1:])
-        return None if data is None else first + data
-    if command == 0x09:
-        return bytes(rest) if rest[0] in (1, 2) else None
+        return first + (write_control(*rest[1:]) if rest[0] == CONTROL else write_status(*rest[1:]))
+    if command in (0x09, 0x11, 0x12):
+        return bytes(rest)
     if command == 0x0D:
         return write_network(rest[:6], *rest[6:])
-    if command in (0x11, 0x12):
-        return bytes(rest) if 1 <= rest[0] <= 4 else None
     if command == 0x18:
         seconds = rest[6].to_bytes(4, "big") if len(rest) > 6 else b""
         return rest[0].to_bytes(2, "big") + bytes(rest[1:6]) + seconds
@@ -374,6 +367,11 @@ def answer_to(row, values, command):
     return NOTHING, 0, b""  # "All else gets no answer"
 
 
+def cause_of(row, command):
+    """The row that tells why a frame is rejected; 0 for a command that only the box sends, whatever its payload."""
+    return 0 if row != SUM and command in BOX_SENDS else row
+
+
 # The lines.
 
 ANSWER_ROOM = 16
@@ -394,7 +392,7 @@ def answer_line(row, values, command, number, output, room):
     if what == WANTED:
         return f"answer 0 0 {sent} {number}"
     refused, count = write_frame(sent, number, 0, payload, output, room)
-    told = f" {sent} {payload[0]}" if sent == ILLEGAL and not refused else ""
+    told = f" {sent} {payload[0]} {cause_of(row, command)}" if sent == ILLEGAL and not refused else ""
     return f"answer {refused} {count}{told} : {hexes(output[: 3 if refused else count])}"
 
 
@@ -497,28 +495,28 @@ def tail():
     lent = bytes([1, 2, 3])
     return [
         written(report(1)),
-        written(report(3)),
-        written(state(255)),
+        written(report(2)),
+        written(state(0)),
         written(control(1, 2)),
-        written(control(1, 3)),
-        written(control(0, 3)),
+        written(control(1, 1)),
+        written(control(0, 2)),
         written(network(7)),
         written(network(8)),
-        written([0x09, 0]),
-        written([0x09, 3]),
-        written([0x11, 0]),
-        written([0x12, 5]),
+        written([0x09, 1]),
+        written([0x09, 2]),
+        written([0x11, 1]),
+        written([0x12, 4]),
         written([0x21]),
         written([0x21], lent),
         written([0x07], lent),
         written([0x04]),
         written([0x05]),
         written([0x03, READ], lent),
-        written(report(3), lent),
+        written(network(8), lent),
         written([0x02, 66, 0]),
         written(report(1), room=18),
         written(report(1), room=19),
-        written(report(3), room=0),
+        written(network(8), room=0),
         written([0x1D, 1, 1], bytes(1016)),
         written([0x1D, 1, 1], bytes(1015)),
         answered(0x07, 9, b"", 8),

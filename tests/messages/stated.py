@@ -46,7 +46,7 @@ STATED = [
         "frame 5 2 0 9",
         "read 0 5 4 1 0 1 3 255 0 0 0",
         "write 0 19 : ff ff 00 0e 05 02 00 00 04 05 00 03 00 00 00 ff 55 00 20",
-        "answer 0 10 18 2 : ff ff 00 06 12 02 00 00 02 1c",
+        "answer 0 10 18 2 0 : ff ff 00 06 12 02 00 00 02 1c",
     ),
     ("example 6, length 4", "FF FF 00 04"),
     ("example 7, length 1025", "FF FF 04 01"),
@@ -56,7 +56,7 @@ STATED = [
         "example 10, a wrong sum, gets code 1",
         "FF FF 00 05 07 01 00 00 0E",
         "sum 1",
-        "answer 0 10 18 1 : ff ff 00 06 12 01 00 00 01 1a",
+        "answer 0 10 18 1 15 : ff ff 00 06 12 01 00 00 01 1a",
     ),
     (
         "the paper's listing",
@@ -107,49 +107,49 @@ STATED = [
         "FF FF 00 0A 03 06 00 00 01 06 07 02 01 24",
         "frame 3 6 0 5",
         "read 33",
-        "answer 0 10 18 3 : ff ff 00 06 12 06 00 00 03 21",
+        "answer 0 10 18 3 33 : ff ff 00 06 12 06 00 00 03 21",
     ),
     (
         "control: one of the other bits is FIELD, flag or not",
         "FF FF 00 0A 03 06 00 00 01 00 08 00 00 1C",
         "frame 3 6 0 5",
         "read 33",
-        "answer 0 10 18 3 : ff ff 00 06 12 06 00 00 03 21",
+        "answer 0 10 18 3 33 : ff ff 00 06 12 06 00 00 03 21",
     ),
     (
         "03: another first byte is FIELD",
         "FF FF 00 06 03 06 00 00 03 12",
         "frame 3 6 0 1",
         "read 33",
-        "answer 0 10 18 3 : ff ff 00 06 12 06 00 00 03 21",
+        "answer 0 10 18 3 33 : ff ff 00 06 12 06 00 00 03 21",
     ),
     (
         "03 read with a byte behind it is SIZE",
         "FF FF 00 07 03 06 00 00 02 00 12",
         "frame 3 6 0 2",
         "read 32",
-        "answer 0 10 18 3 : ff ff 00 06 12 06 00 00 03 21",
+        "answer 0 10 18 3 32 : ff ff 00 06 12 06 00 00 03 21",
     ),
     (
         "a command not listed is COMMAND and gets code 2",
         "FF FF 00 06 21 07 00 00 00 2E",
         "frame 33 7 0 1",
         "read 31",
-        "answer 0 10 18 2 : ff ff 00 06 12 07 00 00 02 21",
+        "answer 0 10 18 2 31 : ff ff 00 06 12 07 00 00 02 21",
     ),
     (
         "09 with way 3 is FIELD, but only the box sends it, so code 2",
         "FF FF 00 06 09 08 00 00 03 1A",
         "frame 9 8 0 1",
         "read 33",
-        "answer 0 10 18 2 : ff ff 00 06 12 08 00 00 02 22",
+        "answer 0 10 18 2 0 : ff ff 00 06 12 08 00 00 02 22",
     ),
     (
         "a heartbeat with a payload is SIZE and gets code 3",
         "FF FF 00 06 07 0A 00 00 00 17",
         "frame 7 10 0 1",
         "read 32",
-        "answer 0 10 18 3 : ff ff 00 06 12 0a 00 00 03 25",
+        "answer 0 10 18 3 32 : ff ff 00 06 12 0a 00 00 03 25",
     ),
     (
         "0D: the reserved bits are ignored",
@@ -189,7 +189,7 @@ STATED = [
         "FF FF 00 0D 19 0C 00 00 00 00 04 00 00 01 61 62 FA",
         "frame 25 12 0 8",
         "read 32",
-        "answer 0 10 18 3 : ff ff 00 06 12 0c 00 00 03 27",
+        "answer 0 10 18 3 32 : ff ff 00 06 12 0c 00 00 03 27",
     ),
     (
         "1B with a check code of 1 byte and pieces of 128",
@@ -198,7 +198,7 @@ STATED = [
         "read 0 27 128",
         "part 6 : 61",
         "write 0 14 : ff ff 00 0a 1b 0d 00 00 00 01 61 00 80 14",
-        "answer 0 10 18 2 : ff ff 00 06 12 0d 00 00 02 27",
+        "answer 0 10 18 2 0 : ff ff 00 06 12 0d 00 00 02 27",
     ),
     (
         "1D, piece 1 of 2 with the data FF 55",
@@ -214,17 +214,17 @@ STATED = [
 # What the tail of model.py has to print: the first line is example 4, the last two lines of writes are example 12.
 STATED_TAIL = """\
 write 0 19 : ff ff 00 0e 05 02 00 00 04 05 00 03 00 00 00 ff 55 00 20 : ff ff 00
-write 33 : aa aa aa
-write 33 : aa aa aa
+write 0 19 : ff ff 00 0e 05 02 00 00 04 09 00 03 00 00 00 ff 55 00 24 : ff ff 00
+write 0 19 : ff ff 00 0e 04 02 00 00 03 01 00 03 00 00 00 ff 55 00 1a : ff ff 00
 write 0 14 : ff ff 00 0a 03 02 00 00 01 02 04 00 00 16 : ff ff 00
-write 33 : aa aa aa
+write 0 14 : ff ff 00 0a 03 02 00 00 01 02 02 00 00 14 : ff ff 00
 write 0 14 : ff ff 00 0a 03 02 00 00 01 00 00 00 00 10 : ff ff 00
 write 0 11 : ff ff 00 07 0d 02 00 00 0f 15 3a : ff ff 00
 write 33 : aa aa aa
-write 33 : aa aa aa
-write 33 : aa aa aa
-write 33 : aa aa aa
-write 33 : aa aa aa
+write 0 10 : ff ff 00 06 09 02 00 00 01 12 : ff ff 00
+write 0 10 : ff ff 00 06 09 02 00 00 02 13 : ff ff 00
+write 0 10 : ff ff 00 06 11 02 00 00 01 1a : ff ff 00
+write 0 10 : ff ff 00 06 12 02 00 00 04 1e : ff ff 00
 write 31 : aa aa aa
 write 31 : aa aa aa
 write 32 : aa aa aa

@@ -1,5 +1,5 @@
 -- The claims of specs/Claims.antt. Assumes nothing.
-use Prim.Native.Nat.{ℕ, _+_, _-_, _≤_}
+use Prim.Native.Nat.{ℕ, _+_, _-_, _/_, _%_, _≤_}
 use mathlib.Core.Path.{_≡_, refl, _∙_}
 use mathlib.Core.List.{List}
 use native.Mathlib.Nat.{add-assoc}
@@ -10,7 +10,7 @@ use lib.Seq.{getD-append-add, getD-append-seam, getD-drop, take-append-seam}
 use lib.Dec.{ltb}
 use Rattle.base.specs.Outcomes.{onto}
 use Rattle.base.specs.Sums.{total}
-use Rattle.base.specs.Claims.{WorkedNumbers, ReadBackBetween, PlacedAlways}
+use Rattle.base.specs.Claims.{WorkedNumbers, AllSpelled, PartsWhole, ReadBackBetween, PlacedAlways}
 use Rattle.base.proofs.Tests.{either-way}
 use Rattle.base.proofs.Numbers.{two-behind}
 
@@ -18,6 +18,24 @@ pub worked-numbers : WorkedNumbers
 unfolding total
 worked-numbers =
     record { two-read = refl; two-at-end = refl; two-written = refl; four-read = refl; four-written = refl; sum = refl }
+
+pub numbers-spelled : AllSpelled
+numbers-spelled a b c d n k r v =
+    record {
+      two-at = refl;
+      two-none = refl;
+      four-at = omega arith;
+      two-of = refl;
+      four-of =
+          let first : n / 65536 / 256 ≡ n / 16777216 = omega arith in
+          let third : n % 65536 / 256 ≡ n / 256 % 256 = omega arith in
+          let last : n % 65536 % 256 ≡ n % 256 = omega arith in
+          rw (first, third, last);
+      written = refl;
+    }
+
+pub part-whole : PartsWhole
+part-whole whole part start size p = record { bytes = p .bytes; place = (p .block, p .offset) }
 
 pub read-back : ReadBackBetween
 read-back f r =
@@ -48,6 +66,8 @@ placed-whole-or-not w out =
       front = λ h. absurd (omega (arith, ltb-true));
       stays = λ i h. rw s;
       same-length = rw s;
+      room-counts = λ h. rw s;
+      fits-counts = λ h. absurd (omega (arith, ltb-true));
     })
     (λ s. record {
       room-row = λ h. absurd (omega (arith, ltb-false));
@@ -56,4 +76,6 @@ placed-whole-or-not w out =
       front = λ h. rw s (take-append-seam w (drop (length w) out));
       stays = λ i h. rw s (behind w out i h);
       same-length = rw s (as-long w out (omega (arith, ltb-false)));
+      room-counts = λ h. absurd (omega (arith, ltb-false));
+      fits-counts = λ h. rw s;
     })

@@ -5,24 +5,55 @@ use super::text;
 use base::byte_at;
 use base::four_at;
 use base::two_at;
+use message::Code;
 use message::Control;
 use message::Extra;
 use message::Flags;
 use message::Message;
+use message::Mode;
 use message::Network;
 use message::Status;
 use message::Time;
 use message::Unix;
+use message::Way;
+use message::code_number;
+use message::mode_number;
+use message::way_number;
 
 fn bit_at(data: &[u8], at: usize) -> bool {
     byte_at(data, at) != 0
+}
+
+// Modes, ways and codes by their numbers; a byte that stands for none is the last of them.
+fn mode(byte: u8) -> Mode {
+    match byte {
+        0 => Mode::Fold,
+        1 => Mode::Gather,
+        _ => Mode::Sew,
+    }
+}
+
+fn way(byte: u8) -> Way {
+    match byte {
+        1 => Way::SoftAp,
+        _ => Way::AirLink,
+    }
+}
+
+fn code(byte: u8) -> Code {
+    match byte {
+        1 => Code::Sum,
+        2 => Code::Command,
+        3 => Code::Other,
+        _ => Code::FileType,
+    }
 }
 
 fn status(data: &[u8]) -> Status {
     Status {
         feeding: bit_at(data, 3),
         lamp: bit_at(data, 4),
-        mode: byte_at(data, 5),
+        mode: mode(byte_at(data, 5)),
         volume: two_at(data, 6),
         leaf: four_at(data, 8),
         double: bit_at(data, 12),
@@ -39,7 +70,7 @@ fn control(data: &[u8]) -> Control {
             volume: bit_at(data, 5),
         },
         lamp: bit_at(data, 6),
-        mode: byte_at(data, 7),
+        mode: mode(byte_at(data, 7)),
         volume: two_at(data, 8),
     }
 }
@@ -105,12 +136,12 @@ fn message_of(data: &[u8]) -> Message {
         5 => Message::Report {
             status: status(data),
         },
-        6 => Message::Onboarding { way: value },
+        6 => Message::Onboarding { way: way(value) },
         7 => Message::Network {
             network: network(data),
         },
-        8 => Message::ModuleReject { code: value },
-        9 => Message::BoxReject { code: value },
+        8 => Message::ModuleReject { code: code(value) },
+        9 => Message::BoxReject { code: code(value) },
         10 => Message::Time { time: time(data) },
         11 => Message::Announcement {
             size: four_at(data, 3),
@@ -153,15 +184,15 @@ pub(crate) fn names() -> bool {
     text::line(
         b"names",
         &[
-            message::FOLD as u64,
-            message::GATHER as u64,
-            message::SEW as u64,
-            message::SOFT_AP as u64,
-            message::AIR_LINK as u64,
-            message::BAD_SUM as u64,
-            message::BAD_COMMAND as u64,
-            message::OTHER_FAULT as u64,
-            message::WRONG_FILE_TYPE as u64,
+            mode_number(Mode::Fold) as u64,
+            mode_number(Mode::Gather) as u64,
+            mode_number(Mode::Sew) as u64,
+            way_number(Way::SoftAp) as u64,
+            way_number(Way::AirLink) as u64,
+            code_number(Code::Sum) as u64,
+            code_number(Code::Command) as u64,
+            code_number(Code::Other) as u64,
+            code_number(Code::FileType) as u64,
         ],
     )
 }

@@ -10,14 +10,19 @@ use message::Sent;
 use message::Status;
 use message::Time;
 use message::Unix;
+use message::cause_number;
+use message::code_number;
+use message::mode_number;
+use message::way_number;
 
 fn status(word: &[u8], s: Status) -> bool {
+    let mode = s.mode;
     text::line(
         word,
         &[
             s.feeding as u64,
             s.lamp as u64,
-            s.mode as u64,
+            mode_number(mode) as u64,
             s.volume as u64,
             s.leaf as u64,
             s.double as u64,
@@ -29,6 +34,7 @@ fn status(word: &[u8], s: Status) -> bool {
 
 fn control(c: Control) -> bool {
     let flags = c.flags;
+    let mode = c.mode;
     text::line(
         b"read 0 3 1",
         &[
@@ -36,7 +42,7 @@ fn control(c: Control) -> bool {
             flags.mode as u64,
             flags.volume as u64,
             c.lamp as u64,
-            c.mode as u64,
+            mode_number(mode) as u64,
             c.volume as u64,
         ],
     )
@@ -99,10 +105,10 @@ fn values(m: Message) -> bool {
         Message::Query => text::text(b"read 0 3 2\n"),
         Message::Status { status: s } => status(b"read 0 4 3", s),
         Message::Report { status: s } => status(b"read 0 5 4", s),
-        Message::Onboarding { way } => text::line(b"read 0 9", &[way as u64]),
+        Message::Onboarding { way } => text::line(b"read 0 9", &[way_number(way) as u64]),
         Message::Network { network: n } => network(n),
-        Message::ModuleReject { code } => text::line(b"read 0 17", &[code as u64]),
-        Message::BoxReject { code } => text::line(b"read 0 18", &[code as u64]),
+        Message::ModuleReject { code } => text::line(b"read 0 17", &[code_number(code) as u64]),
+        Message::BoxReject { code } => text::line(b"read 0 18", &[code_number(code) as u64]),
         Message::Time { time: t } => time(t),
         Message::Announcement { size } => text::line(b"read 0 25", &[size as u64]),
         Message::Ready { piece } => text::line(b"read 0 27", &[piece as u64]),
@@ -143,8 +149,14 @@ pub(crate) fn reply(r: Reply, out: &[u8]) -> bool {
         Reply::InformationWanted { number } => text::front(b"answer 0 0 2", &[number as u64]),
         Reply::StatusWanted { number } => text::front(b"answer 0 0 4", &[number as u64]),
         Reply::Acknowledged { count } => wrote(b"answer 0", &[count as u64], out, count),
-        Reply::Rejected { count, code } => {
-            wrote(b"answer 0", &[count as u64, 18, code as u64], out, count)
+        Reply::Rejected { count, code, cause } => {
+            let told = [
+                count as u64,
+                18,
+                code_number(code) as u64,
+                cause_number(cause) as u64,
+            ];
+            wrote(b"answer 0", &told, out, count)
         }
         Reply::Room => wrote(b"answer 22 0", &[], out, 3),
     }

@@ -16,6 +16,7 @@ use Rattle.frame.specs.Calls.{zeros, freshOf, feedOf, writeOf}
 use Rattle.base.specs.Outcomes.{Reply, Write}
 use Rattle.message.specs.Reading.{readOf}
 use Rattle.message.specs.Writing.{sendOf}
+use Rattle.message.specs.declared.counter.Mode.the-variants as mode
 use Rattle.message.specs.declared.values.Message.{Message}
 use Rattle.message.specs.declared.values.Message.the-variants as message
 use Rattle.link.specs.Clock.{elapsedOf, isDue}
@@ -109,7 +110,7 @@ report =
     message.Report (record {
       feeding = true;
       lamp = false;
-      mode = 1;
+      mode = mode.Gather;
       volume = 3;
       leaf = 255;
       double = false;

@@ -1,7 +1,7 @@
 -- What a C caller relies on, from frame's claims `made-good` and `stuffed-form`. Assumes nothing.
 use Prim.Native.Nat.{ℕ, _+_, _*_, _≤_, _<_}
 use mathlib.Core.Path.{_≡_, refl, sym, ap, _∙_}
-use mathlib.Core.List.{[], _∷_}
+use mathlib.Core.List.{List, [], _∷_}
 use native.Mathlib.Omega.{arith}
 use borrow.Author.Tests.{ltb-false, lt-ltb, le-ltb}
 use lib.Dec.{ltb}
@@ -12,9 +12,9 @@ use Rattle.base.specs.Outcomes.{Write, outcome, onto}
 use Rattle.base.proofs.Tests.{by-test}
 use Rattle.frame.proofs.Stuffing.{stuffed-form}
 use Rattle.frame.proofs.Round.{made-good}
-use Rattle.firmware.specs.Code.{refused, countIn, codeOf, rowFrom}
+use Rattle.firmware.specs.Code.{refused, countIn, codeOf, rowFrom, Returned, returned, returnedOf}
 use Rattle.firmware.specs.Claims.{Given, answered, codeFor, wireFor, CodeWhen, CodesWhen, CountsBelow}
-use Rattle.firmware.specs.Claims.{RoomSuffices, CodesTell, RefusalUnchanged}
+use Rattle.firmware.specs.Claims.{RoomSuffices, CodesTell, RefusalUnchanged, CGetsAlways}
 
 module _ (limit : ℕ) (g : Given) where
   -- the longest wire form
@@ -77,3 +77,32 @@ code-when =
 
 pub room-suffices : RoomSuffices
 room-suffices g h r = code-when .written g h (omega (arith, longest frameLimit g (omega arith)))
+
+-- the contract's equation, taken apart
+gets : (code : ℕ) (after : List ℕ) (w : Write) → returned code after ≡ returnedOf w
+    → (code ≡ codeOf (w .row)) × (after ≡ w .out)
+gets code after w e = (ap (λ (r : Returned). r .code) e, ap (λ (r : Returned). r .out) e)
+
+pub c-gets : CGetsAlways
+c-gets g code after e =
+    let got = gets code after (answered frameLimit g) e in
+    record {
+      payload = λ h. (
+        got .0 ∙ code-when .payload g h,
+        got .1 ∙ rw (lt-ltb 1024 (length (g .payload) + 5) (omega arith)),
+      );
+      room = λ h r. (
+        got .0 ∙ code-when .room g h r,
+        got .1 ∙ rw (
+          le-ltb 1024 (length (g .payload) + 5) (omega arith),
+          lt-ltb (length (g .out)) (length (wireFor g)) r,
+        ),
+      );
+      written = λ h r. (
+        got .0 ∙ code-when .written g h r,
+        got .1 ∙ rw (
+          le-ltb 1024 (length (g .payload) + 5) (omega arith),
+          le-ltb (length (g .out)) (length (wireFor g)) r,
+        ),
+      );
+    }

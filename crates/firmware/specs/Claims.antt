@@ -1,12 +1,12 @@
 -- What is proved beside the call's equation. proofs/ has a theorem for each claim, of the name given here.
 use Prim.Native.Nat.{ℕ, _+_, _*_, _≤_, _<_}
 use mathlib.Core.Path.{_≡_}
-use mathlib.Core.List.{List}
-use lib.ListN.{length}
+use mathlib.Core.List.{List, _++_}
+use lib.ListN.{length, drop}
 use Rattle.frame.specs.Wire.{wire, bodyOf, frameLimit}
 use Rattle.base.specs.Outcomes.{Write}
 use Rattle.frame.specs.Calls.{writeOf}
-use Rattle.firmware.specs.Code.{refused, countIn, codeOf, rowFrom}
+use Rattle.firmware.specs.Code.{refused, countIn, codeOf, rowFrom, returned, returnedOf}
 
 -- what one call is given
 pub record Given : Type 0 where
@@ -71,3 +71,16 @@ pub record CodesWhen : Type 0 where
 abbrev pub RoomSuffices : Type 0
 RoomSuffices =
     (g : Given) → length (g .payload) ≤ 1019 → 2054 ≤ length (g .out) → codeFor frameLimit g ≡ length (wireFor g)
+
+-- ---- c-gets: the number and the output that a call leaves, as its contract equates them, in C's own figures
+pub record CGets (g : Given) (code : ℕ) (after : List ℕ) : Type 0 where
+  pub payload : 1019 < length (g .payload) → (code ≡ 65557) × (after ≡ g .out)
+  pub room : length (g .payload) ≤ 1019 → length (g .out) < length (wireFor g) → (code ≡ 65558) × (after ≡ g .out)
+  pub written : length (g .payload) ≤ 1019 → length (wireFor g) ≤ length (g .out)
+      → (code ≡ length (wireFor g)) × (after ≡ wireFor g ++ drop (length (wireFor g)) (g .out))
+
+-- of every call that meets the contract
+abbrev pub CGetsAlways : Type 0
+CGetsAlways =
+    (g : Given) (code : ℕ) (after : List ℕ) → returned code after ≡ returnedOf (answered frameLimit g)
+    → CGets g code after

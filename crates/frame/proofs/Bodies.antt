@@ -3,24 +3,24 @@
 use Prim.Native.Nat.{ℕ, _+_, _*_, _%_, _^_, _≤_, _<_}
 use mathlib.Core.Path.{_≡_, sym, ap, _∙_}
 use mathlib.Core.List.{List, [], _∷_, _++_}
-use mathlib.Core.Bool.{cond}
+use mathlib.Core.Bool.{true, cond}
 use mathlib.Core.Logic.{_≢_}
-use native.Mathlib.Numerals.{add-one}
 use native.Mathlib.Omega.{arith}
-use lib.ListN.{length, getD, take, set, length-append, List·getD-append}
-use lib.Seq.{take-suc-set, getD-at, getD-take, take-at, length-take-le}
+use lib.ListN.{length, getD, take, length-append, List·getD-append}
+use lib.Seq.{getD-at, getD-take, take-at, length-take-le}
 use lib.Dec.{eqb, ltb}
 use borrow.Author.Tests.{eqb-true, eqb-false, eq-eqb, ne-eqb, ltb-true, ltb-false, lt-ltb, le-ltb}
 use Rattle.frame.specs.Wire.{lengthOf, Good}
 use Rattle.base.specs.Sums.{total, checksum}
 use Rattle.frame.specs.Frames.{frontBody}
 use Rattle.frame.specs.Lines.{Unfinished}
-use Rattle.frame.specs.Rules.{grownOf, endedOf, completedOf, bodyByteOf}
+use Rattle.frame.specs.Rules.{grownOf, endedOf, completedOf, bodyByteOf, putOf}
 use Rattle.frame.specs.declared.scan.Verdict.{Verdict}
 use Rattle.frame.specs.declared.scan.Verdict.the-variants.{Frame, Short, Long, Stuff, Cut, Sum}
 use Rattle.frame.specs.State.{Scan, Step}
 use Rattle.base.proofs.Tests.{by-test}
 use Rattle.base.proofs.Sums.{checksum-snoc}
+use Rattle.frame.proofs.Puts.{stored}
 use Rattle.frame.proofs.Here.{lengthOf-append}
 
 -- h, l and m are the place in the body, the length and the sum of a body that is begun with b and not complete
@@ -112,16 +112,12 @@ first-on {b} p v some = rw (List·getD-append b (v ∷ []) 0 0 some) (p .first)
 pub size : {limit h l m : ℕ} {b : List ℕ} → Partial limit h l m b → (v : ℕ) → length (b ++ v ∷ []) ≡ h + 1
 size {b} p v = omega (arith, length-append b (v ∷ []), p .count)
 
--- a byte stored behind the first h
-pub stored : (body : List ℕ) (h v : ℕ) → h < length body → take (h + 1) (set body h v) ≡ take h body ++ v ∷ []
-stored body h v k = rw add-one (take-suc-set body h v k)
-
 -- a body that is complete with the byte v is the front that the reader holds
 pub whole-held : (body : List ℕ) (h v : ℕ)
     → h < length body → length (take h body ++ v ∷ []) ≡ lengthOf (take h body ++ v ∷ []) + 2
-    → frontBody (set body h v) ≡ take h body ++ v ∷ []
+    → frontBody (putOf true body h v) ≡ take h body ++ v ∷ []
 whole-held body h v k full =
-    let b : List ℕ = set body h v in
+    let b : List ℕ = putOf true body h v in
     let b′ : List ℕ = take h body ++ v ∷ [] in
     let n : length b′ ≡ h + 1 =
     omega (arith, length-append (take h body) (v ∷ []), length-take-le h body (omega arith)) in

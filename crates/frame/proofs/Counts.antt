@@ -8,7 +8,7 @@ use lib.ListN.{length}
 use lib.Dec.{leb}
 use borrow.Author.Tests.{le-leb, leb-true}
 use Rattle.frame.specs.Table.{countOf, eventRow}
-use Rattle.frame.specs.Rules.{advanceOf, decidesOf, inRangeOf}
+use Rattle.frame.specs.Rules.{advanceOf, decidesOf, inRangeOf, mostTaken}
 use Rattle.base.specs.Outcomes.{Reply}
 use Rattle.frame.specs.Calls.{nextOf, runOf}
 use Rattle.frame.specs.declared.scan.Event.{Event}
@@ -58,5 +58,5 @@ progress limit r (x ∷ xs) a b h = rw (a, le-leb (r .scan .taken + length (x �
 pub empty-call : EmptyCall
 unfolding runOf
 empty-call limit r a =
-    let ranges = both (leb (r .scan .taken) (2 ^ 62)) a in
-    rw (a, le-leb (r .scan .taken + 0) (2 ^ 62) (omega (arith, leb-true (r .scan .taken) (2 ^ 62) (ranges .0))))
+    let ranges = both (leb (r .scan .taken) mostTaken) a in
+    rw (a, le-leb (r .scan .taken + 0) (2 ^ 62) (omega (arith, leb-true (r .scan .taken) mostTaken (ranges .0))))

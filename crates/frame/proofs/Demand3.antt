@@ -20,6 +20,11 @@ pub from-fresh : (limit : ℕ)
     → limit ≤ 65279 → (calls : List Call) → Logged limit (freshOf limit) (logOf limit (freshOf limit) calls)
 from-fresh limit small calls = logged limit small calls (freshOf limit) (fresh-holds limit) (omega arith)
 
+pub log-chains : LogChains
+unfolding logOf Chains
+log-chains limit r [] = tt
+log-chains limit r (c ∷ cs) = (refl, log-chains limit (callOf limit r c .state) cs)
+
 pub demand-3 : Demand3s
 demand-3 limit small calls =
     let ok = from-fresh limit small calls in
@@ -27,15 +32,11 @@ demand-3 limit small calls =
       frames = ok .frames;
       lists = rw (ok .frames) (framesOf-lists limit small (stream (logOf limit (freshOf limit) calls)));
       accounts = ok .accounts;
+      chains = log-chains limit (freshOf limit) calls;
     }
 
 pub never-state : NeverState
 never-state limit small calls = from-fresh limit small calls .never
-
-pub log-chains : LogChains
-unfolding logOf Chains
-log-chains limit r [] = tt
-log-chains limit r (c ∷ cs) = (refl, log-chains limit (callOf limit r c .state) cs)
 
 pub state-kept : StateKept
 state-kept limit r bytes h = (rw h, rw h)

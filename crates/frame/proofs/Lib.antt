@@ -1,8 +1,14 @@
 -- The laws, from lists up to the claims of specs/Claims.antt.
 pub mod Rows
+pub mod Named
 pub mod Stuffing
+pub mod Spelled
 pub mod Writing
+pub mod Written
+pub mod Puts
 pub mod Steps
+pub mod Stored
+pub mod Ranges
 pub mod Counts
 pub mod Here
 pub mod Skip
@@ -10,8 +16,12 @@ pub mod Listed
 pub mod Unique
 pub mod Bodies
 pub mod Moves
+pub mod Accounts
 pub mod Logged
 pub mod Demand3
+pub mod WrongLogs
+pub mod LogExact
+pub mod Worked
 pub mod Sent
 pub mod Sender
 pub mod Round

@@ -7,7 +7,7 @@ use mathlib.Core.List.{List·Memᴰ·cases-cons}
 use mathlib.Core.Bool.{Bool, true, false, cond, true≢false}
 use mathlib.Core.Logic.{_≢_, _⊎_, inl, inr}
 use native.Mathlib.Omega.{arith}
-use lib.ListN.{length, getD, take, set, length-append}
+use lib.ListN.{length, getD, take, length-append}
 use lib.Seq.{getD-at}
 use lib.Dec.{eqb}
 use borrow.Author.Tests.{eqb-true, eqb-false}
@@ -16,7 +16,7 @@ use Rattle.frame.specs.Frames.{frontBody}
 use Rattle.frame.specs.Lines.{Decides, is-frame, is-short, is-long, is-stuff, is-cut, is-sum, heldUnder, Line}
 use Rattle.frame.specs.Lines.{IsLine, LinesFrom}
 use Rattle.frame.specs.Table.{codeOf}
-use Rattle.frame.specs.Rules.{bodyByteOf, onFFIn, onOtherIn, advanceOf, decidesOf}
+use Rattle.frame.specs.Rules.{bodyByteOf, onFFIn, onOtherIn, advanceOf, decidesOf, putOf}
 use Rattle.frame.specs.Calls.{nextOf}
 use Rattle.frame.specs.State.{Phase, Idle, Half, Header, Open, Escape, Scan, Step, State}
 use Rattle.frame.specs.declared.scan.Event.{Event}
@@ -26,7 +26,8 @@ use Rattle.frame.specs.declared.scan.Verdict.the-variants.{Frame, Short,
 use Rattle.base.proofs.Tests.{by-test}
 use Rattle.frame.proofs.Moves.{held, pending, pendingIn, origin, originIn, Inv, InvIn, after, moves, wire-snoc}
 use Rattle.frame.proofs.Moves.{wire-ff, wire-none, wire-wait}
-use Rattle.frame.proofs.Bodies.{Partial, partial-none, first-on, Ends, unfinished-of, stored, whole-held}
+use Rattle.frame.proofs.Bodies.{Partial, partial-none, first-on, Ends, unfinished-of, whole-held}
+use Rattle.frame.proofs.Puts.{stored}
 use Rattle.frame.proofs.Bodies.{body-cases}
 use Rattle.frame.proofs.Fold.{eventCode, lineAt, afterAll, saidAll}
 
@@ -77,7 +78,8 @@ module _ (limit : ℕ) (r : State) (room : length (r .body) ≡ limit + 2) (insi
         bytes = sym (append-nil raw);
         line = λ d. record {
           decides =
-              body-decides limit (b ++ v ∷ []) (set (r .body) h v) e′ q e (whole-held (r .body) h v (omega arith));
+              body-decides limit (b ++ v ∷ []) (putOf true (r .body) h v) e′ q e
+              (whole-held (r .body) h v (omega arith));
           starts = refl;
           rises = omega (arith, ap length e);
         };

@@ -1,7 +1,7 @@
 -- From bytes to calls, and from calls to lists of calls. Assumes nothing.
 use Prim.Native.Nat.{ℕ, suc, _+_, _^_, _≤_, _<_}
 use mathlib.Core.Path.{_≡_, refl, sym, ap, _∙_}
-use mathlib.Core.List.{List, [], _∷_, _++_, List·Memᴰ, List·Memᴰ·not-nil, List·Memᴰ·cases-cons}
+use mathlib.Core.List.{List, [], _∷_, _++_, cons≢nil, List·Memᴰ, List·Memᴰ·not-nil, List·Memᴰ·cases-cons}
 use mathlib.Core.Bool.{true, false, true≢false}
 use mathlib.Core.Logic.{_≢_, _⊎_, inl, inr}
 use native.Mathlib.Nat.{add-zero}
@@ -13,18 +13,21 @@ use lib.Dec.{eqb, leb}
 use borrow.Author.Tests.{le-leb, leb-true, leb-false, ne-eqb}
 use Rattle.frame.specs.Frames.{Found, frontBody, framesFrom}
 use Rattle.base.specs.Rows.{Row, row}
+use Rattle.base.specs.Keys.{among}
 use Rattle.frame.specs.Table.{codeOf, eventRow}
-use Rattle.frame.specs.Rules.{advanceOf, decidesOf, inRangeOf}
+use Rattle.frame.specs.Rules.{advanceOf, decidesOf, inRangeOf, mostTaken, mostHave}
 use Rattle.base.specs.Outcomes.{Reply, reply}
 use Rattle.frame.specs.Calls.{nextOf, endingRow, runOf, feedOf, finishOf}
 use Rattle.frame.specs.Logs.{Call, give, ask, callOf, Entry, entryOf, logOf, stateAfter, offered, takenBy}
-use Rattle.frame.specs.Logs.{takenIn, stream, handed, handedOut, decided, Account, Accounts}
+use Rattle.frame.specs.Logs.{takenIn, stream, handed, handedOut, decided, givenNumbers, endNumbers, Account}
+use Rattle.frame.specs.Logs.{Accounts}
 use Rattle.frame.specs.State.{Phase, Idle, Half, Header, Open, Escape, State}
 use Rattle.frame.specs.declared.scan.Event.{Event}
 use Rattle.frame.specs.declared.scan.Event.the-variants.{Quiet, Decided}
 use Rattle.frame.specs.declared.scan.Verdict.{Verdict}
 use Rattle.frame.specs.declared.scan.Verdict.the-variants.{Frame, Short, Long, Stuff, Cut, Sum}
 use Rattle.base.proofs.Tests.{by-test}
+use Rattle.frame.proofs.Accounts.{not-state}
 use Rattle.frame.proofs.Moves.{Inv, origin, pending, handedBy, moves, nothing-left}
 
 abbrev taken : State → ℕ
@@ -40,6 +43,7 @@ record Took (limit : ℕ) (r : State) (n : ℕ) (bs : List ℕ) (y : Reply State
   within : k ≤ length bs
   all : decidesOf event ≡ false → k ≡ length bs
   some : decidesOf event ≡ true → 1 ≤ k
+  idle : bs ≡ [] → y .state ≡ r
   row-is : y .row ≡ eventRow event (n + k) start (taken r + k)
   place : taken (y .state) ≡ taken r + k
   holds : Inv limit (y .state)
@@ -62,6 +66,7 @@ took limit small [] n r i =
       within = omega arith;
       all = λ d. refl;
       some = λ d. absurd (true≢false (sym d));
+      idle = λ e. refl;
       row-is = rw add-zero;
       place = omega arith;
       holds = i;
@@ -79,6 +84,7 @@ took limit small (x ∷ xs) n r i =
       within = omega arith;
       all = λ q. absurd (true≢false (sym d ∙ q));
       some = λ q. omega arith;
+      idle = λ e. absurd (cons≢nil e);
       row-is = ap (λ (j : ℕ). eventRow e (n + 1) (r .scan .start) j) one;
       place = one;
       holds = m .holds;
@@ -96,6 +102,7 @@ took limit small (x ∷ xs) n r i =
       within = omega (arith, w .within);
       all = λ q. ap suc (w .all q);
       some = λ q. omega arith;
+      idle = λ e. absurd (cons≢nil e);
       row-is = w .row-is ∙ ap (λ (j : ℕ). eventRow (w .event) j (w .start) (taken (nextOf limit r x) + w .k)) count
           ∙ ap (λ (j : ℕ). eventRow (w .event) (n + suc (w .k)) (w .start) j) end;
       place = w .place ∙ end;
@@ -117,8 +124,15 @@ pub record Called (limit : ℕ) (r : State) (c : Call) (y : Reply State) : Type 
       ≡ handed (entryOf r c y) (framesFrom limit (origin (y .state)) (pending (y .state) ++ t))
 
 -- bytes given are no end asked
-not-asked : {A : Type 0} {bs : List ℕ} → give bs ≡ ask → A
+pub not-asked : {A : Type 0} {bs : List ℕ} → give bs ≡ ask → A
 not-asked e = let z : _≡_ {A = ℕ} 0 1 = cc in absurd (omega arith)
+
+pub not-given : {A : Type 0} {bs : List ℕ} → ask ≡ give bs → A
+not-given e = not-asked (sym e)
+
+-- no byte is given
+none-given : {bs : List ℕ} → give bs ≡ give [] → bs ≡ []
+none-given e = cc
 
 with-row : (limit : ℕ) (r : State) (c : Call) (y : Reply State) (a : Row)
     → y .row ≡ a → Called limit r c (reply a (y .state)) → Called limit r c y
@@ -126,27 +140,29 @@ with-row limit r c y a e h = rw (← e) at h
 
 module _ (limit : ℕ) (r q : State) (bs : List ℕ) (k s : ℕ)
     (fits : taken r + length bs ≤ 2 ^ 62) (within : k ≤ length bs)
-    (place : taken q ≡ taken r + k) (holds : Inv limit q) where
+    (place : taken q ≡ taken r + k) (holds : Inv limit q) (idle : bs ≡ [] → q ≡ r) where
   -- MORE
   more-called : k ≡ length bs
       → ((t : List ℕ) → framesFrom limit (origin r) (pending r ++ (take k bs ++ t))
       ≡ framesFrom limit (origin q) (pending q ++ t))
       → Called limit r (give bs) (reply (row 0 (k ∷ [])) q)
+  unfolding among
   more-called all f =
       record {
         holds = holds;
         most = omega arith;
         place = place;
         account = record {
+          given-row = λ b e. refl;
+          asked-row = λ e. not-asked e;
           within = within;
           all = λ e. all;
-          some = λ e. absurd (true≢false (sym e));
+          progress = λ e o. omega arith;
+          empty = λ e. (refl, (cc (idle (none-given e))));
           ends = λ e. absurd (true≢false (sym e));
-          in-range = λ e. omega arith;
           used = λ e. absurd (omega arith);
           unused = λ e. fits;
           asked = λ e. not-asked e;
-          asked-row = λ e. not-asked e;
           used-none = λ e. absurd (omega arith);
           used-kept = λ e. absurd (omega arith);
           asked-kept = λ e. not-asked e;
@@ -158,16 +174,18 @@ module _ (limit : ℕ) (r q : State) (bs : List ℕ) (k s : ℕ)
   -- a verdict's line: FRAME or a refused frame
   record Numbered (d : ℕ) : Type 0 where
     is-decided : decided d ≡ true
+    is-given : among d givenNumbers ≡ true
     low : 1 ≤ d
     high : d < 17
 
   numbered : (v : Verdict) → Numbered (codeOf v)
-  numbered Frame = record { is-decided = refl; low = omega arith; high = omega arith }
-  numbered Short = record { is-decided = refl; low = omega arith; high = omega arith }
-  numbered Long = record { is-decided = refl; low = omega arith; high = omega arith }
-  numbered Stuff = record { is-decided = refl; low = omega arith; high = omega arith }
-  numbered Cut = record { is-decided = refl; low = omega arith; high = omega arith }
-  numbered Sum = record { is-decided = refl; low = omega arith; high = omega arith }
+  unfolding among
+  numbered Frame = record { is-decided = refl; is-given = refl; low = omega arith; high = omega arith }
+  numbered Short = record { is-decided = refl; is-given = refl; low = omega arith; high = omega arith }
+  numbered Long = record { is-decided = refl; is-given = refl; low = omega arith; high = omega arith }
+  numbered Stuff = record { is-decided = refl; is-given = refl; low = omega arith; high = omega arith }
+  numbered Cut = record { is-decided = refl; is-given = refl; low = omega arith; high = omega arith }
+  numbered Sum = record { is-decided = refl; is-given = refl; low = omega arith; high = omega arith }
 
   event-called : (e : Event) → (decidesOf e ≡ false → k ≡ length bs) → (decidesOf e ≡ true → 1 ≤ k)
       → ((t : List ℕ) → framesFrom limit (origin r) (pending r ++ (take k bs ++ t))
@@ -182,15 +200,16 @@ module _ (limit : ℕ) (r q : State) (bs : List ℕ) (k s : ℕ)
         most = omega arith;
         place = place;
         account = record {
+          given-row = λ b e. n .is-given;
+          asked-row = λ e. not-asked e;
           within = within;
           all = λ e. absurd (omega (arith, n .low));
-          some = λ e. some refl;
+          progress = λ e o. omega (arith, some refl);
+          empty = λ e. let none : length bs ≡ 0 = ap length (none-given e) in absurd (omega (arith, some refl));
           ends = λ e. refl;
-          in-range = λ e. omega (arith, n .high);
           used = λ e. absurd (omega (arith, n .high));
           unused = λ e. fits;
           asked = λ e. not-asked e;
-          asked-row = λ e. not-asked e;
           used-none = λ e. absurd (omega (arith, n .high));
           used-kept = λ e. absurd (omega (arith, n .high));
           asked-kept = λ e. not-asked e;
@@ -201,9 +220,14 @@ module _ (limit : ℕ) (r q : State) (bs : List ℕ) (k s : ℕ)
 
 module _ (limit : ℕ) (small : limit ≤ 65279) (r : State) (i : Inv limit r) (most : taken r ≤ 2 ^ 62) where
   pub in-range : inRangeOf limit (r .scan) ≡ true
-  in-range = rw (le-leb (taken r) (2 ^ 62) most, le-leb (r .scan .have) (limit + 1) (i .inside))
+  in-range =
+      rw (
+        le-leb (taken r) mostTaken (omega arith),
+        le-leb (r .scan .have) (mostHave limit) (omega (arith, i .inside)),
+      )
 
   give-called : (bs : List ℕ) → Called limit r (give bs) (feedOf limit r bs)
+  unfolding among
   give-called bs =
       rw in-range
       (by-test (Called limit r (give bs)) (leb (taken r + length bs) (2 ^ 62))
@@ -213,7 +237,7 @@ module _ (limit : ℕ) (small : limit ≤ 65279) (r : State) (i : Inv limit r) (
       with-row limit r (give bs) (runOf limit bs 0 r) (eventRow (w .event) (w .k) (w .start) (taken r + w .k))
       (w .row-is ∙ ap (λ (j : ℕ). eventRow (w .event) j (w .start) (taken r + w .k)) n)
       (event-called limit r (runOf limit bs 0 r .state) bs (w .k) (w .start) (leb-true (taken r + length bs) (2 ^ 62) d)
-      (w .within) (w .place) (w .holds) (w .event) (w .all) (w .some) (w .frames)))
+      (w .within) (w .place) (w .holds) (w .idle) (w .event) (w .all) (w .some) (w .frames)))
       (λ d.
       let over : 2 ^ 62 < taken r + length bs = leb-false (taken r + length bs) (2 ^ 62) d in
       record {
@@ -221,16 +245,17 @@ module _ (limit : ℕ) (small : limit ≤ 65279) (r : State) (i : Inv limit r) (
         most = most;
         place = omega arith;
         account = record {
+          given-row = λ b e. refl;
+          asked-row = λ e. not-asked e;
           within = omega arith;
           all = λ e. absurd (omega arith);
-          some = λ e. absurd (true≢false (sym e));
+          progress = λ e o. absurd (e refl);
+          empty = λ e. let none : length bs ≡ 0 = ap length (none-given e) in absurd (omega arith);
           ends = λ e. absurd (true≢false (sym e));
-          in-range = λ e. omega arith;
           used = λ e. over;
           unused = λ e. absurd (e refl);
           asked = λ e. not-asked e;
-          asked-row = λ e. not-asked e;
-          used-none = λ e. refl;
+          used-none = λ e. omega arith;
           used-kept = λ e. refl;
           asked-kept = λ e. not-asked e;
         };
@@ -240,7 +265,7 @@ module _ (limit : ℕ) (small : limit ≤ 65279) (r : State) (i : Inv limit r) (
 
   -- CLEAN or OPEN, of number d
   end-called : (d : ℕ) (v : List ℕ)
-      → (d ≡ 2) ⊎ (d ≡ 16) → decided d ≡ false → 2 ≤ d → d < 17 → getD v 0 0 ≡ taken r
+      → among d endNumbers ≡ true → decided d ≡ false → 2 ≤ d → d < 17 → getD v 0 0 ≡ taken r
       → Called limit r ask (reply (row d v) r)
   end-called d v named undecided low high first =
       let other : eqb d 1 ≡ false = ne-eqb d 1 (λ e. omega arith) in
@@ -249,16 +274,17 @@ module _ (limit : ℕ) (small : limit ≤ 65279) (r : State) (i : Inv limit r) (
         most = most;
         place = omega arith;
         account = record {
+          given-row = λ b e. not-given e;
+          asked-row = λ e. named;
           within = omega arith;
           all = λ e. absurd (omega arith);
-          some = λ e. absurd (true≢false (sym e ∙ undecided));
+          progress = λ e o. absurd (omega arith);
+          empty = λ e. not-given e;
           ends = λ e. absurd (true≢false (sym e ∙ undecided));
-          in-range = λ e. omega arith;
           used = λ e. absurd (omega arith);
           unused = λ e. omega arith;
           asked = λ e. first;
-          asked-row = λ e. named;
-          used-none = λ e. refl;
+          used-none = λ e. omega arith;
           used-kept = λ e. refl;
           asked-kept = λ e. refl;
         };
@@ -267,14 +293,15 @@ module _ (limit : ℕ) (small : limit ≤ 65279) (r : State) (i : Inv limit r) (
       }
 
   ask-called : Called limit r ask (finishOf limit r)
+  unfolding among
   ask-called = rw in-range (go (r .scan .phase))
     where
       go : (f : Phase) → Called limit r ask (reply (endingRow f (r .scan)) r)
-      go Idle = end-called 2 (taken r ∷ []) (inl refl) refl (omega arith) (omega arith) refl
-      go Half = end-called 2 (taken r ∷ []) (inl refl) refl (omega arith) (omega arith) refl
-      go Header = end-called 16 (taken r ∷ r .scan .start ∷ []) (inr refl) refl (omega arith) (omega arith) refl
-      go Open = end-called 16 (taken r ∷ r .scan .start ∷ []) (inr refl) refl (omega arith) (omega arith) refl
-      go Escape = end-called 16 (taken r ∷ r .scan .start ∷ []) (inr refl) refl (omega arith) (omega arith) refl
+      go Idle = end-called 2 (taken r ∷ []) refl refl (omega arith) (omega arith) refl
+      go Half = end-called 2 (taken r ∷ []) refl refl (omega arith) (omega arith) refl
+      go Header = end-called 16 (taken r ∷ r .scan .start ∷ []) refl refl (omega arith) (omega arith) refl
+      go Open = end-called 16 (taken r ∷ r .scan .start ∷ []) refl refl (omega arith) (omega arith) refl
+      go Escape = end-called 16 (taken r ∷ r .scan .start ∷ []) refl refl (omega arith) (omega arith) refl
 
   pub called : (c : Call) → Called limit r c (callOf limit r c)
   called (give bs) = give-called bs
@@ -317,7 +344,7 @@ module _ (limit : ℕ) (small : limit ≤ 65279) where
             ∙ sym (ok .frames (stream (logOf limit (y .state) cs)));
         accounts = (ok .account, (rw (ok .place) at (rest .accounts)));
         never = λ e m. each (λ e. e .row .number ≢ 17) (entryOf r c y) e (logOf limit (y .state) cs)
-            (ok .account .in-range) (rest .never) m;
+            (not-state (ok .account)) (rest .never) m;
         shapes = λ e m. each (λ e. e .row .number ≡ 1 → e .row ≡ row 1 (takenIn e ∷ getD (e .row .values) 1 0 ∷ getD
             (e .row .values) 2 0 ∷ [])) (entryOf r c y) e (logOf limit (y .state) cs) (ok .shape) (rest .shapes) m;
       }

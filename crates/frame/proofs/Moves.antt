@@ -4,12 +4,12 @@
 use Prim.Native.Nat.{ℕ, suc, _+_, _-_, _%_, _^_, _≤_}
 use mathlib.Core.Path.{_≡_, refl, sym, ap, _∙_}
 use mathlib.Core.List.{List, [], _∷_, _++_, append-assoc}
-use mathlib.Core.Bool.{cond, false}
+use mathlib.Core.Bool.{cond, true, false}
 use mathlib.Core.Logic.{_≢_}
 use mathlib.Core.Option.{none}
 use native.Mathlib.Numerals.{add-one}
 use native.Mathlib.Omega.{arith}
-use lib.ListN.{length, getD, take, set, length-append, length-set}
+use lib.ListN.{length, getD, take, length-append}
 use lib.Seq.{getD-at}
 use lib.Dec.{eqb}
 use borrow.Author.Tests.{eqb-true, eqb-false, eq-eqb, ne-eqb, le-leb}
@@ -24,8 +24,9 @@ use Rattle.frame.specs.declared.scan.Verdict.{Verdict}
 use Rattle.frame.specs.declared.scan.Verdict.the-variants.{Frame, Short, Long, Stuff, Cut, Sum}
 use Rattle.base.proofs.Tests.{by-test}
 use Rattle.frame.proofs.Stuffing.{stuff-append}
-use Rattle.frame.proofs.Bodies.{Partial, partial-none, first-on, sumIn, sumDue, Ends, size, stored, body-cases}
+use Rattle.frame.proofs.Bodies.{Partial, partial-none, first-on, sumIn, sumDue, Ends, size, body-cases}
 use Rattle.frame.proofs.Bodies.{whole-held}
+use Rattle.frame.proofs.Puts.{put-length, stored}
 use Rattle.frame.proofs.Skip.{pass, pass-other, pass-pair, pass-lone, pass-triple, pass-wire, take-wire}
 use Rattle.frame.proofs.Skip.{none-end, none-lone, none-broken, none-short, none-long, none-sum}
 
@@ -152,12 +153,12 @@ module _ (limit : ℕ) (r : State) (room : length (r .body) ≡ limit + 2) (insi
   goes-on : (k : ℕ) → h ≤ limit → Partial limit (h + 1) k ((r .scan .sum + v) % 2 ^ 8) grown
       → Moves (grownOf (r .scan) k v)
   goes-on k low q =
-      let in-place : take (h + 1) (set (r .body) h v) ≡ grown = stored (r .body) h v (omega arith) in
+      let in-place : take (h + 1) (putOf true (r .body) h v) ≡ grown = stored (r .body) h v (omega arith) in
       record {
         one = add-one (r .scan .taken);
         holds = record {
           phase = rw in-place (record { some-byte = some; place = omega arith; part = q });
-          room = length-set (r .body) h v ∙ room;
+          room = put-length true (r .body) h v ∙ room;
           inside = omega arith;
         };
         frames = λ t. rw in-place refl;
@@ -170,7 +171,7 @@ module _ (limit : ℕ) (r : State) (room : length (r .body) ≡ limit + 2) (insi
   ended e f =
       record {
         one = add-one (r .scan .taken);
-        holds = record { phase = tt; room = length-set (r .body) h v ∙ room; inside = omega arith };
+        holds = record { phase = tt; room = put-length true (r .body) h v ∙ room; inside = omega arith };
         frames = f;
       }
 

@@ -22,7 +22,8 @@ use Rattle.frame.proofs.Stuffing.{stuff-append}
 use Rattle.frame.proofs.Here.{lengthOf-append}
 use Rattle.frame.proofs.Skip.{good-first}
 use Rattle.frame.proofs.Moves.{held, Inv, InvIn, after}
-use Rattle.frame.proofs.Bodies.{Partial, partial-none, Ends, never-both, same-end, unfinished-of, stored}
+use Rattle.frame.proofs.Bodies.{Partial, partial-none, Ends, never-both, same-end, unfinished-of}
+use Rattle.frame.proofs.Puts.{stored}
 use Rattle.frame.proofs.Bodies.{body-cases}
 use Rattle.frame.specs.Table.{codeOf}
 use Rattle.frame.proofs.Fold.{eventCode, lineAt, afterAll, saidAll, after-append, said-append, kept}

@@ -25,6 +25,7 @@ use Rattle.frame.specs.State.{State}
 use Rattle.frame.proofs.Skip.{good-first, take-wire}
 use Rattle.frame.proofs.Moves.{Inv, origin, pending, settles}
 use Rattle.frame.proofs.Logged.{Logged, logged, reached}
+use Rattle.frame.proofs.Accounts.{frame-takes}
 use Rattle.frame.proofs.Demand3.{fresh-holds, demand-3}
 use Rattle.base.proofs.Lists.{no-bytes}
 
@@ -210,18 +211,20 @@ module _ (limit : ℕ) (small : limit ≤ 65279) (command number flags : ℕ) (p
       sym (ap length all) ∙ ap (λ (l : List Entry). length (stream l)) (s .parts) ∙ w .size in
       let five : lengthOf body ≡ length payload + 5 = length-made command number flags payload in
       let same : lengthOf (e .after .body) ≡ lengthOf body = same-length (e .after .body) body held in
+      let second : getD (e .after .body) 2 0 ≡ getD body 2 0 = at (e .after .body) body held 2 (omega arith) in
+      let third : getD (e .after .body) 3 0 ≡ getD body 3 0 = at (e .after .body) body held 3 (omega arith) in
       record {
         early = s .early;
         last = e;
         late = s .late;
         parts = s .parts;
         nothing-later = no-bytes (stream (s .late)) (omega (arith, w .account .ends is-decided));
-        some-taken = w .account .some is-decided;
+        some-taken = frame-takes (w .account) (s .number);
         frame = ok .shapes e (member-of (s .parts) (w .member)) (s .number)
             ∙ frame-row (start ∙ at-n) (end ∙ ap (λ (k : ℕ). k + length (wire body)) at-n);
         body = held;
-        command-is = at (e .after .body) body held 2 (omega arith) ∙ command-made command number flags payload;
-        number-is = at (e .after .body) body held 3 (omega arith) ∙ number-made command number flags payload;
+        command-is = omega (arith, second, third, command-made command number flags payload);
+        number-is = omega (arith, second, third, number-made command number flags payload);
         flags-are = omega (
           arith,
           at (e .after .body) body held 4 (omega arith),

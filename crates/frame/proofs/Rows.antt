@@ -6,7 +6,10 @@ use Rattle.base.specs.Rows.{Row}
 use Rattle.base.proofs.Rows.{told-apart, under, value}
 use Rattle.frame.specs.Table.{rowOf, endRowOf, writtenRowOf}
 use Rattle.frame.specs.State.{Phase, Idle, Half, Header, Open, Escape, State, phaseOf, stateOf}
-use Rattle.frame.specs.Claims.{RowsTell, StatesTold}
+use Rattle.frame.specs.Claims.{RowsTell, StatesTold, AskedKeeps}
+use Rattle.frame.specs.Rules.{inRangeOf}
+use Rattle.base.proofs.Tests.{by-test}
+use Rattle.base.specs.Outcomes.{Reply}
 use Rattle.frame.specs.declared.place.WirePlace.{WirePlace}
 use Rattle.frame.specs.declared.scan.Phase.{Phase as CodePhase}
 use Rattle.frame.specs.declared.scan.Phase.the-variants as phase
@@ -104,3 +107,6 @@ reader-back r = rw (phase-back (r .scan .phase))
 
 pub states-told : StatesTold
 states-told = told-apart stateOf readerFrom reader-back
+
+pub asked-keeps : AskedKeeps
+asked-keeps limit r = by-test (λ (y : Reply State). y .state ≡ r) (inRangeOf limit (r .scan)) (λ e. refl) (λ e. refl)

@@ -11,7 +11,7 @@ use lib.Seq.{drop-cons, drop-length}
 use lib.Dec.{ltb, leb, eqb}
 use Rattle.base.specs.Rows.{row}
 use Rattle.frame.specs.Rules.{Ready, inRangeOf, completedOf, bodyByteOf, onFFIn, onOtherIn, advanceOf, decidesOf}
-use Rattle.frame.specs.Rules.{putOf}
+use Rattle.frame.specs.Rules.{mostTaken, mostHave, putOf}
 use Rattle.frame.specs.Table.{eventRow}
 use Rattle.base.specs.Outcomes.{reply}
 use Rattle.frame.specs.Calls.{runOf}
@@ -101,6 +101,7 @@ module _ {limit : ℕ} {bytes : List ℕ} {r₀ r : State} {i : ℕ} (at : At li
 -- a state in range, with room for what may still be taken
 pub in-range : (limit : ℕ) (s : Scan) → limit ≤ 65279 → inRangeOf limit s ≡ true → Ready limit s (2 ^ 62 - s .taken)
 in-range limit s l e =
-    let ranges = both (leb (s .taken) (2 ^ 62)) e in
-    let taken : s .taken ≤ 2 ^ 62 = leb-true _ _ (ranges .0) in
-    record { room = omega arith; inside = leb-true _ _ (ranges .1); small = l }
+    let ranges = both (leb (s .taken) mostTaken) e in
+    let taken : s .taken ≤ mostTaken = leb-true _ _ (ranges .0) in
+    let have : s .have ≤ mostHave limit = leb-true _ _ (ranges .1) in
+    record { room = omega arith; inside = omega arith; small = l }

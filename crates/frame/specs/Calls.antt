@@ -5,7 +5,7 @@ use mathlib.Core.Bool.{cond}
 use mathlib.Core.List.{List, [], _∷_}
 use lib.ListN.{length, replicate}
 use lib.Dec.{ltb, leb}
-use Rattle.frame.specs.Wire.{wire, bodyOf, framed}
+use Rattle.frame.specs.Wire.{frameOf, framed}
 use Rattle.base.specs.Rows.{Row, row}
 use Rattle.base.specs.Outcomes.{Reply, reply, Write, outcome, placed}
 use Rattle.base.specs.Sums.{total}
@@ -77,7 +77,7 @@ finishOf limit r =
 abbrev pub writeOf : ℕ → ℕ → ℕ → ℕ → List ℕ → List ℕ → Write
 writeOf limit command number flags payload out =
     cond (ltb limit (length payload + 5)) (outcome (row 21 (0 ∷ [])) out)
-    (placed (wire (bodyOf command number flags payload)) out)
+    (placed (frameOf command number flags payload) out)
 
 -- the same of what the code returns, and of the output that it leaves
 abbrev pub Writes : Written → List ℕ → Write → Type 0

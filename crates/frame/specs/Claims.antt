@@ -54,11 +54,12 @@ MadeGood =
     (limit command number flags : ℕ) (payload : List ℕ)
     → length payload + 5 ≤ limit → Made limit command number flags payload
 
--- ---- demand-3: "a single claim about the whole list of calls"
+-- ---- demand-3: "a single claim about the whole list of calls". What each line of it refuses is `wrong-logs`
 pub record Demand3 (limit : ℕ) (log : List Entry) : Type 0 where
   pub frames : handedOut log ≡ framesOf limit (stream log)
   pub lists : Lists limit (stream log) (handedOut log)
   pub accounts : Accounts 0 log
+  pub chains : Chains (freshOf limit) log
 
 -- of every list of calls of a fresh reader
 abbrev pub Demand3s : Type 0
@@ -207,3 +208,11 @@ abbrev pub StateKept : Type 0
 StateKept =
     (limit : ℕ) (r : State) (bytes : List ℕ) → inRangeOf limit (r .scan) ≡ false
     → (feedOf limit r bytes ≡ reply (row 17 (0 ∷ [])) r) × (finishOf limit r ≡ reply (row 17 (0 ∷ [])) r)
+
+-- ---- asked-keeps: an end asked leaves every reader as it was
+abbrev pub AskedKeeps : Type 0
+AskedKeeps = (limit : ℕ) (r : State) → finishOf limit r .state ≡ r
+
+-- ---- one-answers: a stream has one list of lines, so `Answers` leaves none out, doubles none and orders them
+abbrev pub OneAnswers : Type 0
+OneAnswers = (limit : ℕ) (t : List ℕ) (a b : List Line) → Answers limit t a → Answers limit t b → a ≡ b

@@ -8,3 +8,11 @@ pub mod Calls
 pub mod Logs
 pub mod Lines
 pub mod Claims
+pub mod Named
+pub mod Ranges
+pub mod Stored
+pub mod Spelled
+pub mod Written
+pub mod WrongLogs
+pub mod LogExact
+pub mod Worked

@@ -1,13 +1,14 @@
 -- Lists of calls of one reader, with what each was answered. Paper 01, "Demand 3, word by word".
 use Prim.Native.Nat.{ℕ, zero, suc, _+_, _≤_, _<_, _^_}
 use mathlib.Core.Path.{_≡_}
-use mathlib.Core.Logic.{_≢_, _⊎_}
+use mathlib.Core.Logic.{_≢_}
 use mathlib.Core.Bool.{Bool, cond, true, _&&_, _||_}
 use mathlib.Core.List.{List, [], _∷_, _++_}
 use lib.ListN.{length, getD, take, drop}
 use lib.Dec.{eqb, leb}
 use Rattle.frame.specs.Frames.{Found, found, frontBody}
 use Rattle.base.specs.Rows.{Row}
+use Rattle.base.specs.Keys.{among}
 use Rattle.frame.specs.Table.{countOf}
 use Rattle.frame.specs.State.{State}
 use Rattle.base.specs.Outcomes.{Reply}
@@ -80,17 +81,26 @@ handedOut (e ∷ es) = handed e (handedOut es)
 abbrev pub decided : ℕ → Bool
 decided number = eqb number 1 || (leb 11 number && leb number 15)
 
--- what a call owes to the counts, of which those before it add up to n
+-- what bytes given may be answered, of a reader that began fresh: MORE, FRAME, the refused frames, USED
+abbrev pub givenNumbers : List ℕ
+givenNumbers = 0 ∷ 1 ∷ 11 ∷ 12 ∷ 13 ∷ 14 ∷ 15 ∷ 18 ∷ []
+
+-- and an end asked: CLEAN, OPEN
+abbrev pub endNumbers : List ℕ
+endNumbers = 2 ∷ 16 ∷ []
+
+-- what a call owes, where the counts before it add up to n. It names no field of the reader
 pub record Account (n : ℕ) (e : Entry) : Type 0 where
+  pub given-row : (bytes : List ℕ) → e .call ≡ give bytes → among (e .row .number) givenNumbers ≡ true
+  pub asked-row : e .call ≡ ask → among (e .row .number) endNumbers ≡ true
   pub within : takenIn e ≤ length (offered (e .call))  -- "never more than were offered"
   pub all : e .row .number ≡ 0 → takenIn e ≡ length (offered (e .call))  -- MORE: "bytes all taken"
-  pub some : decided (e .row .number) ≡ true → 1 ≤ takenIn e  -- "the deciding byte" is taken
+  pub progress : e .row .number ≢ 18 → 1 ≤ length (offered (e .call)) → 1 ≤ takenIn e
+  pub empty : e .call ≡ give [] → (e .row .number ≡ 0) × (e .after ≡ e .before)
   pub ends : decided (e .row .number) ≡ true → getD (e .row .values) 2 0 ≡ n + takenIn e  -- "add up to the frame's end"
-  pub in-range : e .row .number ≢ 17  -- STATE: "no state reached from a fresh one gets it"
   pub used : e .row .number ≡ 18 → 2 ^ 62 < n + length (offered (e .call))  -- USED, "exactly when"
   pub unused : e .row .number ≢ 18 → n + length (offered (e .call)) ≤ 2 ^ 62
   pub asked : e .call ≡ ask → getD (e .row .values) 0 0 ≡ n  -- "is the sum of all counts before it"
-  pub asked-row : e .call ≡ ask → (e .row .number ≡ 2) ⊎ (e .row .number ≡ 16)  -- CLEAN or OPEN
   -- USED and an end asked take none and "leave the reader unchanged"
   pub used-none : e .row .number ≡ 18 → takenIn e ≡ 0
   pub used-kept : e .row .number ≡ 18 → e .after ≡ e .before

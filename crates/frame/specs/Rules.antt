@@ -13,9 +13,17 @@ use Rattle.frame.specs.State.{Phase, Idle, Half, Header, Open, Escape, S
 
 -- ---- states
 
+-- the most bytes that may be taken in all
+abbrev pub mostTaken : ℕ
+mostTaken = 2 ^ 62
+
+-- the most bytes of a body that may be there
+abbrev pub mostHave : ℕ → ℕ
+mostHave limit = limit + 1
+
 -- row 17: the ranges of docs/STATES.md
 abbrev pub inRangeOf : ℕ → Scan → Bool
-inRangeOf limit s = leb (s .taken) (2 ^ 62) && leb (s .have) (limit + 1)
+inRangeOf limit s = leb (s .taken) mostTaken && leb (s .have) (mostHave limit)
 
 -- what the byte rules ask of their caller: the state and the limit are in range, and n bytes more may be taken
 pub record Ready (limit : ℕ) (s : Scan) (n : ℕ) : Type 0 where

@@ -48,14 +48,22 @@ flagsOf b = twoAt b 4
 abbrev pub payloadOf : List ℕ → List ℕ
 payloadOf b = take (lengthOf b - 5) (drop 6 b)
 
+-- the body's bytes before a payload of some size
+abbrev pub headOf : ℕ → ℕ → ℕ → ℕ → List ℕ
+headOf size command number flags = two (size + 5) (command ∷ number ∷ two flags [])
+
 -- the body's bytes before its sum, which is their sum modulo 256
 abbrev pub unsummed : ℕ → ℕ → ℕ → List ℕ → List ℕ
-unsummed command number flags payload = two (length payload + 5) (command ∷ number ∷ two flags payload)
+unsummed command number flags payload = headOf (length payload) command number flags ++ payload
 
 -- the body that these four values make
 unfoldable pub bodyOf : ℕ → ℕ → ℕ → List ℕ → List ℕ
 bodyOf command number flags payload =
     unsummed command number flags payload ++ checksum (unsummed command number flags payload) ∷ []
+
+-- and its wire form
+abbrev pub frameOf : ℕ → ℕ → ℕ → List ℕ → List ℕ
+frameOf command number flags payload = wire (bodyOf command number flags payload)
 
 -- a payload in three parts, one behind the other
 abbrev pub joinedParts : List ℕ → List ℕ → List ℕ → List ℕ

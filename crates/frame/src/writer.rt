@@ -5,9 +5,8 @@ ghost use mathlib.Core.List.{[], _∷_};
 ghost use Prim.Native.Nat.{_+_, _≤_, _<_, _/_, _%_, _^_};
 ghost use lib.ListN.{length};
 ghost use Rattle.base.specs.Stores.{PutAt};
-ghost use Rattle.frame.specs.Wire.{stuff, joinedParts, framed, frameLimit};
+ghost use Rattle.frame.specs.Wire.{stuff, headOf, joinedParts, framed, frameLimit};
 ghost use Rattle.base.specs.Sums.{total};
-ghost use Rattle.base.specs.Numbers.{two};
 ghost use Rattle.frame.specs.Calls.{writeOf, Writes, Measured};
 
 // What a frame to be written is answered.
@@ -26,7 +25,7 @@ struct Measure {
 // The body's first six bytes.
 fn head_of(size: usize, command: u8, number: u8, flags: u16) -> [u8; 6]
     requires { ⌜ size + 5 ≤ 65279 ⌝ }
-    ensures { λ r. ⌜ r ≡ two (size + 5) (command ∷ number ∷ two flags []) ⌝ }
+    ensures { λ r. ⌜ r ≡ headOf size command number flags ⌝ }
 {
     let length = size + 5;
     [

@@ -9,3 +9,4 @@ pub mod History
 pub mod Found
 pub mod Refusals
 pub mod Examples
+pub mod Ranges

@@ -7,3 +7,4 @@ pub mod Calls
 pub mod Logs
 pub mod History
 pub mod Claims
+pub mod Ranges

@@ -1,74 +1,76 @@
-// The bytes as they come: what each read gave is fed and its lines are written before the next.
-use super::waiting::add_line;
-use super::waiting::flush;
+// The bytes as they come: the lines of each read are written before the next.
+use super::output::close;
+use super::output::write_first;
+use super::trouble::goes_on;
 use frame::Reader;
 use libc::EIO;
 use libc::STDERR_FILENO;
 use libc::STDIN_FILENO;
 
-// The reader after some bytes, and whether to go on.
+// The reader after some bytes, whether to go on, and whether the listing is whole.
 struct Turn {
     reader: Reader,
     goes_on: bool,
+    is_whole: bool,
 }
 
-// A call that takes nothing would come again for ever; none does unless more than 2^62 bytes come in all.
-fn give_up(reader: Reader, out: &[u8], used: usize) -> Turn {
-    flush(out, used);
+// A call that uses no byte would come again for ever; none does unless more than 2^62 bytes come in all.
+fn give_up() -> bool {
     io::write_all(STDERR_FILENO, b"standard input: too many bytes\n");
-    Turn {
-        reader,
-        goes_on: false,
-    }
+    false
 }
 
-// Feeds some bytes and writes their lines.
-fn feed_all(reader: Reader, bytes: &[u8], out: &mut [u8]) -> Turn {
+// Lists some bytes: in one call, unless their lines are more than the output holds.
+fn list_all(reader: Reader, bytes: &[u8], out: &mut [u8]) -> Turn {
     let mut next = reader;
     let mut at = 0;
-    let mut used = 0;
+    let mut goes_on = true;
     while at < bytes.len() {
-        let fed = frame::feed(next, &bytes[at..]);
-        let answer = fed.answer;
-        next = fed.reader;
-        let count = answer.count();
-        if count == 0 {
-            return give_up(next, out, used);
+        let listed = listing::list(next, b"", &bytes[at..], out);
+        let used = listed.used;
+        next = listed.reader;
+        if !write_first(out, listed.written) {
+            goes_on = false;
+            break;
         }
-        at += count;
-        let waiting = add_line(answer, &next.body, out, used);
-        used = waiting.used;
-        if !waiting.written {
-            return Turn {
-                reader: next,
-                goes_on: false,
-            };
+        if used == 0 {
+            goes_on = give_up();
+            break;
         }
+        at += used;
     }
     Turn {
         reader: next,
-        goes_on: flush(out, used),
+        goes_on,
+        is_whole: false,
     }
 }
 
 fn heading(out: &mut [u8]) -> bool {
-    let count = listing::heading(out).count();
-    flush(out, count)
+    let count = listing::heading(b"", out).count();
+    write_first(out, count)
 }
 
-fn last(reader: Reader, out: &mut [u8]) {
+// The last line, behind which nothing is written. Without one, which no fed reader leaves, the listing is not whole.
+fn last(reader: Reader, out: &mut [u8]) -> bool {
     let finished = frame::finish(reader);
     let answer = finished.answer;
-    let count = listing::last(answer, out).count();
-    flush(out, count);
+    let count = listing::last(answer, b"", out).count();
+    if count == 0 {
+        return false;
+    }
+    if !write_first(out, count) {
+        return false;
+    }
+    close()
 }
 
 // The input's end.
 fn end(reader: Reader, out: &mut [u8]) -> Turn {
-    last(reader, out);
     Turn {
         reader,
         goes_on: false,
+        is_whole: last(reader, out),
     }
 }
 
@@ -79,10 +81,10 @@ fn broken(reader: Reader, is_line: bool, out: &mut [u8]) -> Turn {
             return end(reader, out);
         }
     }
-    os::fail(b"standard input");
     Turn {
         reader,
-        goes_on: false,
+        goes_on: goes_on(b"standard input"),
+        is_whole: false,
     }
 }
 
@@ -96,13 +98,14 @@ fn one_read(reader: Reader, is_line: bool, input: &mut [u8], out: &mut [u8]) -> 
     if n == 0 {
         return end(reader, out);
     }
-    feed_all(reader, &input[..n], out)
+    list_all(reader, &input[..n], out)
 }
 
-// Nothing says that the input ends, and a proved loop must: it counts its turns down from a number that no run uses up.
-pub(crate) fn list(input: &mut [u8], out: &mut [u8]) {
+// Whether the listing was written whole. Nothing says that the input ends, and a proved loop must: it counts its turns
+// down from a number that no run uses up.
+pub(crate) fn list(input: &mut [u8], out: &mut [u8]) -> bool {
     if !heading(out) {
-        return;
+        return false;
     }
     let is_line = libc::isatty(STDIN_FILENO) == 1;
     let mut reader = Reader::new();
@@ -110,9 +113,10 @@ pub(crate) fn list(input: &mut [u8], out: &mut [u8]) {
     while turns > 0 {
         let t = one_read(reader, is_line, input, out);
         if !t.goes_on {
-            return;
+            return t.is_whole;
         }
         reader = t.reader;
         turns -= 1;
     }
+    false
 }

@@ -1,13 +1,13 @@
 -- The claims of specs/Claims.antt but those of decimal text (Values) and of every listing (Listed, Whole).
 -- Assumes nothing.
-use Prim.Native.Nat.{ℕ, zero, suc, _+_, _*_, _^_, _≤_, _<_}
-use mathlib.Core.Path.{_≡_, refl}
+use Prim.Native.Nat.{ℕ, zero, suc, _+_, _*_, _-_, _^_, _≤_, _<_}
+use mathlib.Core.Path.{_≡_, refl, ap, _∙_}
 use Prim.Native.String.{String}
 use mathlib.Core.Bool.{cond}
-use mathlib.Core.List.{List, [], _∷_, _++_}
+use mathlib.Core.List.{List, [], _∷_, _++_, append-nil, append-assoc}
 use native.Mathlib.Omega.{arith}
-use borrow.Author.Tests.{ltb-false}
-use lib.ListN.{length, getD, length-append, length-take}
+use borrow.Author.Tests.{ltb-false, lt-ltb, le-ltb}
+use lib.ListN.{length, getD, length-append, length-take, length-drop}
 use lib.Dec.{ltb, eqb}
 use Rattle.frame.specs.Wire.{lengthOf, payloadOf}
 use Rattle.base.specs.Rows.{Row, row}
@@ -17,11 +17,12 @@ use Rattle.frame.specs.Logs.{logOf, offer}
 use Rattle.base.proofs.Tests.{by-test}
 use Rattle.base.proofs.Rows.{told-apart, under, value}
 use Rattle.listing.specs.Decimal.{decimalOf, digitsIn, columnsOf}
-use Rattle.listing.specs.Lines.{textOf, ascii, placesOf, partsOf, refusedText, answerText, lastOf}
+use Rattle.listing.specs.Lines.{textOf, ascii, placesOf, partsOf, dashes, refusedText, answerText, lastOf}
 use Rattle.listing.specs.Table.{linedRowOf}
 use Rattle.listing.specs.declared.text.Lined.{Lined}
 use Rattle.listing.specs.declared.text.Lined.the-variants as lined
-use Rattle.listing.specs.Claims.{RowsTell, Within, Below, Longest, PaperListing, EachKind, textsOf}
+use Rattle.listing.specs.Claims.{RowsTell, LinedNumbers, Within, Below, Longest, PaperListing, EachKind, textsOf}
+use Rattle.listing.specs.Claims.{WorkedColumns, FrameColumns, WorkedBefore, NoLines, PutsAlways, AllLinesSpelled}
 use Rattle.listing.proofs.Digits.{count-most}
 
 abbrev linedFrom : Row → Lined
@@ -34,10 +35,54 @@ lined-back lined.Room = refl
 pub rows-tell : RowsTell
 rows-tell = told-apart linedRowOf linedFrom lined-back
 
+pub lined-numbers : LinedNumbers
+lined-numbers = record { wrote = λ count. refl; room = refl }
+
+pub puts-whole : PutsAlways
+puts-whole r after text out e =
+    let answer = ap (λ (w : Write). w .row) e in
+    let left = ap (λ (w : Write). w .out) e in
+    record {
+      fits = λ h. (
+        answer ∙ rw (le-ltb (length out) (length text) h),
+        left ∙ rw (le-ltb (length out) (length text) h),
+      );
+      room = λ h. (
+        answer ∙ rw (lt-ltb (length out) (length text) h),
+        left ∙ rw (lt-ltb (length out) (length text) h),
+      );
+    }
+
 pub within : Within
 within text out =
     by-test (λ (w : Write). writtenIn (w .row) ≤ length out) (ltb (length out) (length text)) (λ e. omega arith)
     (λ e. ltb-false (length out) (length text) e)
+
+-- ---- worked listings
+
+pub paper-listing : PaperListing
+unfolding logOf offer runOf zeros textsOf columnsOf decimalOf digitsIn
+paper-listing = refl
+
+pub each-kind : EachKind
+unfolding logOf runOf zeros textsOf columnsOf decimalOf digitsIn
+each-kind = record { short = refl; long = refl; stuff = refl; sum = refl; left-open = refl }
+
+pub worked-columns : WorkedColumns
+unfolding logOf runOf zeros textsOf columnsOf decimalOf digitsIn
+worked-columns = record { columns = refl }
+
+pub frame-columns : FrameColumns
+frame-columns before count start end body h =
+    let size : length (payloadOf body) ≡ lengthOf body - 5 = simp (length-take, length-drop) (omega arith) in
+    rw size
+
+pub worked-before : WorkedBefore
+unfolding logOf offer runOf zeros textsOf columnsOf decimalOf digitsIn
+worked-before = record { paper = refl; quiet = refl }
+
+pub no-line : NoLines
+no-line before values body = record { more = refl; state = refl; used = refl; end-state = refl }
 
 -- ---- longest
 
@@ -49,10 +94,13 @@ columns-most (n ∷ l) h =
     let digits = count-most 19 n (omega arith) in
     rw length-append (omega (arith, columns-most l (h .1)))
 
--- a line is at most so long
-text-most : (word numbers rest : List ℕ)
-    → Below (2 ^ 64) numbers → length (textOf word numbers rest) ≤ length word + 21 * length numbers + length rest
-text-most word numbers rest h =
+-- short enough behind what stands before it
+abbrev Short : List ℕ → List ℕ → Type 0
+Short before t = length t ≤ length before + 132
+
+text-short : (before word numbers rest : List ℕ) → Below (2 ^ 64) numbers
+    → length word + 21 * length numbers + length rest ≤ 132 → Short before (textOf before word numbers rest)
+text-short before word numbers rest h few =
     let columns = columns-most numbers h in
     simp length-append (omega arith)
 
@@ -62,61 +110,67 @@ value-below [] i h = omega arith
 value-below (n ∷ l) zero h = h .0
 value-below (n ∷ l) (suc i) h = value-below l i (h .1)
 
--- short enough
-abbrev Short : List ℕ → Type 0
-Short t = length t ≤ 132
-
 -- the payload is no longer than the body's length says
 payload-most : (body : List ℕ) → length (payloadOf body) ≤ lengthOf body
 payload-most body = rw length-take (omega arith)
 
-line-short : (r : Row) (body : List ℕ)
-    → Below (2 ^ 64) (placesOf r) → ((i : ℕ) → getD body i 0 < 256) → Short (answerText r body)
-line-short r body h bytes =
-    pick Short 1
-    (omega (arith, text-most (ascii "frame") (placesOf r ++ partsOf body) (ascii "\n") (h .0, (h .1 .0, parts))))
-    (pick Short 11 (omega (arith, refused "short"))
-    (pick Short 12 (omega (arith, refused "long"))
-    (pick Short 13 (omega (arith, refused "stuff"))
-    (pick Short 14 (omega (arith, refused "cut"))
-    (pick Short 15 (omega (arith, refused "sum")) (omega arith))))))
+line-short : (before : List ℕ) (r : Row) (body : List ℕ)
+    → Below (2 ^ 64) (placesOf r) → ((i : ℕ) → getD body i 0 < 256) → Short before (answerText before r body)
+line-short before r body h bytes =
+    pick (Short before) 1 (text-short before (ascii "frame") (placesOf r ++ partsOf body) (ascii "\n")
+    (h .0, (h .1 .0, parts)) (omega arith))
+    (pick (Short before) 11 (refused "short" (omega arith))
+    (pick (Short before) 12 (refused "long" (omega arith))
+    (pick (Short before) 13 (refused "stuff" (omega arith))
+    (pick (Short before) 14 (refused "cut" (omega arith))
+    (pick (Short before) 15 (refused "sum" (omega arith)) (omega arith))))))
   where
     pick : (P : List ℕ → Type 0) (n : ℕ) {x y : List ℕ} → P x → P y → P (cond (eqb (r .number) n) x y)
     pick P n f g = by-test P (eqb (r .number) n) (λ e. f) (λ e. g)
 
     -- one byte, one byte, two bytes, and a payload under a length of two bytes
+    below : {n : ℕ} → n ≤ getD body 0 0 * 256 + getD body 1 0 + getD body 2 0 + getD body 3 0
+        + (getD body 4 0 * 256 + getD body 5 0) → n < 2 ^ 64
+    below h = omega (arith, bytes 0, bytes 1, bytes 2, bytes 3, bytes 4, bytes 5)
+
     parts : Below (2 ^ 64) (partsOf body)
-    parts = (
-      omega (arith, bytes 2),
-      (
-        omega (arith, bytes 3),
-        (omega (arith, bytes 4, bytes 5), (omega (arith, bytes 0, bytes 1, payload-most body), tt)),
-      ),
-    )
+    parts =
+        let payload = payload-most body in
+        (below (omega arith), (below (omega arith), (below (omega arith), (below (omega arith), tt))))
 
-    refused : (name : String) → length (refusedText name r) ≤ length (ascii name) + 42 + 9
-    refused name = text-most (ascii name) (placesOf r) (ascii " - - - -\n") (h .0, (h .1 .0, tt))
+    refused : (name : String) → length (ascii name) + 42 + length dashes ≤ 132
+        → Short before (refusedText before name r)
+    refused name few = text-short before (ascii name) (placesOf r) dashes (h .0, (h .1 .0, tt)) few
 
-last-short : (r : Row) → Below (2 ^ 64) (r .values) → Short (lastOf r)
-last-short r h =
-    by-test Short (eqb (r .number) 2) (λ e. omega
-    (arith, text-most (ascii "clean") (getD (r .values) 0 0 ∷ []) (ascii "\n") (value-below (r .values) 0 h, tt)))
-    (λ e. by-test Short (eqb (r .number) 16)
-    (λ f. omega (
-      arith,
-      text-most (ascii "open") (getD (r .values) 1 0 ∷ []) (ascii "\n") (
-        value-below (r .values) 1 h,
-        tt,
-      ),
-    )) (λ f. omega arith))
+last-short : (before : List ℕ) (r : Row) → Below (2 ^ 64) (r .values) → Short before (lastOf before r)
+last-short before r h =
+    by-test (Short before) (eqb (r .number) 2) (λ e. ends "clean" _ (omega arith))
+    (λ e. by-test (Short before) (eqb (r .number) 16) (λ f. ends "open" _ (omega arith)) (λ f. omega arith))
+  where
+    ends : (word : String) (i : ℕ) → length (ascii word) + 21 + 1 ≤ 132
+        → Short before (textOf before (ascii word) (getD (r .values) i 0 ∷ []) (ascii "\n"))
+    ends word i few =
+        text-short before (ascii word) (getD (r .values) i 0 ∷ []) (ascii "\n") (value-below (r .values) i h, tt) few
 
 pub longest : Longest
-longest = record { lines = line-short; lasts = last-short; heading = omega arith }
+longest =
+    record {
+      lines = line-short;
+      lasts = last-short;
+      heading = λ before. text-short before (ascii "kind start end cmd sn flags payload\n") [] [] tt (omega arith);
+    }
 
-pub paper-listing : PaperListing
-unfolding logOf offer runOf zeros textsOf columnsOf decimalOf digitsIn
-paper-listing = refl
-
-pub each-kind : EachKind
-unfolding logOf runOf zeros textsOf columnsOf decimalOf digitsIn
-each-kind = record { short = refl; long = refl; stuff = refl; sum = refl; left-open = refl }
+pub lines-spelled : AllLinesSpelled
+unfolding columnsOf
+lines-spelled before body c s e =
+    record {
+      short = simp (append-assoc, append-nil);
+      long = simp (append-assoc, append-nil);
+      stuff = simp (append-assoc, append-nil);
+      cut = simp (append-assoc, append-nil);
+      sum = simp (append-assoc, append-nil);
+      frame = λ n k f p. simp (append-assoc, append-nil);
+      clean = simp append-nil;
+      left-open = simp append-nil;
+      heading = simp append-nil;
+    }

@@ -1,7 +1,10 @@
--- The laws of digits, columns, stores and listings.
+-- The laws of digits, columns, stores, the loop over bytes and listings.
 pub mod Digits
 pub mod Puts
 pub mod Values
 pub mod Claims
+pub mod Loops
+pub mod LoopClaims
+pub mod Turns
 pub mod Listed
 pub mod Whole

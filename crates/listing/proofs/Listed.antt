@@ -21,7 +21,7 @@ use Rattle.frame.specs.State.{Phase, Idle, Half, Header, Open, Escape, Scan, St
 use Rattle.base.proofs.Tests.{by-test}
 use Rattle.frame.proofs.Lines.{each-line}
 use Rattle.listing.specs.Lines.{partsOf, answerText}
-use Rattle.listing.specs.Claims.{EachListed, givenText, lineText, linesText}
+use Rattle.listing.specs.Claims.{EachListed, givenText, linesText}
 
 -- ---- the parts of a body stand in its first L + 2 bytes
 
@@ -55,8 +55,8 @@ other n k f t = go (eqb n k) refl
     go false p = refl
     go true p = let z : true ≡ false = sym t ∙ (ap decided (sym (eqb-true n k p)) ∙ f) in z
 
-no-line : (r : Row) (body : List ℕ) → decided (r .number) ≡ false → answerText r body ≡ []
-no-line r body f =
+no-line : (before : List ℕ) (r : Row) (body : List ℕ) → decided (r .number) ≡ false → answerText before r body ≡ []
+no-line before r body f =
     rw (
       other (r .number) 1 f refl,
       other (r .number) 11 f refl,
@@ -90,8 +90,10 @@ same-picked false x y z f = refl
 abbrev Long : Line → Type 0
 Long l = l .number ≡ 1 → 5 ≤ lengthOf (l .body)
 
-entry-text : (e : Entry) → Long (lineIn e) → answerText (e .row) (e .after .body) ≡ lineText (lineIn e)
-entry-text e h =
+entry-text : (before : List ℕ) (e : Entry) → Long (lineIn e)
+    → answerText before (e .row) (e .after .body)
+    ≡ answerText before (row (e .row .number) (0 ∷ lineIn e .start ∷ lineIn e .end ∷ [])) (lineIn e .body)
+entry-text before e h =
     same-picked (eqb (e .row .number) 1) _ _ _
     (λ t.
     let frame = eqb-true (e .row .number) 1 t in
@@ -105,30 +107,31 @@ entry-text e h =
 abbrev AllLong : List Line → Type 0
 AllLong ls = (l : Line) → List·Memᴰ l ls → Long l
 
--- a call's line before those of the others, or none
-one-more : (e : Entry) (ls : List Line) (text : List ℕ) → (AllLong ls → text ≡ linesText ls)
-    → (t : Bool) → decided (e .row .number) ≡ t → AllLong (cond t (lineIn e ∷ ls) ls)
-    → answerText (e .row) (e .after .body) ++ text ≡ linesText (cond t (lineIn e ∷ ls) ls)
-unfolding linesText
-one-more e ls text f true d h =
-    rw (entry-text e (h (lineIn e) (List·Memᴰ·head refl)), f (λ l m. h l (List·Memᴰ·tail m)))
-one-more e ls text f false d h = rw (no-line (e .row) (e .after .body) d) (f h)
+module _ (before : List ℕ) where
+  -- a call's line before those of the others, or none
+  one-more : (e : Entry) (ls : List Line) (text : List ℕ) → (AllLong ls → text ≡ linesText before ls)
+      → (t : Bool) → decided (e .row .number) ≡ t → AllLong (cond t (lineIn e ∷ ls) ls)
+      → answerText before (e .row) (e .after .body) ++ text ≡ linesText before (cond t (lineIn e ∷ ls) ls)
+  unfolding linesText
+  one-more e ls text f true d h =
+      rw (entry-text before e (h (lineIn e) (List·Memᴰ·head refl)), f (λ l m. h l (List·Memᴰ·tail m)))
+  one-more e ls text f false d h = rw (no-line before (e .row) (e .after .body) d) (f h)
 
-none-more : (l : Line) (ls : List Line) (text : List ℕ) → (AllLong ls → text ≡ linesText ls)
-    → (t : Bool) → t ≡ false → AllLong (cond t (l ∷ ls) ls) → text ≡ linesText (cond t (l ∷ ls) ls)
-none-more l ls text f true d h = let z : _≡_ {A = ℕ} 0 1 = cc in absurd (omega arith)
-none-more l ls text f false d h = f h
+  none-more : (l : Line) (ls : List Line) (text : List ℕ) → (AllLong ls → text ≡ linesText before ls)
+      → (t : Bool) → t ≡ false → AllLong (cond t (l ∷ ls) ls) → text ≡ linesText before (cond t (l ∷ ls) ls)
+  none-more l ls text f true d h = let z : _≡_ {A = ℕ} 0 1 = cc in absurd (omega arith)
+  none-more l ls text f false d h = f h
 
-listed : (limit : ℕ) (calls : List Call) (r : State) → AllLong (linesOf (logOf limit r calls))
-    → givenText (logOf limit r calls) ≡ linesText (linesOf (logOf limit r calls))
-unfolding logOf linesOf givenText linesText
-listed limit [] r h = refl
-listed limit (give bytes ∷ cs) r h =
-    let y : Reply State = feedOf limit r bytes in
-    one-more (entryOf r (give bytes) y) _ _ (λ a. listed limit cs (y .state) a) (decided (y .row .number)) refl h
-listed limit (ask ∷ cs) r h =
-    let y : Reply State = finishOf limit r in
-    none-more _ _ _ (λ a. listed limit cs (y .state) a) (decided (y .row .number)) (asked-undecided limit r) h
+  listed : (limit : ℕ) (calls : List Call) (r : State) → AllLong (linesOf (logOf limit r calls))
+      → givenText before (logOf limit r calls) ≡ linesText before (linesOf (logOf limit r calls))
+  unfolding logOf linesOf givenText linesText
+  listed limit [] r h = refl
+  listed limit (give bytes ∷ cs) r h =
+      let y : Reply State = feedOf limit r bytes in
+      one-more (entryOf r (give bytes) y) _ _ (λ a. listed limit cs (y .state) a) (decided (y .row .number)) refl h
+  listed limit (ask ∷ cs) r h =
+      let y : Reply State = finishOf limit r in
+      none-more _ _ _ (λ a. listed limit cs (y .state) a) (decided (y .row .number)) (asked-undecided limit r) h
 
 -- a line of number 1 is a frame, and its length is at least 5
 frame-long : (limit : ℕ) (raw body : List ℕ) (n : ℕ) → Decides limit raw n body → n ≡ 1 → 5 ≤ lengthOf body
@@ -140,7 +143,7 @@ frame-long limit raw body n (is-cut b e f w g) one = absurd (omega arith)
 frame-long limit raw body n (is-sum b e f w g h i j) one = absurd (omega arith)
 
 pub each-listed : EachListed
-each-listed limit small calls =
-    listed limit calls (freshOf limit)
+each-listed before limit small calls =
+    listed before limit calls (freshOf limit)
     (λ l m. let line = each-line limit small calls .sound l m in
     frame-long limit (line .raw) (l .body) (l .number) (line .decides))

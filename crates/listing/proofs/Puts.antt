@@ -1,15 +1,15 @@
 -- Laws of stores: what is put byte by byte, from the front or from the back.
-use Prim.Native.Nat.{ℕ, suc, _+_, _/_, _%_, _≤_, _<_}
-use mathlib.Core.Path.{_≡_, refl, _∙_}
-use mathlib.Core.List.{List, [], _∷_, _++_}
+use Prim.Native.Nat.{ℕ, suc, _+_, _-_, _/_, _%_, _≤_, _<_}
+use mathlib.Core.Path.{_≡_, refl, ap, _∙_}
+use mathlib.Core.List.{List, [], _∷_, _++_, append-nil, append-assoc}
 use native.Mathlib.Nat.{add-zero}
 use native.Mathlib.Numerals.{add-one}
 use native.Mathlib.Omega.{arith}
-use lib.ListN.{length, getD, drop, set, length-append, drop-of-length-le}
-use lib.Seq.{drop-cons, sets, set-comm}
+use lib.ListN.{length, getD, take, drop, set, length-append, length-drop, drop-of-length-le}
+use lib.Seq.{drop-cons, drop-drop, sets, sets-eq, set-comm, take-all}
 use borrow.Author.Tests.{lt-ltb, le-ltb}
-use Rattle.base.specs.Rows.{row}
-use Rattle.base.specs.Outcomes.{outcome, placed}
+use Rattle.base.specs.Rows.{Row, row}
+use Rattle.base.specs.Outcomes.{Write, outcome, placed, writtenIn}
 use Rattle.base.proofs.Stores.{sets-append, sets-front}
 use Rattle.listing.specs.Decimal.{digit, decimalOf, columnsOf}
 use Rattle.listing.proofs.Digits.{decimal-last, decimal-more, count-last, count-more}
@@ -49,6 +49,29 @@ module _ (text out : List ℕ) where
 
 pub nothing-put : (out : List ℕ) → outcome (row 0 (0 ∷ [])) out ≡ placed [] out
 nothing-put out = fitting [] out (omega arith)
+
+-- ---- a text put in the part of an output that begins at a place: `after` is that part afterwards
+
+module _ (text out : List ℕ) (at : ℕ) (fits : at + length text ≤ length out) {r : Row} {after : List ℕ}
+    (put : outcome r after ≡ placed text (take (length out - at) (drop at out))) where
+  -- the part is all that is left of the output, and has room
+  part-fits : outcome r after ≡ outcome (row 0 (length text ∷ [])) (text ++ drop (at + length text) out)
+  part-fits =
+      let left : length (drop at out) ≡ length out - at = length-drop at out in
+      put ∙ rw (
+        take-all (length out - at) (drop at out) (omega arith),
+        le-ltb (length (drop at out)) (length text) (omega arith),
+        drop-drop (length text) at out,
+      )
+
+  pub part-count : writtenIn r ≡ length text
+  part-count = ap (λ (w : Write). writtenIn (w .row)) part-fits
+
+  pub part-put : take at out ++ (after ++ drop (length out - at) (drop at out)) ≡ sets out at text
+  part-put =
+      let left : length (drop at out) ≤ length out - at = omega (arith, length-drop at out) in
+      let part : after ≡ text ++ drop (at + length text) out = ap (λ (w : Write). w .out) part-fits in
+      rw (part, drop-of-length-le (drop at out) left, append-nil, sets-eq text out at fits, append-assoc)
 
 -- ---- from the front: bytes from the i-th on, put at their place behind at
 

@@ -11,68 +11,54 @@ use Rattle.frame.specs.Table.{countOf}
 use Rattle.base.specs.Outcomes.{Reply}
 use Rattle.frame.specs.Calls.{freshOf, feedOf, finishOf}
 use Rattle.frame.specs.Logs.{Call, give, ask, logOf, stateAfter, stream, offer, send, joined}
-use Rattle.frame.specs.Lines.{Line, LinesFrom, Answers, linesOf, IsOpen}
+use Rattle.frame.specs.Lines.{linesOf, IsOpen}
 use Rattle.frame.specs.State.{State}
-use Rattle.base.proofs.Rising.{RisingFrom, same-members}
+use Rattle.frame.proofs.Unique.{one-answers}
 use Rattle.frame.proofs.Sender.{sent-whole}
 use Rattle.frame.proofs.Lines.{each-line, end-told}
 use Rattle.listing.specs.Lines.{headingText, answerText, lastOf}
-use Rattle.listing.specs.Claims.{textsOf, givenText, linesText, listingOf, OnlyGive, WholeListing, OneListing}
-use Rattle.listing.specs.Claims.{AnyCuts, SentListing}
+use Rattle.listing.specs.Claims.{textsOf, givenText, linesText, listingOf, listed, OnlyGive, WholeListing}
+use Rattle.listing.specs.Claims.{OneListing, AnyCuts, SentListing}
 use Rattle.listing.proofs.Listed.{each-listed}
 
 -- ---- the listing of calls that give bytes, and the end asked behind them
 
 -- the text of them all is that of the bytes given, and the last line
-texts : (limit : ℕ) (calls : List Call) (r : State) → OnlyGive calls
-    → textsOf (logOf limit r (calls ++ ask ∷ [])) ≡ givenText (logOf limit r calls)
-    ++ lastOf (finishOf limit (stateAfter limit r calls) .row)
+pub texts : (before : List ℕ) (limit : ℕ) (calls : List Call) (r : State) → OnlyGive calls
+    → textsOf before (logOf limit r (calls ++ ask ∷ [])) ≡ givenText before (logOf limit r calls)
+    ++ lastOf before (finishOf limit (stateAfter limit r calls) .row)
 unfolding logOf stateAfter textsOf givenText
-texts limit [] r h = append-nil (lastOf (finishOf limit r .row))
-texts limit (give bytes ∷ cs) r h =
+texts before limit [] r h = append-nil (lastOf before (finishOf limit r .row))
+texts before limit (give bytes ∷ cs) r h =
     let y : Reply State = feedOf limit r bytes in
-    ap (λ (l : List ℕ). answerText (y .row) (y .state .body) ++ l) (texts limit cs (y .state) h)
-    ∙ sym (append-assoc (answerText (y .row) (y .state .body)) (givenText (logOf limit (y .state) cs))
-    (lastOf (finishOf limit (stateAfter limit (y .state) cs) .row)))
-texts limit (ask ∷ cs) r h = absurd h
+    let line = answerText before (y .row) (y .state .body) in
+    ap (λ (l : List ℕ). line ++ l) (texts before limit cs (y .state) h)
+    ∙ sym (append-assoc line (givenText before (logOf limit (y .state) cs))
+    (lastOf before (finishOf limit (stateAfter limit (y .state) cs) .row)))
+texts before limit (ask ∷ cs) r h = absurd h
 
 -- the same with the heading, and with the lines over the stream
-listing-is : (limit : ℕ) → limit ≤ widest → (calls : List Call) → OnlyGive calls → (y : Reply State)
+listing-is : (before : List ℕ) (limit : ℕ) → limit ≤ widest → (calls : List Call) → OnlyGive calls → (y : Reply State)
     → finishOf limit (stateAfter limit (freshOf limit) calls) ≡ y
-    → listingOf limit (calls ++ ask ∷ []) ≡ headingText
-    ++ (linesText (linesOf (logOf limit (freshOf limit) calls)) ++ lastOf (y .row))
-listing-is limit small calls h y e =
-    ap (λ (l : List ℕ). headingText ++ l)
-    (texts limit calls (freshOf limit) h
-    ∙ ap (λ (l : List ℕ). l ++ lastOf (finishOf limit (stateAfter limit (freshOf limit) calls) .row))
-    (each-listed limit small calls)
-    ∙ ap (λ (z : Reply State). linesText (linesOf (logOf limit (freshOf limit) calls)) ++ lastOf (z .row)) e)
+    → listingOf before limit (calls ++ ask ∷ [])
+    ≡ listed before (linesOf (logOf limit (freshOf limit) calls)) (y .row)
+listing-is before limit small calls h y e =
+    ap (λ (l : List ℕ). headingText before ++ l)
+    (texts before limit calls (freshOf limit) h
+    ∙ ap (λ (l : List ℕ). l ++ lastOf before (finishOf limit (stateAfter limit (freshOf limit) calls) .row))
+    (each-listed before limit small calls)
+    ∙ ap (λ (z : Reply State). linesText before (linesOf (logOf limit (freshOf limit) calls))
+    ++ lastOf before (z .row)) e)
 
 pub whole-listing : WholeListing
-whole-listing limit small calls h =
+whole-listing before limit small calls h =
     let end = end-told limit small calls in
     record {
       lines = linesOf (logOf limit (freshOf limit) calls);
       answers = each-line limit small calls;
-      left-open = λ start o. listing-is limit small calls h _ (end .left-open start o);
-      left-clean = λ none. listing-is limit small calls h _ (end .left-clean none);
+      left-open = λ start o. listing-is before limit small calls h _ (end .left-open start o);
+      left-clean = λ none. listing-is before limit small calls h _ (end .left-clean none);
     }
-
--- ---- a stream has one list of lines
-
--- where a line starts
-abbrev startOf : Line → ℕ
-startOf l = l .start
-
--- they rise, in the words of the law
-lines-rise : (m : ℕ) (ls : List Line) → LinesFrom m ls → RisingFrom startOf m ls
-lines-rise m [] h = tt
-lines-rise m (l ∷ ls) h = (h .0, lines-rise (l .start + 1) ls (h .1))
-
-one-lines : (limit : ℕ) (t : List ℕ) (a b : List Line) → Answers limit t a → Answers limit t b → a ≡ b
-one-lines limit t a b p q =
-    same-members startOf 0 0 a b (lines-rise 0 a (p .rising)) (lines-rise 0 b (q .rising))
-    (λ l k. q .complete l (p .sound l k)) (λ l k. p .complete l (q .sound l k))
 
 -- ---- a stream has one listing
 
@@ -82,8 +68,8 @@ tested a b f = Dec·not-not (List-discrete ℕ-discrete a b) .0 f
 
 -- two that differ would differ with an open frame and without one
 pub one-listing : OneListing
-one-listing limit t a b p q =
-    let lines : p .lines ≡ q .lines = one-lines limit t (p .lines) (q .lines) (p .answers) (q .answers) in
+one-listing before limit t a b p q =
+    let lines : p .lines ≡ q .lines = one-answers limit t (p .lines) (q .lines) (p .answers) (q .answers) in
     tested a b (λ differ.
     let none : (start : ℕ) → IsOpen limit t start → ⊥ =
     λ start o. differ (p .left-open start o ∙ rw lines (sym (q .left-open start o))) in
@@ -96,7 +82,7 @@ only-joined [] b p q = q
 only-joined (give bytes ∷ a) b p q = only-joined a b p q
 only-joined (ask ∷ a) b p q = absurd p
 
-only-offered : (limit n : ℕ) (r : State) (bytes : List ℕ) → OnlyGive (offer limit n r bytes)
+pub only-offered : (limit n : ℕ) (r : State) (bytes : List ℕ) → OnlyGive (offer limit n r bytes)
 unfolding offer
 only-offered limit zero r bytes = tt
 only-offered limit (suc n) r bytes =
@@ -117,15 +103,15 @@ unfolding logOf stateAfter stream
 sent-stream limit small pieces room = sent-whole limit small [] pieces (omega arith)
 
 pub sent-listing : SentListing
-sent-listing limit small pieces room =
-    rw (sent-stream limit small pieces room) at (whole-listing limit small (send limit (freshOf limit) pieces)
+sent-listing before limit small pieces room =
+    rw (sent-stream limit small pieces room) at (whole-listing before limit small (send limit (freshOf limit) pieces)
     (only-sent limit pieces (freshOf limit)))
 
 pub any-cut : AnyCuts
-any-cut limit small =
+any-cut before limit small =
     record {
-      calls = λ ps qs p q e. one-listing limit _ _ _ (whole-listing limit small ps p)
-          (rw e (whole-listing limit small qs q));
-      pieces = λ ps qs e room. one-listing limit _ _ _ (sent-listing limit small ps room)
-          (rw e (sent-listing limit small qs (rw e at room)));
+      calls = λ ps qs p q e. one-listing before limit _ _ _ (whole-listing before limit small ps p)
+          (rw e (whole-listing before limit small qs q));
+      pieces = λ ps qs e room. one-listing before limit _ _ _ (sent-listing before limit small ps room)
+          (rw e (sent-listing before limit small qs (rw e at room)));
     }

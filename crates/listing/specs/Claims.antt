@@ -2,17 +2,18 @@
 use Prim.Native.Nat.{ℕ, _+_, _*_, _-_, _^_, _≤_, _<_}
 use mathlib.Core.Path.{_≡_}
 use mathlib.Core.List.{List, [], _∷_, _++_, List·Memᴰ}
-use lib.ListN.{length, getD}
+use lib.ListN.{length, getD, drop}
 use Rattle.base.specs.Rows.{Row, row}
 use Rattle.frame.specs.Wire.{widest, frameLimit}
 use Rattle.frame.specs.Calls.{freshOf}
 use Rattle.frame.specs.Logs.{Call, give, ask, Entry, logOf, stream, offer, send, joined}
 use Rattle.frame.specs.Lines.{Line, linesOf, Answers, IsOpen}
 use Rattle.listing.specs.Decimal.{decimalOf}
-use Rattle.listing.specs.Lines.{ascii, headingText, placesOf, answerText, lastOf}
-use Rattle.listing.specs.Table.{linedRowOf}
+use Rattle.listing.specs.Lines.{ascii, headingText, textOf, placesOf, answerText, lastOf}
+use Rattle.listing.specs.Table.{linedRowOf, Puts}
 use Rattle.base.specs.Outcomes.{writtenIn, placed}
 use Rattle.listing.specs.declared.text.Lined.{Lined}
+use Rattle.listing.specs.declared.text.Lined.the-variants as lined
 
 -- ---- decimal-text: what a number's text is, apart from how it is made
 
@@ -45,12 +46,28 @@ OneDecimal = (n : ℕ) (text : List ℕ) → DecimalText n text → text ≡ dec
 abbrev pub RowsTell : Type 0
 RowsTell = (a b : Lined) → linedRowOf a ≡ linedRowOf b → a ≡ b
 
+-- ---- lined-numbers: the table's number and the values of each answer
+pub record LinedNumbers : Type 0 where
+  pub wrote : (count : ℕ) → linedRowOf (lined.Wrote count) ≡ row 0 (count ∷ [])
+  pub room : linedRowOf lined.Room ≡ row 22 (0 ∷ [])
+
+-- ---- puts-whole: what a contract that names `Puts` fixes: a text that fits stands at the front of the output, whose
+-- rest stays, and its length is told; another is ROOM, and the output stays
+pub record PutsWhole (r : Lined) (after text out : List ℕ) : Type 0 where
+  pub fits : length text ≤ length out
+      → (linedRowOf r ≡ row 0 (length text ∷ [])) × (after ≡ text ++ drop (length text) out)
+  pub room : length out < length text → (linedRowOf r ≡ row 22 (0 ∷ [])) × (after ≡ out)
+
+-- of every answer, text and output
+abbrev pub PutsAlways : Type 0
+PutsAlways = (r : Lined) (after text out : List ℕ) → Puts r after text out → PutsWhole r after text out
+
 -- ---- within: no call counts more bytes than the output has
 abbrev pub Within : Type 0
 Within = (text out : List ℕ) → writtenIn (placed text out .row) ≤ length out
 
--- ---- longest: where places are below 2^64 and a body's values are bytes, no line is longer than 132 bytes,
--- so an output of so many has room for any
+-- ---- longest: where places are below 2^64 and a body's values are bytes, no line is longer than 132 bytes
+-- from its word on, so an output of so many has room for any
 
 -- each number of a list is below a bound
 abbrev pub Below : ℕ → List ℕ → Type 0
@@ -59,26 +76,26 @@ Below m (n ∷ l) = (n < m) × Below m l
 
 -- the line of each answer, the last line and the heading
 pub record Longest : Type 0 where
-  pub lines : (r : Row) (body : List ℕ)
-      → Below (2 ^ 64) (placesOf r) → ((i : ℕ) → getD body i 0 < 256) → length (answerText r body) ≤ 132
-  pub lasts : (r : Row) → Below (2 ^ 64) (r .values) → length (lastOf r) ≤ 132
-  pub heading : length headingText ≤ 132
+  pub lines : (before : List ℕ) (r : Row) (body : List ℕ) → Below (2 ^ 64) (placesOf r)
+      → ((i : ℕ) → getD body i 0 < 256) → length (answerText before r body) ≤ length before + 132
+  pub lasts : (before : List ℕ) (r : Row) → Below (2 ^ 64) (r .values) → length (lastOf before r) ≤ length before + 132
+  pub heading : (before : List ℕ) → length (headingText before) ≤ length before + 132
 
 -- ---- paper-listing: "Given FF, example 1, FF FF 00 05 07, example 3, it prints exactly"
 
 -- the text of a call: the line of what it was answered, or the last line
-abbrev pub textIn : Call → Entry → List ℕ
-textIn (give bytes) e = answerText (e .row) (e .after .body)
-textIn ask e = lastOf (e .row)
+abbrev pub textIn : List ℕ → Call → Entry → List ℕ
+textIn before (give bytes) e = answerText before (e .row) (e .after .body)
+textIn before ask e = lastOf before (e .row)
 
 -- of a list of calls
-unfoldable pub textsOf : List Entry → List ℕ
-textsOf [] = []
-textsOf (e ∷ es) = textIn (e .call) e ++ textsOf es
+unfoldable pub textsOf : List ℕ → List Entry → List ℕ
+textsOf before [] = []
+textsOf before (e ∷ es) = textIn before (e .call) e ++ textsOf before es
 
--- the listing of calls of a fresh reader
-abbrev pub listingOf : ℕ → List Call → List ℕ
-listingOf limit calls = headingText ++ textsOf (logOf limit (freshOf limit) calls)
+-- the listing of calls of a fresh reader, with what stands before each line's word
+abbrev pub listingOf : List ℕ → ℕ → List Call → List ℕ
+listingOf before limit calls = headingText before ++ textsOf before (logOf limit (freshOf limit) calls)
 
 -- the stream of the example
 abbrev pub paperStream : List ℕ
@@ -91,61 +108,131 @@ paperStream =
 -- it is offered until it is taken, and then the end is asked
 abbrev pub PaperListing : Type 0
 PaperListing =
-    listingOf frameLimit (offer frameLimit 3 (freshOf frameLimit) paperStream ++ ask ∷ [])
+    listingOf [] frameLimit (offer frameLimit 3 (freshOf frameLimit) paperStream ++ ask ∷ [])
     ≡ ascii
     "kind start end cmd sn flags payload\nframe 1 10 7 1 0 0\ncut 10 17 - - - -\nframe 15 25 7 243 0 0\nclean 25\n"
 
 -- ---- each-kind: a listing for each kind of line that the paper's example lacks
 pub record EachKind : Type 0 where
-  pub short : listingOf frameLimit (give (0xFF ∷ 0xFF ∷ 0x00 ∷ 0x04 ∷ []) ∷ ask ∷ [])
-      ≡ headingText ++ ascii "short 0 4 - - - -\nclean 4\n"
-  pub long : listingOf frameLimit (give (0xFF ∷ 0xFF ∷ 0xFF ∷ 0x55 ∷ 0x00 ∷ []) ∷ ask ∷ [])
-      ≡ headingText ++ ascii "long 1 5 - - - -\nclean 5\n"
-  pub stuff : listingOf frameLimit (give (0xFF ∷ 0xFF ∷ 0x00 ∷ 0x05 ∷ 0x07 ∷ 0xFF ∷ 0x00 ∷ []) ∷ ask ∷ [])
-      ≡ headingText ++ ascii "stuff 0 7 - - - -\nclean 7\n"
-  pub sum : listingOf frameLimit (give (0xFF ∷ 0xFF ∷ 0x00 ∷ 0x05 ∷ 0x07 ∷ 0x01 ∷ 0x00 ∷ 0x00 ∷ 0x0E ∷ []) ∷ ask ∷ [])
-      ≡ headingText ++ ascii "sum 0 9 - - - -\nclean 9\n"
-  pub left-open : listingOf frameLimit (give (0xFF ∷ 0xFF ∷ 0xFF ∷ 0x00 ∷ 0x05 ∷ []) ∷ ask ∷ [])
-      ≡ headingText ++ ascii "open 1\n"
+  pub short : listingOf [] frameLimit (give (0xFF ∷ 0xFF ∷ 0x00 ∷ 0x04 ∷ []) ∷ ask ∷ [])
+      ≡ headingText [] ++ ascii "short 0 4 - - - -\nclean 4\n"
+  pub long : listingOf [] frameLimit (give (0xFF ∷ 0xFF ∷ 0xFF ∷ 0x55 ∷ 0x00 ∷ []) ∷ ask ∷ [])
+      ≡ headingText [] ++ ascii "long 1 5 - - - -\nclean 5\n"
+  pub stuff : listingOf [] frameLimit (give (0xFF ∷ 0xFF ∷ 0x00 ∷ 0x05 ∷ 0x07 ∷ 0xFF ∷ 0x00 ∷ []) ∷ ask ∷ [])
+      ≡ headingText [] ++ ascii "stuff 0 7 - - - -\nclean 7\n"
+  pub sum : listingOf [] frameLimit
+      (give (0xFF ∷ 0xFF ∷ 0x00 ∷ 0x05 ∷ 0x07 ∷ 0x01 ∷ 0x00 ∷ 0x00 ∷ 0x0E ∷ []) ∷ ask ∷ [])
+      ≡ headingText [] ++ ascii "sum 0 9 - - - -\nclean 9\n"
+  pub left-open : listingOf [] frameLimit (give (0xFF ∷ 0xFF ∷ 0xFF ∷ 0x00 ∷ 0x05 ∷ []) ∷ ask ∷ [])
+      ≡ headingText [] ++ ascii "open 1\n"
+
+-- ---- worked-columns: a line whose numbers all differ and none of which is 0: command 22, number 33, flags 12 34,
+-- payload AA BB, behind a byte of noise
+pub record WorkedColumns : Type 0 where
+  pub columns : listingOf [] frameLimit
+      (give (0x00 ∷ 0xFF ∷ 0xFF ∷ 0x00 ∷ 0x07 ∷ 0x22 ∷ 0x33 ∷ 0x12 ∷ 0x34 ∷ 0xAA ∷ 0xBB ∷ 0x07 ∷ []) ∷ ask ∷ [])
+      ≡ ascii "kind start end cmd sn flags payload\nframe 1 12 34 51 4660 2\nclean 12\n"
+
+-- ---- frame-columns: the same of any body that is as long as it says, by the places of its bytes
+abbrev pub FrameColumns : Type 0
+FrameColumns =
+    (before : List ℕ) (count start end : ℕ) (body : List ℕ) → getD body 0 0 * 256 + getD body 1 0 + 1 ≤ length body
+    → answerText before (row 1 (count ∷ start ∷ end ∷ [])) body
+    ≡ textOf before (ascii "frame")
+    (start ∷ end ∷ getD body 2 0 ∷ getD body 3 0 ∷ (getD body 4 0 * 256 + getD body 5 0)
+    ∷ (getD body 0 0 * 256 + getD body 1 0 - 5) ∷ [])
+    (ascii "\n")
+
+-- ---- lines-spelled: every line by its pieces, for all numbers
+
+-- a refused frame's line, behind its word and a space
+abbrev pub refusedRest : ℕ → ℕ → List ℕ
+refusedRest start end = decimalOf start ++ (ascii " " ++ (decimalOf end ++ ascii " - - - -\n"))
+
+-- count c, start s, end e
+pub record LinesSpelled (before body : List ℕ) (c s e : ℕ) : Type 0 where
+  pub short : answerText before (row 11 (c ∷ s ∷ e ∷ [])) body ≡ before ++ (ascii "short " ++ refusedRest s e)
+  pub long : answerText before (row 12 (c ∷ s ∷ e ∷ [])) body ≡ before ++ (ascii "long " ++ refusedRest s e)
+  pub stuff : answerText before (row 13 (c ∷ s ∷ e ∷ [])) body ≡ before ++ (ascii "stuff " ++ refusedRest s e)
+  pub cut : answerText before (row 14 (c ∷ s ∷ e ∷ [])) body ≡ before ++ (ascii "cut " ++ refusedRest s e)
+  pub sum : answerText before (row 15 (c ∷ s ∷ e ∷ [])) body ≡ before ++ (ascii "sum " ++ refusedRest s e)
+  -- the six columns of a frame, which `frame-columns` takes from its body
+  pub frame : (n k f p : ℕ)
+      → textOf before (ascii "frame") (s ∷ e ∷ n ∷ k ∷ f ∷ p ∷ []) (ascii "\n")
+      ≡ before ++ (ascii "frame " ++ (decimalOf s ++ (ascii " " ++ (decimalOf e ++ (ascii " "
+      ++ (decimalOf n ++ (ascii " " ++ (decimalOf k ++ (ascii " "
+      ++ (decimalOf f ++ (ascii " " ++ (decimalOf p ++ ascii "\n"))))))))))))
+  pub clean : lastOf before (row 2 (c ∷ [])) ≡ before ++ (ascii "clean " ++ (decimalOf c ++ ascii "\n"))
+  pub left-open : lastOf before (row 16 (c ∷ s ∷ [])) ≡ before ++ (ascii "open " ++ (decimalOf s ++ ascii "\n"))
+  pub heading : headingText before ≡ before ++ ascii "kind start end cmd sn flags payload\n"
+
+-- of all values
+abbrev pub AllLinesSpelled : Type 0
+AllLinesSpelled = (before body : List ℕ) (c s e : ℕ) → LinesSpelled before body c s e
+
+-- ---- worked-before: a column before the word of each line, of the heading and of the last line; where an answer has
+-- no line it stands nowhere
+pub record WorkedBefore : Type 0 where
+  pub paper : listingOf (ascii "in ") frameLimit (offer frameLimit 3 (freshOf frameLimit) paperStream ++ ask ∷ [])
+      ≡ ascii "in kind start end cmd sn flags payload\nin frame 1 10 7 1 0 0\nin cut 10 17 - - - -\n"
+      ++ ascii "in frame 15 25 7 243 0 0\nin clean 25\n"
+  pub quiet : listingOf (ascii "in ") frameLimit (give (0x00 ∷ []) ∷ ask ∷ [])
+      ≡ ascii "in kind start end cmd sn flags payload\nin clean 1\n"
+
+-- ---- no-line: MORE, STATE and USED have none, and an end answered STATE has none
+pub record NoLine (before values body : List ℕ) : Type 0 where
+  pub more : answerText before (row 0 values) body ≡ []
+  pub state : answerText before (row 17 values) body ≡ []
+  pub used : answerText before (row 18 values) body ≡ []
+  pub end-state : lastOf before (row 17 values) ≡ []
+
+-- of any values and body
+abbrev pub NoLines : Type 0
+NoLines = (before values body : List ℕ) → NoLine before values body
 
 -- ---- each-listed: of every list of calls of a fresh reader, the lines' text is that of the table's lines over the
 -- bytes taken, in order: frame's claim `each-line` says that `linesOf` has them all, each once, nothing else
 
 -- the text of the answers to bytes given, which stands between the heading and the last line
-abbrev pub givenIn : Call → Entry → List ℕ
-givenIn (give bytes) e = answerText (e .row) (e .after .body)
-givenIn ask e = []
+abbrev pub givenIn : List ℕ → Call → Entry → List ℕ
+givenIn before (give bytes) e = answerText before (e .row) (e .after .body)
+givenIn before ask e = []
 
 -- of a list of calls
-unfoldable pub givenText : List Entry → List ℕ
-givenText [] = []
-givenText (e ∷ es) = givenIn (e .call) e ++ givenText es
+unfoldable pub givenText : List ℕ → List Entry → List ℕ
+givenText before [] = []
+givenText before (e ∷ es) = givenIn before (e .call) e ++ givenText before es
 
 -- the text of a line over the stream: its number, its places and, at FRAME, the parts of its body
-abbrev pub lineText : Line → List ℕ
-lineText l = answerText (row (l .number) (0 ∷ l .start ∷ l .end ∷ [])) (l .body)
+abbrev pub lineText : List ℕ → Line → List ℕ
+lineText before l = answerText before (row (l .number) (0 ∷ l .start ∷ l .end ∷ [])) (l .body)
 
 -- of several
-unfoldable pub linesText : List Line → List ℕ
-linesText [] = []
-linesText (l ∷ ls) = lineText l ++ linesText ls
+unfoldable pub linesText : List ℕ → List Line → List ℕ
+linesText before [] = []
+linesText before (l ∷ ls) = lineText before l ++ linesText before ls
 
 -- of every list of calls
 abbrev pub EachListed : Type 0
 EachListed =
-    (limit : ℕ) → limit ≤ widest → (calls : List Call)
-    → givenText (logOf limit (freshOf limit) calls) ≡ linesText (linesOf (logOf limit (freshOf limit) calls))
+    (before : List ℕ) (limit : ℕ) → limit ≤ widest → (calls : List Call)
+    → givenText before (logOf limit (freshOf limit) calls)
+    ≡ linesText before (linesOf (logOf limit (freshOf limit) calls))
 
 -- ---- whole-listing: the bytes taken alone decide the listing, in whatever pieces they were given
 
--- the text is the listing of the stream t: heading, the table's lines over t, and the last line
-pub record IsListing (limit : ℕ) (t text : List ℕ) : Type 0 where
+-- the heading, lines, and the last line of an end asked
+abbrev pub listed : List ℕ → List Line → Row → List ℕ
+listed before ls end = headingText before ++ (linesText before ls ++ lastOf before end)
+
+-- the text is the listing of the stream t: heading, the table's lines over t, and the last line, each behind `before`
+pub record IsListing (before : List ℕ) (limit : ℕ) (t text : List ℕ) : Type 0 where
   pub lines : List Line
   pub answers : Answers limit t lines
-  pub left-open : (start : ℕ)
-      → IsOpen limit t start → text ≡ headingText ++ (linesText lines ++ lastOf (row 16 (length t ∷ start ∷ [])))
+  pub left-open : (start : ℕ) → IsOpen limit t start
+      → text ≡ listed before lines (row 16 (length t ∷ start ∷ []))
   pub left-clean : ((start : ℕ) → IsOpen limit t start → ⊥)
-      → text ≡ headingText ++ (linesText lines ++ lastOf (row 2 (length t ∷ [])))
+      → text ≡ listed before lines (row 2 (length t ∷ []))
 
 -- the calls give bytes, and none asks the end
 abbrev pub OnlyGive : List Call → Type 0
@@ -156,29 +243,30 @@ OnlyGive (ask ∷ cs) = ⊥
 -- of all calls that give bytes, with the end asked behind them
 abbrev pub WholeListing : Type 0
 WholeListing =
-    (limit : ℕ) → limit ≤ widest → (calls : List Call) → OnlyGive calls
-    → IsListing limit (stream (logOf limit (freshOf limit) calls)) (listingOf limit (calls ++ ask ∷ []))
+    (before : List ℕ) (limit : ℕ) → limit ≤ widest → (calls : List Call) → OnlyGive calls
+    → IsListing before limit (stream (logOf limit (freshOf limit) calls)) (listingOf before limit (calls ++ ask ∷ []))
 
 -- ---- one-listing: a stream has one listing
 abbrev pub OneListing : Type 0
-OneListing = (limit : ℕ) (t a b : List ℕ) → IsListing limit t a → IsListing limit t b → a ≡ b
+OneListing =
+    (before : List ℕ) (limit : ℕ) (t a b : List ℕ) → IsListing before limit t a → IsListing before limit t b → a ≡ b
 
 -- ---- sent-listing: a sender that offers each piece until it is taken gets the listing of all its bytes, up to 2^62
 abbrev pub SentListing : Type 0
 SentListing =
-    (limit : ℕ) → limit ≤ widest → (pieces : List (List ℕ)) → length (joined pieces) ≤ 2 ^ 62
-    → IsListing limit (joined pieces) (listingOf limit (send limit (freshOf limit) pieces ++ ask ∷ []))
+    (before : List ℕ) (limit : ℕ) → limit ≤ widest → (pieces : List (List ℕ)) → length (joined pieces) ≤ 2 ^ 62
+    → IsListing before limit (joined pieces) (listingOf before limit (send limit (freshOf limit) pieces ++ ask ∷ []))
 
 -- ---- any-cut: the same bytes have the same listing, however they are cut:
 -- into calls that took them, or into pieces that are sent
-pub record AnyCut (limit : ℕ) : Type 0 where
+pub record AnyCut (before : List ℕ) (limit : ℕ) : Type 0 where
   pub calls : (ps qs : List Call)
       → OnlyGive ps → OnlyGive qs → stream (logOf limit (freshOf limit) ps) ≡ stream (logOf limit (freshOf limit) qs)
-      → listingOf limit (ps ++ ask ∷ []) ≡ listingOf limit (qs ++ ask ∷ [])
+      → listingOf before limit (ps ++ ask ∷ []) ≡ listingOf before limit (qs ++ ask ∷ [])
   pub pieces : (ps qs : List (List ℕ)) → joined ps ≡ joined qs → length (joined ps) ≤ 2 ^ 62
-      → listingOf limit (send limit (freshOf limit) ps ++ ask ∷ [])
-      ≡ listingOf limit (send limit (freshOf limit) qs ++ ask ∷ [])
+      → listingOf before limit (send limit (freshOf limit) ps ++ ask ∷ [])
+      ≡ listingOf before limit (send limit (freshOf limit) qs ++ ask ∷ [])
 
 -- of every limit up to the widest
 abbrev pub AnyCuts : Type 0
-AnyCuts = (limit : ℕ) → limit ≤ widest → AnyCut limit
+AnyCuts = (before : List ℕ) (limit : ℕ) → limit ≤ widest → AnyCut before limit

@@ -15,42 +15,54 @@ abbrev pub ascii : String → List ℕ
 ascii []ˢ = []
 ascii (c ∷ˢ s) = code c ∷ ascii s
 
+-- a line: what stands before its word, which is nothing in paper 01's listing, the word, decimal numbers, and the rest
+abbrev pub textOf : List ℕ → List ℕ → List ℕ → List ℕ → List ℕ
+textOf before word numbers rest = before ++ (word ++ (columnsOf numbers ++ rest))
+
 -- "kind start end cmd sn flags payload"
-abbrev pub headingText : List ℕ
-headingText = ascii "kind start end cmd sn flags payload\n"
+abbrev pub headingText : List ℕ → List ℕ
+headingText before = textOf before (ascii "kind start end cmd sn flags payload\n") [] []
 
--- a line: a word, decimal numbers, and the line's rest
-abbrev pub textOf : List ℕ → List ℕ → List ℕ → List ℕ
-textOf word numbers rest = word ++ (columnsOf numbers ++ rest)
+-- the columns of places: start, then end
+abbrev pub placesAt : ℕ → ℕ → List ℕ
+placesAt start end = start ∷ end ∷ []
 
--- start and end, behind the count in a row's values
+-- they stand behind the count in a row's values
 abbrev pub placesOf : Row → List ℕ
-placesOf r = getD (r .values) 1 0 ∷ getD (r .values) 2 0 ∷ []
+placesOf r = placesAt (getD (r .values) 1 0) (getD (r .values) 2 0)
 
 -- cmd, sn and flags; "the last column is the payload's size"
 abbrev pub partsOf : List ℕ → List ℕ
 partsOf body = commandOf body ∷ numberOf body ∷ flagsOf body ∷ length (payloadOf body) ∷ []
 
 -- FRAME: its places, and what its body says
-abbrev pub frameText : Row → List ℕ → List ℕ
-frameText r body = textOf (ascii "frame") (placesOf r ++ partsOf body) (ascii "\n")
+abbrev pub frameText : List ℕ → Row → List ℕ → List ℕ
+frameText before r body = textOf before (ascii "frame") (placesOf r ++ partsOf body) (ascii "\n")
+
+-- the columns that a refused frame does not have
+abbrev pub dashes : List ℕ
+dashes = ascii " - - - -\n"
 
 -- "Refused frames print their name in small letters and four dashes"
-abbrev pub refusedText : String → Row → List ℕ
-refusedText name r = textOf (ascii name) (placesOf r) (ascii " - - - -\n")
+abbrev pub refusedText : List ℕ → String → Row → List ℕ
+refusedText before name r = textOf before (ascii name) (placesOf r) dashes
 
 -- the line of an answer, by the table's numbers. Paper 01 names no line for MORE, STATE and USED, and they have none
-abbrev pub answerText : Row → List ℕ → List ℕ
-answerText r body =
-    cond (eqb (r .number) 1) (frameText r body)
-    (cond (eqb (r .number) 11) (refusedText "short" r)
-    (cond (eqb (r .number) 12) (refusedText "long" r)
-    (cond (eqb (r .number) 13) (refusedText "stuff" r)
-    (cond (eqb (r .number) 14) (refusedText "cut" r)
-    (cond (eqb (r .number) 15) (refusedText "sum" r) [])))))
+abbrev pub answerText : List ℕ → Row → List ℕ → List ℕ
+answerText before r body =
+    cond (eqb (r .number) 1) (frameText before r body)
+    (cond (eqb (r .number) 11) (refusedText before "short" r)
+    (cond (eqb (r .number) 12) (refusedText before "long" r)
+    (cond (eqb (r .number) 13) (refusedText before "stuff" r)
+    (cond (eqb (r .number) 14) (refusedText before "cut" r)
+    (cond (eqb (r .number) 15) (refusedText before "sum" r) [])))))
+
+-- no line has more bytes from its word on (claim `longest`), so an output with room for so many has room for any
+abbrev pub lineRoom : ℕ
+lineRoom = 132
 
 -- "the last line is `clean` with the bytes taken, or `open` with the start". STATE has none, as paper 01 names none
-abbrev pub lastOf : Row → List ℕ
-lastOf r =
-    cond (eqb (r .number) 2) (textOf (ascii "clean") (getD (r .values) 0 0 ∷ []) (ascii "\n"))
-    (cond (eqb (r .number) 16) (textOf (ascii "open") (getD (r .values) 1 0 ∷ []) (ascii "\n")) [])
+abbrev pub lastOf : List ℕ → Row → List ℕ
+lastOf before r =
+    cond (eqb (r .number) 2) (textOf before (ascii "clean") (getD (r .values) 0 0 ∷ []) (ascii "\n"))
+    (cond (eqb (r .number) 16) (textOf before (ascii "open") (getD (r .values) 1 0 ∷ []) (ascii "\n")) [])

@@ -1,4 +1,4 @@
-// A line's text: a word, decimal numbers and the line's rest, one behind the other.
+// A line's text: what stands before the word, the word, decimal numbers and the line's rest, one behind the other.
 use super::decimal::put_decimal;
 use super::decimal::width;
 ghost use mathlib.Core.Path.{_≡_};
@@ -71,16 +71,27 @@ fn put_bytes(out: &mut [u8], at: usize, bytes: &[u8]) -> usize
 }
 
 // A line at the front of the output, or refused with the output as it was.
-pub(crate) fn put_line(word: &[u8], numbers: &[u64], rest: &[u8], out: &mut [u8]) -> Lined
+pub(crate) fn put_line(
+    before: &[u8],
+    word: &[u8],
+    numbers: &[u64],
+    rest: &[u8],
+    out: &mut [u8],
+) -> Lined
     requires { ⌜ (length (now word) ≤ 64) × (length (now numbers) ≤ 16) × (length (now rest) ≤ 64) ⌝ }
-    ensures { λ r. ⌜ Puts r (now (out .exit))
-        (textOf (now (word .entry)) (now (numbers .entry)) (now (rest .entry))) (now (out .entry)) ⌝ }
+    ensures { λ r. ⌜ Puts r (now (out .exit)) (textOf (now (before .entry))
+        (now (word .entry)) (now (numbers .entry)) (now (rest .entry))) (now (out .entry)) ⌝ }
+    ensures { λ r. ⌜ length (textOf (now (before .entry))
+        (now (word .entry)) (now (numbers .entry)) (now (rest .entry)))
+        ≤ length (now (before .entry)) + length (now (word .entry)) + 21 * length (now (numbers .entry))
+        + length (now (rest .entry)) ⌝ }
 {
-    let size = word.len() + columns_width(numbers) + rest.len();
+    let size = before.len() + word.len() + columns_width(numbers) + rest.len();
     if out.len() < size {
         return Lined::Room;
     }
-    let behind_word = put_bytes(out, 0, word);
+    let at_word = put_bytes(out, 0, before);
+    let behind_word = put_bytes(out, at_word, word);
     let behind_numbers = put_columns(out, behind_word, numbers);
     Lined::Wrote {
         count: put_bytes(out, behind_numbers, rest),

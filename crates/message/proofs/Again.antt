@@ -11,7 +11,7 @@ use lib.Seq.{length-take-le, take-all, take-nil, drop-nil, drop-at}
 use Rattle.base.specs.Numbers.{twoAt}
 use Rattle.base.specs.Keys.{among}
 use Rattle.message.specs.Commands.{kindOf, table, lineIn, fits, sizeFits, valuesOf, partsIn}
-use Rattle.message.specs.Counter.{controlValues, controlAllowed, controlIn}
+use Rattle.message.specs.Counter.{controlValues, controlIn}
 use Rattle.message.specs.Parts.{place, nowhere, bytesOf, bytesIn}
 use Rattle.message.specs.Writing.{commandIn, messageIn, readIn}
 use Rattle.message.specs.Claims.{lentOf, lentParts, Decodes}
@@ -56,12 +56,12 @@ lent-none c = simp (take-nil, drop-nil, cond-same)
 -- the control of a payload that is read as one
 pub control-read :
     (p : List ℕ) (c : Control) → Accepted kind.Action 0x03 p (0x03 ∷ 1 ∷ controlIn c)
-    → (controlAllowed (drop 1 p) ≡ true) × (controlValues (drop 1 p) ≡ controlIn c)
+    → controlValues (drop 1 p) ≡ controlIn c
 control-read p c a =
     let first : getD p 0 0 ≡ 1 = value 1 (a .values) in
     let values : cond (eqb (getD p 0 0) 1) (controlValues (drop 1 p)) [] ≡ controlIn c = ap (λ (l : List ℕ). drop 2 l)
     (a .values) in
-    (rw first at (a .allows), rw first at values)
+    rw first at values
 
 -- ---- parts of device information
 
@@ -115,7 +115,7 @@ same p (message.Information timeout more) a =
     }
 same p (message.Control control) a =
     record {
-      values = ap (λ (l : List ℕ). 0x03 ∷ 1 ∷ l) (effective-control (drop 1 p) control (control-read p control a .1));
+      values = ap (λ (l : List ℕ). 0x03 ∷ 1 ∷ l) (effective-control (drop 1 p) control (control-read p control a));
       parts = refl;
     }
 same p message.Query a = record { values = refl; parts = refl }

@@ -1,15 +1,22 @@
 -- The worked claims: example 4 of paper 01, payloads, answers. By computation; assumes nothing.
-use borrow.Author.Tests.{le-ltb}
+use Prim.Native.Nat.{ℕ}
+use borrow.Author.Tests.{le-ltb, eqb-false}
 use native.Mathlib.Omega.{arith}
 use lib.ListN.{length}
-use mathlib.Core.Path.{_≡_, refl}
-use mathlib.Core.Bool.{Bool, true, false, cond}
+use mathlib.Core.Path.{_≡_, refl, ap}
+use mathlib.Core.Bool.{true, false}
+use mathlib.Core.List.{List, []}
 use Rattle.base.specs.Sums.{total}
+use Rattle.base.specs.Rows.{Row, row}
 use Rattle.base.specs.Keys.{among}
+use Rattle.base.proofs.Tests.{by-test, either-way}
 use Rattle.frame.specs.Wire.{stuff, bodyOf}
-use Rattle.message.specs.Commands.{table, lineIn, fromBox, sizeFits, fits}
-use Rattle.message.specs.Claims.{Example4, WorkedPayloads, WorkedAnswers, WorkedReplies, FaultsAnswered}
-use Rattle.message.specs.declared.kind.Due.the-variants as due
+use Rattle.message.specs.Commands.{table, lineIn, kindOf, isListed, fromBox, sizeFits, fits, allowed}
+use Rattle.message.specs.Reading.{Read, decodeAs, readOf}
+use Rattle.message.specs.Claims.{Example4, WorkedPayloads, NamedNumbers, WorkedAnswers, WorkedReplies}
+use Rattle.message.specs.Claims.{FaultsAnswered}
+use Rattle.message.specs.declared.kind.Kind.{Kind}
+use Rattle.message.proofs.Lines.{box-listed}
 
 pub example-4 : Example4
 unfolding stuff total bodyOf among table lineIn
@@ -28,6 +35,9 @@ worked-payloads =
       eight-read = refl;
       eight-written = refl;
     }
+
+pub named-numbers : NamedNumbers
+named-numbers = record { modes = refl; ways = refl; codes = refl; causes = refl }
 
 pub worked-answers : WorkedAnswers
 unfolding among table lineIn sizeFits fits
@@ -50,15 +60,28 @@ worked-replies limit l v out h =
       wrong-sum = rw (le-ltb limit 6 l, le-ltb (length out) 10 h);
     }
 
-same : (b : Bool) → cond b (due.Reject 2) (due.Reject 2) ≡ due.Reject 2
-same true = refl
-same false = refl
+-- what is listed is not COMMAND
+abbrev Known : Read → Type 0
+Known r = r .row .number ≡ 31 → ⊥
+
+known : (k : Kind) (command : ℕ) (p : List ℕ) → isListed k ≡ true → Known (decodeAs k command p)
+known k command p listed =
+    rw listed (by-test Known (sizeFits k p)
+    (λ _. by-test Known (allowed k p) (λ _. eqb-false 0 31 refl) (λ _. eqb-false 33 31 refl))
+    (λ _. eqb-false 32 31 refl))
+
+-- what is not listed is no command of the box
+inward : (command : ℕ) (p : List ℕ) → readOf command p ≡ row 31 [] → fromBox command ≡ false
+inward command p e =
+    either-way (fromBox command)
+    (λ h. absurd (known (kindOf command) command p (box-listed command h) (ap (λ (r : Row). r .number) e)))
+    (λ h. h)
 
 pub faults-answered : FaultsAnswered
 faults-answered command p =
     record {
-      box-only = λ h. rw h;
-      unlisted = λ h. rw h (same (fromBox command));
-      size = λ h e. rw (h, e);
-      field = λ h e. rw (h, e);
+      box-only = λ h. record { cause-is = rw h; told-is = refl; code-is = refl };
+      unlisted = λ e. record { cause-is = rw (inward command p e, e); told-is = refl; code-is = refl };
+      size = λ h e. record { cause-is = rw (h, e); told-is = refl; code-is = refl };
+      field = λ h e. record { cause-is = rw (h, e); told-is = refl; code-is = refl };
     }

@@ -1,4 +1,4 @@
--- The laws, from bits and tables up to the claims of specs/Claims.antt.
+-- The laws, from bits and tables up to the claims of specs/.
 pub mod Lines
 pub mod Reading
 pub mod Rows
@@ -15,3 +15,12 @@ pub mod Written
 pub mod Again
 pub mod ReadWritten
 pub mod MessageRound
+pub mod Sizes
+pub mod Worked
+pub mod Exactly
+pub mod Places
+pub mod Sendings
+pub mod Spelt
+pub mod SameBytes
+pub mod Anywhere
+pub mod BoxReplies

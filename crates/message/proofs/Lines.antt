@@ -82,7 +82,7 @@ only c k n e f =
 neither : {a b : Bool} → a ≡ false → b ≡ false → false ≡ (a || b)
 neither p q = rw (p, q)
 
-unless : {A : Type 0} {t : Bool} (x : A) {y z : A} → t ≡ false → cond t x y ≡ z → y ≡ z
+pub unless : {A : Type 0} {t : Bool} (x : A) {y z : A} → t ≡ false → cond t x y ≡ z → y ≡ z
 unless x h e = rw h at e
 
 abbrev answered : List ℕ

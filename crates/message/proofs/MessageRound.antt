@@ -21,9 +21,10 @@ use Rattle.message.proofs.Tests.{passed}
 use Rattle.message.proofs.Written.{written-read}
 
 -- a call that wrote so many bytes of a frame
-record Wrote (limit : ℕ) (payload w : List ℕ) (count : ℕ) (o : Write) : Type 0 where
-  fits : length payload + 5 ≤ limit
-  front : take count (o .out) ≡ w
+pub record Wrote (limit : ℕ) (payload w : List ℕ) (count : ℕ) (o : Write) : Type 0 where
+  pub fits : length payload + 5 ≤ limit
+  pub counted : length w ≡ count
+  pub front : take count (o .out) ≡ w
 
 wrote :
     (limit command number flags : ℕ) (payload out : List ℕ) (count : ℕ)
@@ -47,15 +48,17 @@ wrote limit command number flags payload out count e = go (ltb limit (length pay
     go false false q e = record {
       fits =
           ltb-false _ _ q;
+      counted = ap (λ (r : Row). getD (r .values) 0 0) e;
       front = take-at w (drop (length w) out) count (ap (λ (r : Row). getD (r .values) 0 0) e);
     }
 
 module _ (limit : ℕ) (m : Message) (number flags count : ℕ) (lent out : List ℕ) where
-  record Sent (o : Write) : Type 0 where
-    writable : Writable m lent
-    frame : Wrote limit (payloadIn m lent) (wire (bodyOf (commandIn m) number flags (payloadIn m lent))) count o
+  pub record Sent (o : Write) : Type 0 where
+    pub writable : Writable m lent
+    pub frame : Wrote limit (payloadIn m lent) (wire (bodyOf (commandIn m) number flags (payloadIn m lent))) count o
 
-  sent : sendOf limit m number flags lent out .row ≡ row 0 (count ∷ []) → Sent (sendOf limit m number flags lent out)
+  pub sent : sendOf limit m number flags lent out .row ≡ row 0 (count ∷ [])
+      → Sent (sendOf limit m number flags lent out)
   sent e =
       let o : Write = writeOf limit (commandIn m) number flags (payloadIn m lent) out in
       let t = passed (λ (w : Write). w .row) (λ n. outcome (row n []) out) (λ n. refl) (isListed (kindOf (commandIn m)))

@@ -5,12 +5,14 @@ use mathlib.Core.Bool.{Bool, true, false}
 use mathlib.Core.List.{List, [], _∷_, _++_}
 use native.Mathlib.Nat.{add-assoc}
 use native.Mathlib.Omega.{arith}
-use borrow.Author.Tests.{eqb-true, eqb-false, ltb-true}
+use borrow.Author.Tests.{eqb-true, eqb-false}
 use lib.Dec.{eqb}
 use lib.ListN.{length, getD}
 use lib.Seq.{getD-append-add, getD-append-seam}
 use Rattle.message.specs.Numbers.{num, eightAt, eight}
-use Rattle.message.specs.Counter.{modeAllowed}
+use Rattle.message.specs.Counter.{modeNumber}
+use Rattle.message.specs.declared.counter.Mode.{Mode}
+use Rattle.message.specs.declared.counter.Mode.the-variants as mode
 
 -- the values at a place of two lists that are the same
 pub value : {l r : List ℕ} (i : ℕ) → l ≡ r → getD l i 0 ≡ getD r i 0
@@ -40,7 +42,15 @@ lowest x = go (eqb (x % 2) 1) refl
     go true e = omega (arith, eqb-true)
     go false e = omega (arith, eqb-false)
 
--- a mode that may be written is at most 2
-pub mode-most : (set : Bool) (mode : ℕ) → modeAllowed set mode ≡ true → num set * mode ≤ 2
-mode-most true mode e = omega (arith, ltb-true)
-mode-most false mode e = omega arith
+-- ---- modes
+
+-- a mode's number is at most 2
+pub mode-most : (m : Mode) → modeNumber m ≤ 2
+mode-most mode.Fold = omega arith
+mode-most mode.Gather = omega arith
+mode-most mode.Sew = omega arith
+
+-- and so where its flag may be 0
+pub set-most : (set : Bool) (m : Mode) → num set * modeNumber m ≤ 2
+set-most true m = omega (arith, mode-most m)
+set-most false m = omega arith

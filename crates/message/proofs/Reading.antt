@@ -14,6 +14,7 @@ use Rattle.message.specs.Commands.{valuesOf, partsIn, kindOf, lineOf}
 use Rattle.base.specs.Keys.{among}
 use Rattle.message.specs.Parts.{noParts}
 use Rattle.message.specs.Reading.{Read, judgedOf, decodeAs, decodeOf}
+use Rattle.message.specs.declared.parts.Parts.{Parts}
 use Rattle.message.specs.declared.kind.Kind.{Kind}
 use Rattle.message.specs.declared.kind.Line.{Line}
 use Rattle.message.proofs.Lines.{soleOf, only}
@@ -60,7 +61,7 @@ first-none p e = List·getD-eq-default p 0 (omega arith)
 
 -- ---- a kind that has one size, or a least one
 
-whole : (t : Bool) → cond t true false ≡ t
+pub whole : (t : Bool) → cond t true false ≡ t
 whole true = refl
 whole false = refl
 
@@ -74,14 +75,21 @@ module _ (k : Kind) (p : List ℕ) (any : chosenOf k (getD p 0 0) ≡ from 0) wh
 
 -- ---- a layout that the first byte chooses
 
+-- only allowed values matter
+pub where-allowed : (sized allows : Bool) {values others : List ℕ} (parts : Parts) → (allows ≡ true → values ≡ others)
+    → judgedOf sized allows values parts ≡ judgedOf sized allows others parts
+where-allowed sized true parts same = rw (same refl)
+where-allowed sized false parts same = refl
+
 -- a payload of one of its line's sizes is judged by the size of that layout
 pub chosen : (k : Kind) (command n : ℕ) (p : List ℕ) {r : Read} (a : Bool) (values : List ℕ)
     → r ≡ judgedOf (eqb (length p) n) a (command ∷ values) (partsIn k p)
     → isListed k ≡ true → fits (sizesOf k) p ≡ true → chosenOf k (getD p 0 0) ≡ exactly (n ∷ []) → a ≡ allowed k p
-    → values ≡ valuesOf k p
+    → (a ≡ true → values ≡ valuesOf k p)
     → r ≡ decodeAs k command p
 chosen k command n p a values f listed size layout allows e =
-    f ∙ simp (listed, size-fits, size, layout, fits-exactly, among-next, among-none, whole, allows, e)
+    f ∙ where-allowed (eqb (length p) n) a (partsIn k p) (λ t. ap (λ (l : List ℕ). command ∷ l) (e t))
+    ∙ simp (listed, size-fits, size, layout, fits-exactly, among-next, among-none, whole, allows)
 
 -- ---- a kind that has one size and no parts
 
@@ -95,14 +103,17 @@ pub judged-one :
 judged-one k command n p a values f size any listed none allows e =
     f ∙ simp (listed, sized-one k p any n size, none, allows, e)
 
--- one byte, which was tested
+-- one byte, which was tested and stands for a value
 pub judged-byte :
-    (k : Kind) (command : ℕ) (p : List ℕ) {r : Read} (byte : ℕ) (a : Bool)
-    → r ≡ judgedOf (eqb (length p) 1) a (command ∷ byte ∷ []) noParts → byte ≡ getD p 0 0 → a ≡ allowed k (byte ∷ [])
-    → sizesOf k ≡ exactly (1 ∷ []) → chosenOf k (getD p 0 0) ≡ from 0 → isListed k ≡ true → partsIn k p ≡ noParts
+    (k : Kind) (command n : ℕ) (p : List ℕ) {r : Read} (byte number : ℕ) (a : Bool)
+    → r ≡ judgedOf (eqb (length p) n) a (command ∷ number ∷ []) noParts → byte ≡ getD p 0 0 → a ≡ allowed k (byte ∷ [])
+    → (allowed k (byte ∷ []) ≡ true → number ≡ byte)
+    → sizesOf k ≡ exactly (n ∷ []) → chosenOf k (getD p 0 0) ≡ from 0 → isListed k ≡ true → partsIn k p ≡ noParts
     → allowed k p ≡ allowed k (getD p 0 0 ∷ []) → valuesOf k p ≡ getD p 0 0 ∷ [] → r ≡ decodeAs k command p
-judged-byte k command p byte a f e q size any listed none allows values =
-    judged-one k command 1 p a (byte ∷ []) f size any listed none
+judged-byte k command n p byte number a f e q stands size any listed none allows values =
+    judged-one k command n p a (byte ∷ [])
+    (f ∙ where-allowed (eqb (length p) n) a noParts (λ t. ap (λ (b : ℕ). command ∷ b ∷ []) (stands (sym q ∙ t))))
+    size any listed none
     (q ∙ ap (λ (b : ℕ). allowed k (b ∷ [])) e ∙ sym allows) (ap (λ (b : ℕ). b ∷ []) e ∙ sym values)
 
 -- ---- a command's line

@@ -8,13 +8,22 @@ use lib.Dec.{eqb}
 use Rattle.base.specs.Rows.{Row}
 use Rattle.base.proofs.Rows.{told-apart}
 use Rattle.message.specs.Numbers.{num}
-use Rattle.message.specs.Counter.{statusIn, controlIn}
+use Rattle.message.specs.Counter.{modeNumber, statusIn, controlIn}
+use Rattle.message.specs.Commands.{wayNumber, codeNumber}
 use Rattle.message.specs.Reading.{Read}
 use Rattle.message.specs.Writing.{networkIn, unixIn, timeIn, messageIn}
-use Rattle.message.specs.Table.{readingOf, sentRowOf, replyRowOf}
+use Rattle.message.specs.Table.{readingOf, sentRowOf, causeNumber, replyRowOf}
 use Rattle.message.specs.Claims.{RowsTell}
+use Rattle.message.specs.declared.counter.Mode.{Mode}
+use Rattle.message.specs.declared.counter.Mode.the-variants as mode
 use Rattle.message.specs.declared.counter.Control.{Control}
 use Rattle.message.specs.declared.counter.Status.{Status}
+use Rattle.message.specs.declared.kind.Cause.{Cause}
+use Rattle.message.specs.declared.kind.Cause.the-variants as cause
+use Rattle.message.specs.declared.values.Way.{Way}
+use Rattle.message.specs.declared.values.Way.the-variants as way
+use Rattle.message.specs.declared.values.Code.{Code}
+use Rattle.message.specs.declared.values.Code.the-variants as code
 use Rattle.message.specs.declared.values.Time.{Time}
 use Rattle.message.specs.declared.values.Extra.{Extra}
 use Rattle.message.specs.declared.values.Extra.the-variants as extra
@@ -30,7 +39,46 @@ use Rattle.message.specs.declared.writer.Sent.the-variants as sent
 use Rattle.message.specs.declared.replies.Reply.{Reply}
 use Rattle.message.specs.declared.replies.Reply.the-variants as reply
 
+-- what stands under a number, or else
+abbrev under : {A : Type 0} → ℕ → ℕ → A → A → A
+under x n a other = cond (eqb x n) a other
+
 -- ---- the values
+
+abbrev modeFrom : ℕ → Mode
+modeFrom n = under n 0 mode.Fold (under n 1 mode.Gather mode.Sew)
+
+mode-back : (m : Mode) → modeFrom (modeNumber m) ≡ m
+mode-back mode.Fold = refl
+mode-back mode.Gather = refl
+mode-back mode.Sew = refl
+
+abbrev wayFrom : ℕ → Way
+wayFrom n = under n 1 way.SoftAp way.AirLink
+
+way-back : (w : Way) → wayFrom (wayNumber w) ≡ w
+way-back way.SoftAp = refl
+way-back way.AirLink = refl
+
+abbrev codeFrom : ℕ → Code
+codeFrom n = under n 1 code.Sum (under n 2 code.Command (under n 3 code.Other code.FileType))
+
+code-back : (c : Code) → codeFrom (codeNumber c) ≡ c
+code-back code.Sum = refl
+code-back code.Command = refl
+code-back code.Other = refl
+code-back code.FileType = refl
+
+abbrev causeFrom : ℕ → Cause
+causeFrom n =
+    under n 15 cause.Sum (under n 31 cause.Command (under n 32 cause.Size (under n 33 cause.Field cause.BoxCommand)))
+
+cause-back : (c : Cause) → causeFrom (causeNumber c) ≡ c
+cause-back cause.Sum = refl
+cause-back cause.Command = refl
+cause-back cause.Size = refl
+cause-back cause.Field = refl
+cause-back cause.BoxCommand = refl
 
 flag-back : (b : Bool) → eqb (num b) 1 ≡ b
 flag-back true = refl
@@ -60,7 +108,7 @@ module _ (l : List ℕ) where
       record {
         feeding = f 0;
         lamp = f 1;
-        mode = v 2;
+        mode = modeFrom (v 2);
         volume = v 3;
         leaf = v 4;
         double = f 5;
@@ -70,7 +118,12 @@ module _ (l : List ℕ) where
 
   abbrev controlFrom : Control
   controlFrom =
-      record { flags = record { lamp = f 0; mode = f 1; volume = f 2 }; lamp = f 3; mode = v 4; volume = v 5 }
+      record {
+        flags = record { lamp = f 0; mode = f 1; volume = f 2 };
+        lamp = f 3;
+        mode = modeFrom (v 4);
+        volume = v 5;
+      }
 
   abbrev networkFrom : Network
   networkFrom =
@@ -91,10 +144,10 @@ module _ (l : List ℕ) where
       record { year = v 0; month = v 1; day = v 2; hour = v 3; minute = v 4; second = v 5; unix = unixFrom (drop 6 l) }
 
 status-back : (s : Status) → statusFrom (statusIn s) ≡ s
-status-back s = simp flag-back
+status-back s = simp (flag-back, mode-back)
 
 control-back : (c : Control) → controlFrom (controlIn c) ≡ c
-control-back c = simp flag-back
+control-back c = simp (flag-back, mode-back)
 
 network-back : (n : Network) → networkFrom (networkIn n) ≡ n
 network-back n = simp flag-back
@@ -109,10 +162,6 @@ extraFrom size attributes =
 
 -- ---- a message
 
--- what stands under a number, or else
-abbrev under : {A : Type 0} → ℕ → ℕ → A → A → A
-under x n a other = cond (eqb x n) a other
-
 -- with a first value, and others
 abbrev bodied : ℕ → ℕ → List ℕ → Message
 bodied command first l =
@@ -120,10 +169,10 @@ bodied command first l =
     (under command 0x03 (under first 1 (message.Control (controlFrom l)) message.Query)
     (under command 0x04 (message.Status (statusFrom l))
     (under command 0x05 (message.Report (statusFrom l))
-    (under command 0x09 (message.Onboarding first)
+    (under command 0x09 (message.Onboarding (wayFrom first))
     (under command 0x0D (message.Network (networkFrom (first ∷ l)))
-    (under command 0x11 (message.ModuleReject first)
-    (under command 0x12 (message.BoxReject first)
+    (under command 0x11 (message.ModuleReject (codeFrom first))
+    (under command 0x12 (message.BoxReject (codeFrom first))
     (under command 0x18 (message.Time (timeFrom (first ∷ l)))
     (under command 0x19 (message.Announcement first)
     (under command 0x1B (message.Ready first) (message.Piece first (value l 0))))))))))))
@@ -143,10 +192,10 @@ message-back (message.Control control) = ap message.Control (control-back contro
 message-back message.Query = refl
 message-back (message.Status status) = ap message.Status (status-back status)
 message-back (message.Report status) = ap message.Report (status-back status)
-message-back (message.Onboarding way) = refl
+message-back (message.Onboarding way) = ap message.Onboarding (way-back way)
 message-back (message.Network network) = ap message.Network (network-back network)
-message-back (message.ModuleReject code) = refl
-message-back (message.BoxReject code) = refl
+message-back (message.ModuleReject code) = ap message.ModuleReject (code-back code)
+message-back (message.BoxReject code) = ap message.BoxReject (code-back code)
 message-back (message.Time time) = ap message.Time (time-back time)
 message-back (message.Announcement size) = refl
 message-back (message.Ready size) = refl
@@ -189,7 +238,7 @@ doneFrom (count ∷ []) = reply.Acknowledged count
 doneFrom (count ∷ command ∷ []) = reply.Nothing
 doneFrom (count ∷ command ∷ value ∷ l) =
     under command 0x02 (reply.InformationWanted value)
-    (under command 0x04 (reply.StatusWanted value) (reply.Rejected count value))
+    (under command 0x04 (reply.StatusWanted value) (reply.Rejected count (codeFrom value) (causeFrom (getD l 0 0))))
 
 abbrev replyFrom : Row → Reply
 replyFrom r = under (r .number) 22 reply.Room (doneFrom (r .values))
@@ -199,7 +248,7 @@ reply-back reply.Nothing = refl
 reply-back (reply.InformationWanted number) = refl
 reply-back (reply.StatusWanted number) = refl
 reply-back (reply.Acknowledged count) = refl
-reply-back (reply.Rejected count code) = refl
+reply-back (reply.Rejected count code cause) = simp (code-back code, cause-back cause)
 reply-back reply.Room = refl
 
 pub rows-tell : RowsTell

@@ -63,7 +63,11 @@ pub arm :
     → w ≡ sendOf limit m number flags lent out → w ≡ sendOf limit message number flags lent out
 arm m limit number flags lent out told e = e ∙ ap (λ (x : Message). sendOf limit x number flags lent out) (sym told)
 
-pub ruleset arms = (arm, bare)
+-- a payload of one byte
+pub one-byte : {a b : ℕ} → a ≡ b → a ∷ [] ≡ b ∷ []
+one-byte p = rw p
+
+pub ruleset arms = (arm, bare, one-byte)
 
 -- ---- no payload, by what reading says of it
 

@@ -27,6 +27,7 @@ use Rattle.message.specs.declared.values.Message.the-variants as message
 use Rattle.base.proofs.Lists.{no-bytes, all-same}
 use Rattle.base.proofs.Numbers.{two-behind, two-back}
 use Rattle.message.proofs.Fields.{status-back, status-allowed, control-back, control-allowed, network-back}
+use Rattle.message.proofs.Fields.{way-allowed, code-allowed}
 use Rattle.message.proofs.Information.{information-back}
 use Rattle.message.proofs.Accepted.{Accepted, accepted, Back, read-back}
 use Rattle.message.proofs.Lines.{by-kind}
@@ -93,20 +94,18 @@ back (message.Empty c) lent w =
     }
 back (message.Information timeout more) lent w = information-back timeout more lent (w .sized)
 back (message.Control control) lent w =
-    plain refl refl refl (control-allowed control (w .allows))
-    (ap (λ (l : List ℕ). 0x03 ∷ 1 ∷ l) (control-back control (w .allows)))
+    plain refl refl refl (control-allowed control)
+    (ap (λ (l : List ℕ). 0x03 ∷ 1 ∷ l) (control-back control))
 back message.Query lent w = plain refl refl refl refl refl
 back (message.Status status) lent w =
-    plain refl refl refl (status-allowed status (w .allows))
-    (ap (λ (l : List ℕ). 0x04 ∷ 3 ∷ l) (status-back status (w .allows)))
+    plain refl refl refl (status-allowed status) (ap (λ (l : List ℕ). 0x04 ∷ 3 ∷ l) (status-back status))
 back (message.Report status) lent w =
-    plain refl refl refl (status-allowed status (w .allows))
-    (ap (λ (l : List ℕ). 0x05 ∷ 4 ∷ l) (status-back status (w .allows)))
-back (message.Onboarding way) lent w = plain refl refl refl (w .allows) refl
+    plain refl refl refl (status-allowed status) (ap (λ (l : List ℕ). 0x05 ∷ 4 ∷ l) (status-back status))
+back (message.Onboarding way) lent w = plain refl refl refl (way-allowed way) refl
 back (message.Network network) lent w = plain refl refl refl refl
     (ap (λ (l : List ℕ). 0x0D ∷ l) (network-back network (w .allows)))
-back (message.ModuleReject code) lent w = plain refl refl refl (w .allows) refl
-back (message.BoxReject code) lent w = plain refl refl refl (w .allows) refl
+back (message.ModuleReject code) lent w = plain refl refl refl (code-allowed code) refl
+back (message.BoxReject code) lent w = plain refl refl refl (code-allowed code) refl
 back (message.Time time) lent w = time-back (time .unix)
   where
     time-back : (u : Unix) → Back kind.Time 0x18 (timeBytes time (unixBytes u))

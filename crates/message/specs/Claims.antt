@@ -17,11 +17,16 @@ use Rattle.frame.specs.Logs.{Call, Entry, logOf, stateAfter, stream}
 use Rattle.frame.specs.Claims.{ReadBack}
 use Rattle.message.specs.Numbers.{num, eightAt, eight}
 use Rattle.message.specs.Commands.{CommandLine, table, sizesOf, kindOf, isListed, fromBox, owedOf}
-use Rattle.message.specs.Table.{readingOf, sentRowOf, replyRowOf}
+use Rattle.message.specs.Commands.{wayNumber, codeNumber}
+use Rattle.message.specs.Counter.{modeNumber}
+use Rattle.message.specs.Table.{readingOf, sentRowOf, causeNumber, replyRowOf}
 use Rattle.message.specs.Reading.{readOf, partsOf}
 use Rattle.message.specs.Parts.{EachPlace, bytesIn, PartAt}
 use Rattle.message.specs.Writing.{commandIn, messageIn, readIn, payloadIn, lentFits, allowedIn, sendOf}
-use Rattle.message.specs.Answers.{dueFor, dueOf, rejectOf, answerOf}
+use Rattle.message.specs.Answers.{dueFor, dueOf, codeFor, rejectOf, answerOf}
+use Rattle.message.specs.declared.counter.Mode.the-variants as mode
+use Rattle.message.specs.declared.values.Way.the-variants as way
+use Rattle.message.specs.declared.values.Code.the-variants as code
 use Rattle.message.specs.declared.values.Message.{Message}
 use Rattle.message.specs.declared.values.Message.the-variants as message
 use Rattle.message.specs.declared.values.Unix.the-variants as unix
@@ -30,6 +35,8 @@ use Rattle.message.specs.declared.parts.Place.{Place}
 use Rattle.message.specs.declared.reader.Reading.{Reading}
 use Rattle.message.specs.declared.writer.Sent.{Sent}
 use Rattle.message.specs.declared.kind.Kind.the-variants as kind
+use Rattle.message.specs.declared.kind.Cause.{Cause}
+use Rattle.message.specs.declared.kind.Cause.the-variants as cause
 use Rattle.message.specs.declared.kind.Due.the-variants as due
 use Rattle.message.specs.declared.replies.Reply.{Reply}
 
@@ -188,8 +195,10 @@ BoxSends command p m = (fromBox command ≡ true) × (readOf command p ≡ row 0
 -- what is due to a frame, and to a wrong sum
 pub record AnswersRead (command : ℕ) (p : List ℕ) : Type 0 where
   pub acknowledged : (c : ℕ) → dueOf command p ≡ due.Acknowledge c → (c ≡ command + 1) × BoxSends c [] (message.Empty c)
-  pub rejected : (code : ℕ) → dueOf command p ≡ due.Reject code → BoxSends 0x12 (code ∷ []) (message.BoxReject code)
-  pub wrong-sum : BoxSends 0x12 (1 ∷ []) (message.BoxReject 1)
+  pub rejected :
+      (cause : Cause) → dueOf command p ≡ due.Reject cause
+      → BoxSends 0x12 (codeNumber (codeFor cause) ∷ []) (message.BoxReject (codeFor cause))
+  pub wrong-sum : BoxSends 0x12 (1 ∷ []) (message.BoxReject code.Sum)
 
 -- to every frame
 abbrev pub AnswersAreRead : Type 0
@@ -202,7 +211,7 @@ example4 =
     (record {
       feeding = true;
       lamp = false;
-      mode = 1;
+      mode = mode.Gather;
       volume = 3;
       leaf = 255;
       double = false;
@@ -241,7 +250,7 @@ pub record WorkedPayloads : Type 0 where
       ≡ row 0 (messageIn (message.Status (record {
         feeding = true;
         lamp = false;
-        mode = 1;
+        mode = mode.Gather;
         volume = 3;
         leaf = 255;
         double = false;
@@ -254,7 +263,7 @@ pub record WorkedPayloads : Type 0 where
       ≡ row 0 (messageIn (message.Control (record {
         flags = record { lamp = true; mode = true; volume = true };
         lamp = true;
-        mode = 1;
+        mode = mode.Gather;
         volume = 3;
       })))
   pub information :
@@ -262,6 +271,16 @@ pub record WorkedPayloads : Type 0 where
       ≡ row 0 (messageIn (message.Information 30 (extra.Attributes 1)))
   pub eight-read : eightAt (1 ∷ 2 ∷ 3 ∷ 4 ∷ 5 ∷ 6 ∷ 7 ∷ 8 ∷ []) 0 ≡ 72623859790382856
   pub eight-written : eight 72623859790382856 [] ≡ 1 ∷ 2 ∷ 3 ∷ 4 ∷ 5 ∷ 6 ∷ 7 ∷ 8 ∷ []
+
+-- ---- named-numbers: the number of each mode, way and error code, and of each cause; the one that the table has no
+-- number for has 0
+pub record NamedNumbers : Type 0 where
+  pub modes : map modeNumber (mode.Fold ∷ mode.Gather ∷ mode.Sew ∷ []) ≡ 0 ∷ 1 ∷ 2 ∷ []
+  pub ways : map wayNumber (way.SoftAp ∷ way.AirLink ∷ []) ≡ 1 ∷ 2 ∷ []
+  pub codes : map codeNumber (code.Sum ∷ code.Command ∷ code.Other ∷ code.FileType ∷ []) ≡ 1 ∷ 2 ∷ 3 ∷ 4 ∷ []
+  pub causes :
+      map causeNumber (cause.Sum ∷ cause.Command ∷ cause.Size ∷ cause.Field ∷ cause.BoxCommand ∷ [])
+      ≡ 15 ∷ 31 ∷ 32 ∷ 33 ∷ 0 ∷ []
 
 -- ---- worked-answers: what the box does about each answer of the reader: the caller is asked, a wrong sum is rejected,
 -- and another refused frame gets nothing
@@ -272,7 +291,7 @@ pub record WorkedAnswer (limit number : ℕ) (v body out : List ℕ) : Type 0 wh
   pub wants-status :
       answerOf limit (row 1 v) (0 ∷ 6 ∷ 0x03 ∷ number ∷ 0 ∷ 0 ∷ 2 ∷ []) out
       ≡ outcome (row 0 (0 ∷ 0x04 ∷ number ∷ [])) out
-  pub wrong-sum : answerOf limit (row 15 v) body out ≡ rejectOf limit 1 (numberOf body) out
+  pub wrong-sum : answerOf limit (row 15 v) body out ≡ rejectOf limit cause.Sum (numberOf body) out
   pub silent-short : answerOf limit (row 11 v) body out ≡ outcome (row 0 []) out
   pub silent-long : answerOf limit (row 12 v) body out ≡ outcome (row 0 []) out
   pub silent-stuff : answerOf limit (row 13 v) body out ≡ outcome (row 0 []) out
@@ -290,19 +309,27 @@ pub record WorkedReply (limit : ℕ) (v out : List ℕ) : Type 0 where
       (0xFF ∷ 0xFF ∷ 0x00 ∷ 0x05 ∷ 0x08 ∷ 0x09 ∷ 0x00 ∷ 0x00 ∷ 0x16 ∷ drop 9 out)
   pub wrong-sum :
       answerOf limit (row 15 v) (0 ∷ 5 ∷ 0x07 ∷ 9 ∷ 0 ∷ 0 ∷ 0 ∷ []) out
-      ≡ outcome (row 0 (10 ∷ 0x12 ∷ 1 ∷ []))
+      ≡ outcome (row 0 (10 ∷ 0x12 ∷ 1 ∷ 15 ∷ []))
       (0xFF ∷ 0xFF ∷ 0x00 ∷ 0x06 ∷ 0x12 ∷ 0x09 ∷ 0x00 ∷ 0x00 ∷ 0x01 ∷ 0x22 ∷ drop 10 out)
 
 -- into any output with room for ten bytes, under any limit that lets a payload of one byte pass
 abbrev pub WorkedReplies : Type 0
 WorkedReplies = (limit : ℕ) → 6 ≤ limit → (v out : List ℕ) → 10 ≤ length out → WorkedReply limit v out
 
--- ---- faults-answered: the code that a frame with a fault is rejected with
+-- ---- faults-answered: why a frame with a fault is rejected, and with which code
+
+-- a frame is rejected for this cause, told as this number, and with this code
+pub record Rejects (command : ℕ) (p : List ℕ) (why : Cause) (told code : ℕ) : Type 0 where
+  pub cause-is : dueOf command p ≡ due.Reject why
+  pub told-is : causeNumber why ≡ told
+  pub code-is : codeNumber (codeFor why) ≡ code
+
+-- each fault
 pub record FaultAnswered (command : ℕ) (p : List ℕ) : Type 0 where
-  pub box-only : fromBox command ≡ true → dueOf command p ≡ due.Reject 2
-  pub unlisted : readOf command p ≡ row 31 [] → dueOf command p ≡ due.Reject 2
-  pub size : fromBox command ≡ false → readOf command p ≡ row 32 [] → dueOf command p ≡ due.Reject 3
-  pub field : fromBox command ≡ false → readOf command p ≡ row 33 [] → dueOf command p ≡ due.Reject 3
+  pub box-only : fromBox command ≡ true → Rejects command p cause.BoxCommand 0 2
+  pub unlisted : readOf command p ≡ row 31 [] → Rejects command p cause.Command 31 2
+  pub size : fromBox command ≡ false → readOf command p ≡ row 32 [] → Rejects command p cause.Size 32 3
+  pub field : fromBox command ≡ false → readOf command p ≡ row 33 [] → Rejects command p cause.Field 33 3
 
 -- of every frame
 abbrev pub FaultsAnswered : Type 0

@@ -27,6 +27,10 @@ use Rattle.message.specs.declared.kind.Kind.the-variants.{
   Ready,
   Piece,
 }
+use Rattle.message.specs.declared.values.Way.{Way}
+use Rattle.message.specs.declared.values.Way.the-variants as way
+use Rattle.message.specs.declared.values.Code.{Code}
+use Rattle.message.specs.declared.values.Code.the-variants as code
 use Rattle.message.specs.declared.kind.Line.{Line}
 use Rattle.message.specs.declared.kind.Due.{Due}
 use Rattle.message.specs.declared.kind.Due.the-variants.{Nothing, AskInformation, Acknowledge}
@@ -143,9 +147,21 @@ owedOf c = lineOf c .owed
 abbrev pub wayAllowed : ℕ → Bool
 wayAllowed way = eqb way 1 || eqb way 2
 
+-- the number that stands for a way
+abbrev pub wayNumber : Way → ℕ
+wayNumber way.SoftAp = 1
+wayNumber way.AirLink = 2
+
 -- "one byte, 1 to 4, else FIELD"
 abbrev pub codeAllowed : ℕ → Bool
 codeAllowed code = leb 1 code && leb code 4
+
+-- the number that stands for an error code
+abbrev pub codeNumber : Code → ℕ
+codeNumber code.Sum = 1
+codeNumber code.Command = 2
+codeNumber code.Other = 3
+codeNumber code.FileType = 4
 
 -- "Another first byte is FIELD."
 abbrev pub actionAllowed : List ℕ → Bool

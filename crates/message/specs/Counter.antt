@@ -6,6 +6,8 @@ use lib.ListN.{getD}
 use lib.Dec.{eqb, ltb}
 use Rattle.base.specs.Numbers.{two, twoAt, fourAt, four}
 use Rattle.message.specs.Numbers.{num, bit, bits}
+use Rattle.message.specs.declared.counter.Mode.{Mode}
+use Rattle.message.specs.declared.counter.Mode.the-variants as mode
 use Rattle.message.specs.declared.counter.Status.{Status}
 use Rattle.message.specs.declared.counter.Control.{Control}
 
@@ -38,32 +40,35 @@ controlAllowed c =
 
 -- ---- the same values of what the code has
 
+-- "0 fold, 1 gather, 2 sew"
+abbrev pub modeNumber : Mode → ℕ
+modeNumber mode.Fold = 0
+modeNumber mode.Gather = 1
+modeNumber mode.Sew = 2
+
 -- a status' values, in the same order
 abbrev pub statusIn : Status → List ℕ
 statusIn s =
-    num (s .feeding) ∷ num (s .lamp) ∷ s .mode ∷ s .volume ∷ s .leaf
+    num (s .feeding) ∷ num (s .lamp) ∷ modeNumber (s .mode) ∷ s .volume ∷ s .leaf
     ∷ num (s .double) ∷ num (s .skipped) ∷ num (s .fault) ∷ []
 
 -- a control's
 abbrev pub controlIn : Control → List ℕ
 controlIn c =
-    num (c .flags .lamp) ∷ num (c .flags .mode) ∷ num (c .flags .volume) ∷ num (c .lamp) ∷ c .mode ∷ c .volume ∷ []
+    num (c .flags .lamp) ∷ num (c .flags .mode) ∷ num (c .flags .volume) ∷ num (c .lamp) ∷ modeNumber (c .mode)
+    ∷ c .volume ∷ []
 
 -- ---- written
 
 -- the status' bytes
 abbrev pub statusBytes : Status → List ℕ
 statusBytes s =
-    (num (s .feeding) + num (s .lamp) * 2 + s .mode * 4)
+    (num (s .feeding) + num (s .lamp) * 2 + modeNumber (s .mode) * 4)
     ∷ two (s .volume) (four (s .leaf) ((num (s .double) + num (s .skipped) * 2 + num (s .fault) * 4) ∷ []))
 
 -- the control's; "A value whose flag is 0 is .. written as 0"
 abbrev pub controlBytes : Control → List ℕ
 controlBytes c =
     (num (c .flags .lamp) + num (c .flags .mode) * 2 + num (c .flags .volume) * 4)
-    ∷ (num (c .flags .lamp) * num (c .lamp) + num (c .flags .mode) * c .mode * 2)
+    ∷ (num (c .flags .lamp) * num (c .lamp) + num (c .flags .mode) * modeNumber (c .mode) * 2)
     ∷ two (num (c .flags .volume) * c .volume) []
-
--- a control's mode that may be written
-abbrev pub modeAllowed : Bool → ℕ → Bool
-modeAllowed set mode = cond set (ltb mode 3) true

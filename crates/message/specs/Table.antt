@@ -1,8 +1,12 @@
 -- The number and the values of each answer, as a row of paper 01's table. A message that was read stands under 0.
+use Prim.Native.Nat.{ℕ}
 use mathlib.Core.List.{[], _∷_}
 use Rattle.base.specs.Rows.{Row, row}
 use Rattle.message.specs.Reading.{Read, got, refusal}
+use Rattle.message.specs.Commands.{codeNumber}
 use Rattle.message.specs.Writing.{messageIn}
+use Rattle.message.specs.declared.kind.Cause.{Cause}
+use Rattle.message.specs.declared.kind.Cause.the-variants as cause
 use Rattle.message.specs.declared.reader.Reading.{Reading}
 use Rattle.message.specs.declared.reader.Reading.the-variants as reading
 use Rattle.message.specs.declared.writer.Sent.{Sent}
@@ -26,12 +30,21 @@ sentRowOf sent.Command = row 31 []
 sentRowOf sent.Size = row 32 []
 sentRowOf sent.Field = row 33 []
 
+-- why a frame was rejected: SUM 15, COMMAND 31, SIZE 32, FIELD 33. A command that only the box sends can be read and
+-- is listed, so no refusal of the table tells of it: 0
+abbrev pub causeNumber : Cause → ℕ
+causeNumber cause.Sum = 15
+causeNumber cause.Command = 31
+causeNumber cause.Size = 32
+causeNumber cause.Field = 33
+causeNumber cause.BoxCommand = 0
+
 -- the box's answer: nothing; no bytes, and the command that the caller is asked for, with the number received;
--- the count of an acknowledgement; the count of a 12, its command and its code; ROOM 22
+-- the count of an acknowledgement; the count of a 12, its command, its code and the cause; ROOM 22
 abbrev pub replyRowOf : Reply → Row
 replyRowOf reply.Nothing = row 0 []
 replyRowOf (reply.InformationWanted number) = row 0 (0 ∷ 0x02 ∷ number ∷ [])
 replyRowOf (reply.StatusWanted number) = row 0 (0 ∷ 0x04 ∷ number ∷ [])
 replyRowOf (reply.Acknowledged count) = row 0 (count ∷ [])
-replyRowOf (reply.Rejected count code) = row 0 (count ∷ 0x12 ∷ code ∷ [])
+replyRowOf (reply.Rejected count code cause) = row 0 (count ∷ 0x12 ∷ codeNumber code ∷ causeNumber cause ∷ [])
 replyRowOf reply.Room = row 22 (0 ∷ [])

@@ -9,9 +9,10 @@ use Rattle.base.specs.Rows.{row}
 use Rattle.base.specs.Outcomes.{Write, outcome}
 use Rattle.frame.specs.Calls.{writeOf}
 use Rattle.message.specs.Numbers.{num, eight}
-use Rattle.message.specs.Commands.{isListed, kindOf, sizeFits, wayAllowed, codeAllowed}
-use Rattle.message.specs.Counter.{statusIn, controlIn, statusBytes, controlBytes, modeAllowed}
+use Rattle.message.specs.Commands.{isListed, kindOf, sizeFits, wayNumber, codeNumber}
+use Rattle.message.specs.Counter.{statusIn, controlIn, statusBytes, controlBytes}
 use Rattle.message.specs.declared.counter.Control.{Control}
+use Rattle.message.specs.declared.counter.Mode.the-variants as mode
 use Rattle.message.specs.declared.values.Extra.{Extra}
 use Rattle.message.specs.declared.values.Extra.the-variants as extra
 use Rattle.message.specs.declared.values.Unix.{Unix}
@@ -89,7 +90,7 @@ effectiveControl c =
     record {
       flags = c .flags;
       lamp = c .flags .lamp && c .lamp;
-      mode = num (c .flags .mode) * c .mode;
+      mode = cond (c .flags .mode) (c .mode) mode.Fold;
       volume = num (c .flags .volume) * c .volume;
     }
 
@@ -103,7 +104,7 @@ pub record Form : Type 0 where
   pub read : List ℕ
   -- 32: whether it is lent as many bytes as it takes
   pub takes : ℕ → Bool
-  -- 33: whether each value may be written: modes, ways and codes as in reading, and a strength that has three bits
+  -- 33: whether each value may be written: only a strength can have more bits than it is written in
   pub allows : Bool
   -- its payload, with the lent bytes
   pub payload : List ℕ → List ℕ
@@ -136,15 +137,14 @@ formOf (message.Information timeout more) =
     lending 0x02 (informationIn timeout more) (λ n. eqb n (informationLent more))
     (informationBytes (informationNumbers timeout more))
 formOf (message.Control control) =
-    bareRead 0x03 (1 ∷ controlIn control) (1 ∷ controlIn (effectiveControl control))
-    (modeAllowed (control .flags .mode) (control .mode)) (1 ∷ controlBytes control)
+    bareRead 0x03 (1 ∷ controlIn control) (1 ∷ controlIn (effectiveControl control)) true (1 ∷ controlBytes control)
 formOf message.Query = bare 0x03 (2 ∷ []) true (2 ∷ [])
-formOf (message.Status status) = bare 0x04 (3 ∷ statusIn status) (ltb (status .mode) 3) (3 ∷ statusBytes status)
-formOf (message.Report status) = bare 0x05 (4 ∷ statusIn status) (ltb (status .mode) 3) (4 ∷ statusBytes status)
-formOf (message.Onboarding way) = bare 0x09 (way ∷ []) (wayAllowed way) (way ∷ [])
+formOf (message.Status status) = bare 0x04 (3 ∷ statusIn status) true (3 ∷ statusBytes status)
+formOf (message.Report status) = bare 0x05 (4 ∷ statusIn status) true (4 ∷ statusBytes status)
+formOf (message.Onboarding way) = bare 0x09 (wayNumber way ∷ []) true (wayNumber way ∷ [])
 formOf (message.Network network) = bare 0x0D (networkIn network) (ltb (network .strength) 8) (networkBytes network)
-formOf (message.ModuleReject code) = bare 0x11 (code ∷ []) (codeAllowed code) (code ∷ [])
-formOf (message.BoxReject code) = bare 0x12 (code ∷ []) (codeAllowed code) (code ∷ [])
+formOf (message.ModuleReject code) = bare 0x11 (codeNumber code ∷ []) true (codeNumber code ∷ [])
+formOf (message.BoxReject code) = bare 0x12 (codeNumber code ∷ []) true (codeNumber code ∷ [])
 formOf (message.Time time) = bare 0x18 (timeIn time) true (timeBytes time (unixBytes (time .unix)))
 formOf (message.Announcement size) = lending 0x19 (size ∷ []) countable (λ lent. four size (two (length lent) lent))
 formOf (message.Ready piece) = lending 0x1B (piece ∷ []) countable (λ lent. two (length lent) (lent ++ two piece []))

@@ -1,6 +1,7 @@
 // The table of commands: what kind of payload each has, whether only the box sends it, and what the box answers to it.
 ghost use mathlib.Core.Path.{_≡_};
 ghost use Rattle.message.specs.Commands.{byBox, toBox, lineWith, lineOf};
+ghost use Rattle.message.specs.Table.{causeNumber};
 ghost use Rattle.message.specs.declared.kind.Due.the-variants as due;
 
 // A kind of payload: what the commands that have it share.
@@ -21,13 +22,22 @@ pub enum Kind {
     Piece,
 }
 
+// Why the box rejects a frame: its sum, what its reading refuses, or that only the box sends its command.
+pub enum Cause {
+    Sum,
+    Command,
+    Size,
+    Field,
+    BoxCommand,
+}
+
 // What a received frame calls for.
 pub enum Due {
     Nothing,
     AskInformation,
     AskStatus,
     Acknowledge { command: u8 },
-    Reject { code: u8 },
+    Reject { cause: Cause },
 }
 
 // A command's line: `outward` where only the box sends it, and what it is owed without a fault.
@@ -35,6 +45,19 @@ pub struct Line {
     pub kind: Kind,
     pub outward: bool,
     pub owed: Due,
+}
+
+// The table's number of a cause; a command that only the box sends is no refusal of the table and has 0.
+pub fn cause_number(cause: Cause) -> u8
+    ensures { λ r. ⌜ r ≡ causeNumber cause ⌝ }
+{
+    match cause {
+        Cause::Sum => 15,
+        Cause::Command => 31,
+        Cause::Size => 32,
+        Cause::Field => 33,
+        Cause::BoxCommand => 0,
+    }
 }
 
 // A command that only the box sends.

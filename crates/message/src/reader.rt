@@ -18,7 +18,9 @@ use super::values::Network;
 use super::values::Time;
 use super::values::Unix;
 use super::values::code_allowed;
+use super::values::code_of;
 use super::values::way_allowed;
+use super::values::way_of;
 ghost use mathlib.Core.Path.{_≡_};
 ghost use Rattle.message.specs.Commands.{lineOf, networkValues, timeValues};
 ghost use Rattle.message.specs.Parts.{noParts};
@@ -267,20 +269,23 @@ fn read_as(line: Line, command: u8, payload: &[u8]) -> Reading
         Kind::Status => read_status(payload),
         Kind::Report => read_report(payload),
         Kind::Onboarding => {
-            let way = base::byte_at(payload, 0);
-            judged(one, way_allowed(way), Message::Onboarding { way })
+            let byte = base::byte_at(payload, 0);
+            let way = way_of(byte);
+            judged(one, way_allowed(byte), Message::Onboarding { way })
         }
         Kind::Network => {
             let network = network_of(payload);
             judged(payload.len() == 2, true, Message::Network { network })
         }
         Kind::ModuleReject => {
-            let code = base::byte_at(payload, 0);
-            judged(one, code_allowed(code), Message::ModuleReject { code })
+            let byte = base::byte_at(payload, 0);
+            let code = code_of(byte);
+            judged(one, code_allowed(byte), Message::ModuleReject { code })
         }
         Kind::BoxReject => {
-            let code = base::byte_at(payload, 0);
-            judged(one, code_allowed(code), Message::BoxReject { code })
+            let byte = base::byte_at(payload, 0);
+            let code = code_of(byte);
+            judged(one, code_allowed(byte), Message::BoxReject { code })
         }
         Kind::Time => read_time(payload),
         Kind::Announcement => read_announcement(payload),

@@ -1,12 +1,12 @@
 // What the box answers: to a frame received, and to a frame refused by its sum.
-use super::BAD_COMMAND;
-use super::BAD_SUM;
-use super::OTHER_FAULT;
+use super::kind::Cause;
 use super::kind::Due;
 use super::kind::line_of;
 use super::reader::Reading;
 use super::reader::read;
+use super::values::Code;
 use super::values::Message;
+use super::values::code_number;
 use frame::Answer;
 use frame::Verdict;
 use frame::Written;
@@ -19,15 +19,26 @@ ghost use Rattle.frame.specs.Calls.{writeOf};
 ghost use Rattle.message.specs.Commands.{owedOf};
 ghost use Rattle.message.specs.Writing.{messageIn};
 ghost use Rattle.message.specs.Table.{readingOf, replyRowOf};
-ghost use Rattle.message.specs.Answers.{dueFor, dueAfter, rejectOf, answerReadOf, answerFrameOf, answerOf};
+ghost use Rattle.message.specs.Answers.{dueFor, dueAfter, codeFor, rejectOf, answerReadOf};
+ghost use Rattle.message.specs.Answers.{answerFrameOf, answerOf};
 
 // What the box did, or asks its caller to do.
 pub enum Reply {
     Nothing,
-    InformationWanted { number: u8 },
-    StatusWanted { number: u8 },
-    Acknowledged { count: usize },
-    Rejected { count: usize, code: u8 },
+    InformationWanted {
+        number: u8,
+    },
+    StatusWanted {
+        number: u8,
+    },
+    Acknowledged {
+        count: usize,
+    },
+    Rejected {
+        count: usize,
+        code: Code,
+        cause: Cause,
+    },
     Room,
 }
 
@@ -66,13 +77,19 @@ fn due_after(command: u8, reading: Reading) -> Due
 {
     let line = line_of(command);
     if line.outward {
-        return Due::Reject { code: BAD_COMMAND };
+        return Due::Reject {
+            cause: Cause::BoxCommand,
+        };
     }
     match reading {
         Reading::Got { message, .. } => due_for(message),
-        Reading::Command => Due::Reject { code: BAD_COMMAND },
-        Reading::Size => Due::Reject { code: OTHER_FAULT },
-        Reading::Field => Due::Reject { code: OTHER_FAULT },
+        Reading::Command => Due::Reject {
+            cause: Cause::Command,
+        },
+        Reading::Size => Due::Reject { cause: Cause::Size },
+        Reading::Field => Due::Reject {
+            cause: Cause::Field,
+        },
     }
 }
 
@@ -91,15 +108,29 @@ fn acknowledge(command: u8, number: u8, out: &mut [u8]) -> Reply
     }
 }
 
-// Word to the module that a frame was invalid, under the number received.
-fn reject(code: u8, number: u8, out: &mut [u8]) -> Reply
-    ensures { λ r. ⌜ outcome (replyRowOf r) (now (out .exit))
-        ≡ rejectOf frameLimit code number (now (out .entry)) ⌝ }
+// The code that the module is told for a cause.
+fn code_for(cause: Cause) -> Code
+    ensures { λ r. ⌜ r ≡ codeFor cause ⌝ }
 {
-    let bytes = [code];
+    match cause {
+        Cause::Sum => Code::Sum,
+        Cause::Command => Code::Command,
+        Cause::Size => Code::Other,
+        Cause::Field => Code::Other,
+        Cause::BoxCommand => Code::Command,
+    }
+}
+
+// Word to the module that a frame was invalid, under the number received.
+fn reject(cause: Cause, number: u8, out: &mut [u8]) -> Reply
+    ensures { λ r. ⌜ outcome (replyRowOf r) (now (out .exit))
+        ≡ rejectOf frameLimit cause number (now (out .entry)) ⌝ }
+{
+    let code = code_for(cause);
+    let bytes = [code_number(code)];
     let written = frame::write(0x12, number, 0, &bytes, out);
     match written {
-        Written::Wrote { count } => Reply::Rejected { count, code },
+        Written::Wrote { count } => Reply::Rejected { count, code, cause },
         // one byte is never too long
         Written::Payload => Reply::Room,
         Written::Room => Reply::Room,
@@ -117,7 +148,7 @@ pub fn answer_reading(command: u8, number: u8, reading: Reading, out: &mut [u8])
         Due::AskInformation => Reply::InformationWanted { number },
         Due::AskStatus => Reply::StatusWanted { number },
         Due::Acknowledge { command } => acknowledge(command, number, out),
-        Due::Reject { code } => reject(code, number, out),
+        Due::Reject { cause } => reject(cause, number, out),
     }
 }
 
@@ -141,7 +172,7 @@ fn answer_decided(verdict: Verdict, body: &[u8], out: &mut [u8]) -> Reply
             frame::payload(body),
             out,
         ),
-        Verdict::Sum => reject(BAD_SUM, frame::number(body), out),
+        Verdict::Sum => reject(Cause::Sum, frame::number(body), out),
         Verdict::Short => Reply::Nothing,
         Verdict::Long => Reply::Nothing,
         Verdict::Stuff => Reply::Nothing,

@@ -2,7 +2,22 @@
 use super::counter::Control;
 use super::counter::Status;
 ghost use mathlib.Core.Path.{_≡_};
-ghost use Rattle.message.specs.Commands.{wayAllowed, codeAllowed};
+ghost use mathlib.Core.Bool.{true};
+ghost use Rattle.message.specs.Commands.{wayAllowed, wayNumber, codeAllowed, codeNumber};
+
+// The ways to set the module up.
+pub enum Way {
+    SoftAp,
+    AirLink,
+}
+
+// Why a frame is invalid.
+pub enum Code {
+    Sum,
+    Command,
+    Other,
+    FileType,
+}
 
 // What a device's information holds beside texts, key and timeout.
 pub enum Extra {
@@ -49,10 +64,10 @@ pub enum Message {
     Query,
     Status { status: Status },
     Report { status: Status },
-    Onboarding { way: u8 },
+    Onboarding { way: Way },
     Network { network: Network },
-    ModuleReject { code: u8 },
-    BoxReject { code: u8 },
+    ModuleReject { code: Code },
+    BoxReject { code: Code },
     Time { time: Time },
     Announcement { size: u32 },
     Ready { piece: u16 },
@@ -69,6 +84,26 @@ pub(crate) fn way_allowed(way: u8) -> bool
     way == 2
 }
 
+// The number that stands for a way.
+pub fn way_number(way: Way) -> u8
+    ensures { λ r. ⌜ r ≡ wayNumber way ⌝ }
+{
+    match way {
+        Way::SoftAp => 1,
+        Way::AirLink => 2,
+    }
+}
+
+// The way of a number that stands for one.
+pub(crate) fn way_of(number: u8) -> Way
+    ensures { λ r. ⌜ (wayAllowed number ≡ true → wayNumber r ≡ number) ⌝ }
+{
+    match number {
+        1 => Way::SoftAp,
+        _ => Way::AirLink,
+    }
+}
+
 // Whether an error code is one that there is.
 pub(crate) fn code_allowed(code: u8) -> bool
     ensures { λ r. ⌜ r ≡ codeAllowed code ⌝ }
@@ -77,4 +112,28 @@ pub(crate) fn code_allowed(code: u8) -> bool
         return false;
     }
     code <= 4
+}
+
+// The number that stands for an error code.
+pub fn code_number(code: Code) -> u8
+    ensures { λ r. ⌜ r ≡ codeNumber code ⌝ }
+{
+    match code {
+        Code::Sum => 1,
+        Code::Command => 2,
+        Code::Other => 3,
+        Code::FileType => 4,
+    }
+}
+
+// The error code of a number that stands for one.
+pub(crate) fn code_of(number: u8) -> Code
+    ensures { λ r. ⌜ (codeAllowed number ≡ true → codeNumber r ≡ number) ⌝ }
+{
+    match number {
+        1 => Code::Sum,
+        2 => Code::Command,
+        3 => Code::Other,
+        _ => Code::FileType,
+    }
 }

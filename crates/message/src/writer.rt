@@ -3,7 +3,6 @@ use super::bytes::flagged;
 use super::counter::Control;
 use super::counter::Status;
 use super::counter::control_bytes;
-use super::counter::mode_allowed;
 use super::counter::status_bytes;
 use super::reader::Reading;
 use super::reader::read;
@@ -12,15 +11,15 @@ use super::values::Message;
 use super::values::Network;
 use super::values::Time;
 use super::values::Unix;
-use super::values::code_allowed;
-use super::values::way_allowed;
+use super::values::code_number;
+use super::values::way_number;
 use frame::Written;
 ghost use mathlib.Core.Path.{_≡_};
 ghost use mathlib.Core.Bool.{true};
 ghost use mathlib.Core.List.{[], _∷_};
 ghost use Prim.Native.Nat.{_<_, _≤_};
 ghost use lib.ListN.{length};
-ghost use lib.Dec.{eqb, ltb};
+ghost use lib.Dec.{eqb};
 ghost use Rattle.base.specs.Numbers.{two, four};
 ghost use Rattle.base.specs.Outcomes.{outcome};
 ghost use Rattle.frame.specs.Table.{writtenRowOf};
@@ -164,28 +163,17 @@ fn write_control(control: Control, lent: &[u8], number: u8, flags: u16, out: &mu
     ensures { λ r. ⌜ outcome (sentRowOf r) (now (out .exit))
         ≡ sendOf frameLimit (message.Control control) number flags (now (lent .entry)) (now (out .entry)) ⌝ }
 {
-    if mode_allowed(control.flags.mode, control.mode) {
-        let bytes = control_bytes(1, control);
-        return write_bare(0x03, &bytes, true, lent, number, flags, out);
-    }
-    write_bare(0x03, lent, false, lent, number, flags, out)
+    let bytes = control_bytes(1, control);
+    write_bare(0x03, &bytes, true, lent, number, flags, out)
 }
 
-// A message whose payload is one byte, where that byte is allowed.
-fn write_byte(
-    command: u8,
-    byte: u8,
-    allowed: bool,
-    lent: &[u8],
-    number: u8,
-    flags: u16,
-    out: &mut [u8],
-) -> Sent
+// A message whose payload is one byte.
+fn write_byte(command: u8, byte: u8, lent: &[u8], number: u8, flags: u16, out: &mut [u8]) -> Sent
     ensures { λ r. ⌜ outcome (sentRowOf r) (now (out .exit))
-        ≡ sendBare frameLimit allowed command number flags (now (lent .entry)) (byte ∷ []) (now (out .entry)) ⌝ }
+        ≡ sendBare frameLimit true command number flags (now (lent .entry)) (byte ∷ []) (now (out .entry)) ⌝ }
 {
     let bytes = [byte];
-    write_bare(command, &bytes, allowed, lent, number, flags, out)
+    write_bare(command, &bytes, true, lent, number, flags, out)
 }
 
 // A status, under its command and the payload's first byte.
@@ -199,13 +187,9 @@ fn write_status(
     out: &mut [u8],
 ) -> Sent
     ensures { λ r. ⌜ outcome (sentRowOf r) (now (out .exit))
-        ≡ sendBare frameLimit (ltb (status .mode) 3) command number flags (now (lent .entry))
-        (action ∷ statusBytes status)
+        ≡ sendBare frameLimit true command number flags (now (lent .entry)) (action ∷ statusBytes status)
         (now (out .entry)) ⌝ }
 {
-    if 3 <= status.mode {
-        return write_bare(command, lent, false, lent, number, flags, out);
-    }
     let bytes = status_bytes(action, status);
     write_bare(command, &bytes, true, lent, number, flags, out)
 }
@@ -338,18 +322,18 @@ pub fn write(message: Message, lent: &[u8], number: u8, flags: u16, out: &mut [u
             write_information(timeout, extra, lent, number, flags, out)
         }
         Message::Control { control } => write_control(control, lent, number, flags, out),
-        Message::Query => write_byte(0x03, 2, true, lent, number, flags, out),
+        Message::Query => write_byte(0x03, 2, lent, number, flags, out),
         Message::Status { status } => write_status(0x04, 3, status, lent, number, flags, out),
         Message::Report { status } => write_status(0x05, 4, status, lent, number, flags, out),
         Message::Onboarding { way } => {
-            write_byte(0x09, way, way_allowed(way), lent, number, flags, out)
+            write_byte(0x09, way_number(way), lent, number, flags, out)
         }
         Message::Network { network } => write_network(network, lent, number, flags, out),
         Message::ModuleReject { code } => {
-            write_byte(0x11, code, code_allowed(code), lent, number, flags, out)
+            write_byte(0x11, code_number(code), lent, number, flags, out)
         }
         Message::BoxReject { code } => {
-            write_byte(0x12, code, code_allowed(code), lent, number, flags, out)
+            write_byte(0x12, code_number(code), lent, number, flags, out)
         }
         Message::Time { time } => write_time(time, lent, number, flags, out),
         Message::Announcement { size } => write_announcement(size, lent, number, flags, out),

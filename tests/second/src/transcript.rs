@@ -54,8 +54,8 @@ fn answer_line(reply: Reply, number: u8, out: &mut Vec<u8>) {
         Reply::Nothing => line(out, "answer", &[0], None),
         Reply::Wanted { command } => line(out, "answer", &[0, 0, command.into(), number.into()], None),
         Reply::Acknowledged { wire } => line(out, "answer", &[0, wire.len() as u64], Some(&wire)),
-        Reply::Rejected { code, wire } => {
-            line(out, "answer", &[0, wire.len() as u64, 0x12, code.into()], Some(&wire));
+        Reply::Rejected { code, cause, wire } => {
+            line(out, "answer", &[0, wire.len() as u64, 0x12, code.into(), cause.into()], Some(&wire));
         }
     }
 }

@@ -2,15 +2,14 @@
 -- so it refuses and writes as the definition says.
 use Prim.Native.Nat.{ℕ, _+_, _%_, _≤_, _<_}
 use mathlib.Core.Path.{_≡_, ap, _∙_}
-use mathlib.Core.List.{List, [], _∷_, _++_}
+use mathlib.Core.List.{List, [], _∷_}
 use native.Mathlib.Nat.{zero-add}
 use native.Mathlib.Omega.{arith}
 use borrow.Author.Tests.{lt-ltb, le-ltb}
 use lib.ListN.{length}
 use lib.Seq.{sets}
-use Rattle.frame.specs.Wire.{wire, bodyOf, joinedParts}
+use Rattle.frame.specs.Wire.{wire, headOf, bodyOf, frameOf, framed, joinedParts}
 use Rattle.base.specs.Sums.{total}
-use Rattle.base.specs.Numbers.{two}
 use Rattle.base.specs.Rows.{row}
 use Rattle.base.specs.Outcomes.{Write, outcome}
 use Rattle.frame.specs.Calls.{writeOf}
@@ -34,8 +33,8 @@ module _ (c : tie.Start) where
   abbrev out : List ℕ
   out = c .args .out .now
 
-  abbrev body : List ℕ
-  body = bodyOf (c .args .command) (c .args .number) (c .args .flags) payload
+  abbrev form : List ℕ
+  form = frameOf (c .args .command) (c .args .number) (c .args .flags) payload
 
   abbrev limit : ℕ
   limit = c .args .limit
@@ -46,24 +45,24 @@ module _ (c : tie.Start) where
   too-long : limit < length payload + 5 → outcome (row 21 (0 ∷ [])) out ≡ asked
   too-long h = rw (lt-ltb limit (length payload + 5) h)
 
-  no-room : length payload + 5 ≤ limit → length out < length (wire body) → outcome (row 22 (0 ∷ [])) out ≡ asked
-  no-room h g = rw (le-ltb limit (length payload + 5) h, lt-ltb (length out) (length (wire body)) g)
+  no-room : length payload + 5 ≤ limit → length out < length form → outcome (row 22 (0 ∷ [])) out ≡ asked
+  no-room h g = rw (le-ltb limit (length payload + 5) h, lt-ltb (length out) (length form) g)
 
-  done : length payload + 5 ≤ limit → length (wire body) ≤ length out
-      → outcome (row 0 ((0 + length (wire body)) ∷ [])) (sets out 0 (wire body)) ≡ asked
+  done : length payload + 5 ≤ limit → length form ≤ length out
+      → outcome (row 0 ((0 + length form) ∷ [])) (sets out 0 form) ≡ asked
   done h g =
       rw (
         le-ltb limit (length payload + 5) h,
-        le-ltb (length out) (length (wire body)) g,
-        sets-front (wire body) out g,
+        le-ltb (length out) (length form) g,
+        sets-front form out g,
         zero-add,
       )
 
 -- ---- what is sized: the head, the payload and their sum are the frame's body, and the count is that of its wire form
 
 body-parts : (command number flags size : ℕ) (payload head : List ℕ) (sum : ℕ)
-    → size ≡ length payload → head ≡ two (size + 5) (command ∷ number ∷ two flags [])
-    → sum ≡ (total head + total payload) % 256 → head ++ (payload ++ sum ∷ []) ≡ bodyOf command number flags payload
+    → size ≡ length payload → head ≡ headOf size command number flags → sum ≡ (total head + total payload) % 256
+    → framed head payload sum ≡ wire (bodyOf command number flags payload)
 unfolding bodyOf
 body-parts command number flags size payload head sum h e f = rw (f, ← total-append, e, h)
 
@@ -85,13 +84,13 @@ module _ (c : tie.After-sized) where
   abbrev head : List ℕ
   head = c .before .head-of .result
 
-  whole : head ++ (payload (start within) ++ c .sized .result .sum ∷ []) ≡ body (start within)
+  whole : framed head (payload (start within)) (c .sized .result .sum) ≡ form (start within)
   whole =
       body-parts _ _ _ _ (payload (start within)) head (c .sized .result .sum) (size within)
       (c .before .head-of .ensures) (c .sized .ensures .sum-is)
 
-  count : c .sized .result .count ≡ length (wire (body (start within)))
-  count = c .sized .ensures .count-is ∙ ap (λ (b : List ℕ). length (wire b)) whole
+  count : c .sized .result .count ≡ length (form (start within))
+  count = c .sized .ensures .count-is ∙ ap length whole
 
 returns : tie.Need-returns
 returns c =
@@ -110,7 +109,10 @@ returns-3 : tie.Need-returns-3
 returns-3 c =
     let m = c .before .before .before .before .before .before in
     let put = c .before .before .put-frame .ensures in
-    rw (put .0, put .1, whole m) (done (start (within m)) (short (within m)) (omega (arith, count m)))
+    let s = start (within m) in
+    rw (put .0, put .1)
+    (ap (λ (f : List ℕ). outcome (row 0 ((0 + length f) ∷ [])) (sets (out s) 0 f)) (whole m)
+    ∙ done s (short (within m)) (omega (arith, count m)))
 
 pub parts-within-spec : {M : Type 1} → statement M
 parts-within-spec =

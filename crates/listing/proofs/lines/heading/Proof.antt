@@ -1,12 +1,10 @@
 -- `heading` meets its contract: it is a line of one text and no numbers.
 use borrow.Author.Needs.{needs}
-use Rattle.listing.specs.Decimal.{columnsOf}
 use Rattle.listing.proofs.lines.heading.Statement.{statement}
 use Rattle.listing.proofs.lines.heading.Tie as tie
 
 returns : tie.Need-returns
-unfolding columnsOf
-returns c = c .before .before .put-line .ensures
+returns c = c .before .before .put-line .ensures .0
 
 pub heading-spec : {M : Type 1} → statement M
 heading-spec =

@@ -7,15 +7,15 @@ use Rattle.listing.proofs.lines.last.Tie as tie
 returns : tie.Need-returns
 returns c =
     rw (c .before .before .before .before .before .before .before .before .said .given .1)
-    (c .before .before .put-line .ensures)
+    (c .before .before .put-line .ensures .0)
 
 returns-2 : tie.Need-returns-2
 returns-2 c =
     rw (c .before .before .before .before .before .before .before .before .said2 .given .1)
-    (c .before .before .put-line2 .ensures)
+    (c .before .before .put-line2 .ensures .0)
 
 returns-3 : tie.Need-returns-3
-returns-3 c = rw (c .enum-told .given .1) (nothing-put (c .before .before .before .args .out .now))
+returns-3 c = rw (c .enum-told .given .1) (nothing-put (c .before .before .before .before .args .out .now))
 
 pub last-spec : {M : Type 1} → statement M
 last-spec =

@@ -8,10 +8,10 @@ use Rattle.message.proofs.counter.control_bytes.Statement.{statement}
 use Rattle.message.proofs.counter.control_bytes.Tie as tie
 
 -- lamp and mode have three bits
-cast-t12 : tie.Need-cast-t12
-cast-t12 c =
-    let start = c .before .before .before .before .before .before .before .before in
-    omega (arith, mode-most (start .args .control .flags .mode) (start .args .control .mode) (start .pre))
+cast-t13 : tie.Need-cast-t13
+cast-t13 c =
+    let control = c .before .before .before .before .before .before .before .before .args .control in
+    omega (arith, mode-most (control .mode))
 
 returns : tie.Need-returns
 returns c =
@@ -23,10 +23,10 @@ control-bytes-spec =
     tie.close
     (tie.spec
     -- the flags, and the values times them
-    (λ c κs. search needs) (λ c κs. search needs) (λ c. search needs) (λ c κs. search needs) (λ c. search needs)
-    (λ c κs. search needs) (λ c κs. search needs) (λ c. search needs) (λ c κs. search needs) (λ c κs. search needs)
+    (search needs) (search needs) (search needs) (search needs) (search needs) (search needs) (search needs)
+    (search needs) (search needs) (search needs) (search needs)
     -- each byte fits
-    (λ c. search needs) (λ c. search needs) (λ c. search needs)
-    cast-t12
-    (λ c. search needs) (λ c. search needs)
+    (search needs) (search needs) (search needs)
+    cast-t13
+    (search needs) (search needs)
     returns)

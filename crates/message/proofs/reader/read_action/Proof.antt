@@ -1,5 +1,5 @@
 -- `reader::read_action` goes by the first byte: a control in 5 bytes, or a query in 1.
-use mathlib.Core.Path.{refl}
+use mathlib.Core.Path.{refl, sym, _∙_}
 use mathlib.Core.Bool.{true}
 use mathlib.Core.List.{[], _∷_}
 use borrow.Author.Needs.{needs}
@@ -11,13 +11,17 @@ use Rattle.message.proofs.reader.read_action.Tie as tie
 
 control : tie.Need-returns-2
 control c =
-    chosen Action 3 5 _ (c .before .control-allowed .result) (1 ∷ controlIn (c .before .before .control-of .result))
+    chosen Action 3 _ _ (c .before .control-allowed .result) (1 ∷ controlIn (c .before .before .control-of .result))
     (c .judged .ensures) refl (search sizes) (search sizes) (search (sizes, c .before .control-allowed .ensures))
-    (search (sizes, c .before .before .before .if2 .taken, c .before .before .control-of .ensures))
+    (λ t. search (
+      sizes,
+      c .before .before .before .if2 .taken,
+      c .before .before .control-of .ensures (sym (c .before .control-allowed .ensures) ∙ t),
+    ))
 
 query : tie.Need-returns-3
-query c = chosen Action 3 1 _ true (2 ∷ []) (c .judged2 .ensures) refl (search sizes) (search sizes) (search sizes)
-    (search (sizes, c .before .if3 .taken))
+query c = chosen Action 3 _ _ true (2 ∷ []) (c .judged2 .ensures) refl (search sizes) (search sizes) (search sizes)
+    (λ t. search (sizes, c .before .if3 .taken))
 
 pub read-action-spec : {M : Type 1} → statement M
 read-action-spec = tie.close (tie.spec

@@ -9,4 +9,4 @@ use Rattle.message.proofs.reader.read_announcement.Tie as tie
 pub read-announcement-spec : {M : Type 1} → statement M
 read-announcement-spec = tie.close (tie.spec
     (search needs) (search needs) (search needs) (search needs) (search needs) (search needs)
-    λ c. cc (sized-counted Announcement (c .before .before .before .before .before .args .payload .now) refl 4 0 refl))
+    λ c. cc (sized-counted Announcement (c .before .before .before .before .before .args .payload .now) refl _ _ refl))

@@ -14,15 +14,16 @@ read-as-spec =
     (search needs) (search needs) (search needs) (search needs) (search needs) (search needs) (search needs)
     (search needs) (search needs) (search needs) (search needs) (search needs) (search needs) (search needs)
     (search needs) (search needs) (search needs) (search needs) (search needs) (search needs) (search needs)
-    (search needs) (search needs) (search needs) (search needs) (search needs) (search needs)
+    (search needs) (search needs) (search needs) (search needs) (search needs) (search needs) (search needs)
+    (search needs) (search needs)
     (λ c. search lines) (λ c. search lines) (λ c. search lines) (λ c. search lines) (λ c. search lines)
     (λ c. search lines)
-    (λ c. let t = c .before .before .before in let s = t .before .before .before in
+    (λ c. let t = c .before .before .before .before in let s = t .before .before .before in
     read-line kind.Onboarding _ _ (s .pre) (t .enum-told7 .given .1) 0x09 refl (search lines))
     (λ c. let t = c .before .before in let s = t .before .before .before in
     read-line kind.Network _ _ (s .pre) (t .enum-told8 .given .1) 0x0D refl (search lines))
-    (λ c. let t = c .before .before .before in let s = t .before .before .before in
+    (λ c. let t = c .before .before .before .before in let s = t .before .before .before in
     read-line kind.ModuleReject _ _ (s .pre) (t .enum-told9 .given .1) 0x11 refl (search lines))
-    (λ c. let t = c .before .before .before in let s = t .before .before .before in
+    (λ c. let t = c .before .before .before .before in let s = t .before .before .before in
     read-line kind.BoxReject _ _ (s .pre) (t .enum-told10 .given .1) 0x12 refl (search lines))
     (λ c. search lines) (λ c. search lines) (λ c. search lines) λ c. search lines)

@@ -9,4 +9,4 @@ use Rattle.message.proofs.reader.read_ready.Tie as tie
 pub read-ready-spec : {M : Type 1} → statement M
 read-ready-spec = tie.close (tie.spec
     (search needs) (search needs) (search needs) (search needs) (search needs) (search needs) (search needs)
-    λ c. cc (sized-counted Ready (c .before .before .before .before .before .args .payload .now) refl 0 2 refl))
+    λ c. cc (sized-counted Ready (c .before .before .before .before .before .args .payload .now) refl _ _ refl))

@@ -1,5 +1,5 @@
 -- `reader::read_report` goes by the first byte, which chooses a status of 8 bytes behind it.
-use mathlib.Core.Path.{refl}
+use mathlib.Core.Path.{refl, sym, _∙_}
 use mathlib.Core.List.{_∷_}
 use borrow.Author.Needs.{needs}
 use Rattle.message.specs.Counter.{statusIn}
@@ -10,9 +10,13 @@ use Rattle.message.proofs.reader.read_report.Tie as tie
 
 status : tie.Need-returns-3
 status c =
-    chosen Report 5 9 _ (c .before .status-allowed .result) (4 ∷ statusIn (c .before .before .status-of .result))
+    chosen Report 5 _ _ (c .before .status-allowed .result) (4 ∷ statusIn (c .before .before .status-of .result))
     (c .judged .ensures) refl (search sizes) (search sizes) (search (sizes, c .before .status-allowed .ensures))
-    (search (sizes, c .before .before .before .if2 .left, c .before .before .status-of .ensures))
+    (λ t. search (
+      sizes,
+      c .before .before .before .if2 .left,
+      c .before .before .status-of .ensures (sym (c .before .status-allowed .ensures) ∙ t),
+    ))
 
 pub read-report-spec : {M : Type 1} → statement M
 read-report-spec = tie.close (tie.spec

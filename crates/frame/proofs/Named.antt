@@ -1,0 +1,50 @@
+-- Each variant and field by its name, by computation. Assumes nothing.
+use mathlib.Core.Path.{refl, ap}
+use Rattle.base.specs.Outcomes.{Write, Reply}
+use Rattle.frame.specs.State.{State}
+use Rattle.frame.specs.Named.{NamedRows, NamedStates, ContractsWhole}
+
+pub named-rows : NamedRows
+named-rows =
+    record {
+      more = λ c. refl;
+      frame = λ c s e. refl;
+      short = λ c s e. refl;
+      long = λ c s e. refl;
+      stuff = λ c s e. refl;
+      cut = λ c s e. refl;
+      sum = λ c s e. refl;
+      state = refl;
+      used = refl;
+      clean = λ n. refl;
+      left-open = λ n s. refl;
+      end-state = refl;
+      wrote = λ c. refl;
+      payload = refl;
+      room = refl;
+      quiet = λ c s e. refl;
+      decides = λ c s e. refl;
+      quiet-goes-on = refl;
+      decided-stops = λ v. refl;
+      count = λ k c v. refl;
+    }
+
+pub named-states : NamedStates
+named-states =
+    record {
+      idle = refl;
+      half = refl;
+      header = refl;
+      open-frame = refl;
+      escape = refl;
+      any-reader = λ r. (refl, refl, refl, refl, refl, refl, refl);
+      reader = refl;
+    }
+
+pub contracts-whole : ContractsWhole
+contracts-whole =
+    record {
+      fed = λ f y e. (ap (λ (z : Reply State). z .row) e, ap (λ (z : Reply State). z .state) e);
+      finished = λ f y e. (ap (λ (z : Reply State). z .row) e, ap (λ (z : Reply State). z .state) e);
+      written = λ r after w e. (ap (λ (z : Write). z .row) e, ap (λ (z : Write). z .out) e);
+    }

@@ -1,0 +1,100 @@
+-- STATE exactly when a field is outside its range. Assumes nothing.
+use Prim.Native.Nat.{ℕ, _+_, _^_, _<_}
+use mathlib.Core.Path.{_≡_, refl}
+use mathlib.Core.Bool.{false}
+use mathlib.Core.Logic.{inl, inr}
+use mathlib.Core.List.{List, [], _∷_}
+use native.Mathlib.Omega.{arith}
+use borrow.Author.Tests.{le-leb, lt-leb, leb-false}
+use lib.ListN.{length}
+use lib.Dec.{leb}
+use Rattle.base.specs.Outcomes.{Reply}
+use Rattle.base.proofs.Tests.{by-test, either-way}
+use Rattle.frame.specs.Wire.{frameLimit}
+use Rattle.frame.specs.State.{Phase, Idle, Half, Header, Open, Escape, Scan, State}
+use Rattle.frame.specs.Rules.{inRangeOf, mostTaken, mostHave, advanceOf, decidesOf}
+use Rattle.frame.specs.Table.{eventRow}
+use Rattle.frame.specs.Calls.{zeros, endingRow, nextOf, runOf}
+use Rattle.frame.specs.Ranges.{OutOfRange, ReaderRangesAll, UsedAlways, FreshReader}
+use Rattle.frame.specs.declared.scan.Event.{Event}
+use Rattle.frame.specs.declared.scan.Event.the-variants.{Quiet, Decided}
+use Rattle.frame.specs.declared.scan.Verdict.the-variants.{Frame, Short, Long, Stuff, Cut, Sum}
+
+-- ---- the test
+
+outside : (r : State) → OutOfRange r → inRangeOf frameLimit (r .scan) ≡ false
+outside r (inl h) = rw (lt-leb (r .scan .taken) mostTaken h)
+outside r (inr h) =
+    either-way (leb (r .scan .taken) mostTaken)
+    (λ t. rw (t, lt-leb (r .scan .have) (mostHave frameLimit) h))
+    (λ t. rw t)
+
+inside-not : (r : State) → inRangeOf frameLimit (r .scan) ≡ false → OutOfRange r
+inside-not r e =
+    either-way (leb (r .scan .taken) mostTaken)
+    (λ t. inr (leb-false (r .scan .have) (mostHave frameLimit) (rw t at e)))
+    (λ t. inl (leb-false (r .scan .taken) mostTaken t))
+
+-- ---- what a run and an end are answered stands below STATE and USED
+
+event-below : (e : Event) (n s p : ℕ) → eventRow e n s p .number < 17
+event-below Quiet n s p = omega arith
+event-below (Decided Frame) n s p = omega arith
+event-below (Decided Short) n s p = omega arith
+event-below (Decided Long) n s p = omega arith
+event-below (Decided Stuff) n s p = omega arith
+event-below (Decided Cut) n s p = omega arith
+event-below (Decided Sum) n s p = omega arith
+
+abbrev Below : Reply State → Type 0
+Below y = y .row .number < 17
+
+run-below : (limit : ℕ) (bs : List ℕ) (n : ℕ) (r : State) → Below (runOf limit bs n r)
+unfolding runOf
+run-below limit [] n r = omega arith
+run-below limit (x ∷ bs) n r =
+    by-test Below (decidesOf (advanceOf limit (r .scan) x .event))
+    (λ t. event-below (advanceOf limit (r .scan) x .event) (n + 1) (r .scan .start) (nextOf limit r x .scan .taken))
+    (λ t. run-below limit bs (n + 1) (nextOf limit r x))
+
+ending-below : (f : Phase) (s : Scan) → endingRow f s .number < 17
+ending-below Idle s = omega arith
+ending-below Half s = omega arith
+ending-below Header s = omega arith
+ending-below Open s = omega arith
+ending-below Escape s = omega arith
+
+pub reader-ranges : ReaderRangesAll
+reader-ranges r bytes =
+    let Only : Reply State → Type 0 = λ (y : Reply State). y .row .number ≡ 17 → OutOfRange r in
+    record {
+      fed = λ h. rw (outside r h);
+      fed-only = by-test Only (inRangeOf frameLimit (r .scan))
+          (λ t. by-test Only (leb (r .scan .taken + length bytes) (2 ^ 62))
+          (λ u h. absurd (omega (arith, run-below frameLimit bytes 0 r))) (λ u h. absurd (omega arith)))
+          (λ t h. inside-not r t);
+      asked = λ h. rw (outside r h);
+      asked-only = by-test Only (inRangeOf frameLimit (r .scan))
+          (λ t h. absurd (omega (arith, ending-below (r .scan .phase) (r .scan)))) (λ t h. inside-not r t);
+    }
+
+pub used-exactly : UsedAlways
+used-exactly r bytes =
+    let all : ℕ = r .scan .taken + length bytes in
+    let Only : Reply State → Type 0 = λ (y : Reply State). y .row .number ≡ 18 → 2 ^ 62 < all in
+    record {
+      fed = λ t h over.
+          rw (
+            le-leb (r .scan .taken) mostTaken t,
+            le-leb (r .scan .have) (mostHave frameLimit) h,
+            lt-leb all (2 ^ 62) over,
+          );
+      fed-only = by-test Only (inRangeOf frameLimit (r .scan))
+          (λ t. by-test Only (leb all (2 ^ 62)) (λ u h. absurd (omega (arith, run-below frameLimit bytes 0 r)))
+          (λ u h. leb-false all (2 ^ 62) u))
+          (λ t h. absurd (omega arith));
+    }
+
+pub fresh-reader : FreshReader
+unfolding zeros
+fresh-reader = refl

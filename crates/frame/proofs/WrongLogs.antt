@@ -1,0 +1,70 @@
+-- Each line of demand 3 refuses a list of calls. Assumes nothing.
+use Prim.Native.Nat.{ℕ}
+use mathlib.Core.Path.{_≡_, refl, sym, ap, _∙_}
+use mathlib.Core.List.{List, [], _∷_, cons≢nil, head-eq-of-cons-eq}
+use mathlib.Core.Bool.{true≢false}
+use native.Mathlib.Omega.{arith}
+use lib.ListN.{length}
+use Rattle.base.specs.Keys.{among}
+use Rattle.base.specs.Sums.{total}
+use Rattle.frame.specs.Wire.{frameLimit, stuff, unstuff}
+use Rattle.frame.specs.Frames.{Found, found, framesOf, frontBody, startsWith, candidate, sumHolds, isGood, here}
+use Rattle.frame.specs.Frames.{framesFrom}
+use Rattle.frame.specs.Logs.{Entry, stream, handedOut, Account, Accounts, Chains}
+use Rattle.frame.specs.Claims.{Demand3}
+use Rattle.frame.specs.WrongLogs.{heartbeat, WrongLogsRefused}
+
+-- the account of a list's first call
+first : {limit : ℕ} {e : Entry} {es : List Entry} → Demand3 limit (e ∷ es) → Account 0 e
+unfolding Accounts
+first d = d .accounts .0
+
+-- the frames of the streams below
+one-frame : framesOf frameLimit heartbeat
+    ≡ found 0 9 (0x00 ∷ 0x05 ∷ 0x07 ∷ 0x01 ∷ 0x00 ∷ 0x00 ∷ 0x0D ∷ []) ∷ []
+unfolding total stuff unstuff startsWith candidate sumHolds isGood here framesFrom
+one-frame = refl
+
+none : framesOf frameLimit (7 ∷ []) ≡ []
+unfolding total stuff unstuff startsWith candidate sumHolds isGood here framesFrom
+none = refl
+
+pub wrong-logs : WrongLogsRefused
+unfolding among stream handedOut Accounts Chains
+wrong-logs limit r q =
+    record {
+      given-clean = λ d. true≢false (sym (first d .given-row _ refl));
+      given-open = λ d. true≢false (sym (first d .given-row _ refl));
+      given-state = λ d. true≢false (sym (first d .given-row _ refl));
+      given-other = λ bytes v k h d. true≢false (sym (first d .given-row bytes refl) ∙ h);
+      asked-more = λ d. true≢false (sym (first d .asked-row refl));
+      asked-frame = λ d. true≢false (sym (first d .asked-row refl));
+      asked-state = λ d. true≢false (sym (first d .asked-row refl));
+      asked-99 = λ d. true≢false (sym (first d .asked-row refl));
+      asked-other = λ v k h d. true≢false (sym (first d .asked-row refl) ∙ h);
+      too-many = λ d. omega (arith, first d .within);
+      more-one = λ d. omega (arith, first d .all refl);
+      more-none = λ d. omega (arith, first d .all refl);
+      short-none = λ d. omega (arith, first d .progress (λ e. omega arith) (omega arith));
+      empty-short = λ d. omega (arith, first d .empty refl .0);
+      empty-changes = λ n d. n (first d .empty refl .1);
+      short-end = λ d. omega (arith, first d .ends refl);
+      used-soon = λ d. omega (arith, first d .used refl);
+      used-not = λ bytes h d. omega (arith, first d .unused (λ e. omega arith));
+      used-takes = λ bytes d. omega (arith, first d .used-none refl);
+      used-changes = λ bytes n d. n (first d .used-kept refl);
+      asked-length = λ d. omega (arith, first d .asked refl);
+      asked-changes = λ n d. n (first d .asked-kept refl);
+      not-chained = λ n d. n (d .chains .1 .0);
+      counts-anew = λ d. omega (arith, d .accounts .1 .0 .asked refl);
+      no-frame = λ d. cons≢nil (d .frames ∙ none);
+      passed-over = λ d. cons≢nil (sym (d .frames ∙ one-frame));
+      other-start = λ d.
+          let z : _≡_ {A = ℕ} 1 0 = ap (λ (f : Found). f .start) (head-eq-of-cons-eq (d .frames ∙ one-frame)) in
+          omega arith;
+      other-body = λ n d.
+          let z : length (frontBody (q .body)) ≡ 7 =
+          ap (λ (f : Found). length (f .body)) (head-eq-of-cons-eq (d .frames ∙ one-frame)) in
+          let empty : _≡_ {A = ℕ} 0 7 = rw n at z in
+          omega arith;
+    }

@@ -1,0 +1,55 @@
+-- A list of calls said another way: which calls it has, what each was answered, and what is sent again.
+use Prim.Native.Nat.{ℕ}
+use mathlib.Core.Path.{_≡_}
+use mathlib.Core.List.{List, [], _∷_, map, List·Memᴰ}
+use Rattle.base.specs.Rows.{row}
+use Rattle.base.specs.Outcomes.{reply}
+use Rattle.frame.specs.State.{State}
+use Rattle.frame.specs.Calls.{feedOf, finishOf}
+use Rattle.frame.specs.Logs.{Call, give, ask, Entry, logOf, stateAfter, stream, OffersFront, joined}
+use Rattle.frame.specs.WrongLogs.{entry}
+
+-- the call of an entry
+abbrev pub callIn : Entry → Call
+callIn e = e .call
+
+-- what an entry says the call was answered, and left
+abbrev pub Answered : ℕ → Entry → Type 0
+Answered limit e =
+    ((bytes : List ℕ) → e .call ≡ give bytes → reply (e .row) (e .after) ≡ feedOf limit (e .before) bytes)
+    × (e .call ≡ ask → reply (e .row) (e .after) ≡ finishOf limit (e .before))
+
+-- the reader that the last entry leaves, or the first one where there is no entry
+unfoldable pub lastOf : State → List Entry → State
+lastOf r [] = r
+lastOf r (e ∷ es) = lastOf (e .after) es
+
+-- ---- log-exact: the log has all calls, in order, each answered by its definition; the state after them is what the
+-- last of them left. That each is one of the reader that the call before it left is `log-chains`
+pub record LogExact (limit : ℕ) (r : State) (calls : List Call) : Type 0 where
+  pub all-calls : map callIn (logOf limit r calls) ≡ calls
+  pub answered : (e : Entry) → List·Memᴰ e (logOf limit r calls) → Answered limit e
+  pub left : stateAfter limit r calls ≡ lastOf r (logOf limit r calls)
+
+-- of every reader and all calls
+abbrev pub LogsExact : Type 0
+LogsExact = (limit : ℕ) (r : State) (calls : List Call) → LogExact limit r calls
+
+-- ---- worked-logs: pieces joined; the stream of two calls, where the first took one byte of two;
+-- what is offered again, and what is not
+pub record WorkedLogs (r : State) : Type 0 where
+  pub pieces : joined ((1 ∷ 2 ∷ []) ∷ [] ∷ (3 ∷ []) ∷ []) ≡ 1 ∷ 2 ∷ 3 ∷ []
+  pub taken : stream
+      (entry (give (1 ∷ 2 ∷ [])) (row 11 (1 ∷ 0 ∷ 1 ∷ [])) r r ∷ entry ask (row 2 (1 ∷ [])) r r
+      ∷ entry (give (2 ∷ 3 ∷ [])) (row 0 (2 ∷ [])) r r ∷ [])
+      ≡ 1 ∷ 2 ∷ 3 ∷ []
+  pub again : OffersFront (1 ∷ 2 ∷ 3 ∷ 4 ∷ [])
+      (entry (give (1 ∷ 2 ∷ [])) (row 11 (1 ∷ 0 ∷ 1 ∷ [])) r r ∷ entry ask (row 2 (1 ∷ [])) r r
+      ∷ entry (give (2 ∷ 3 ∷ [])) (row 0 (2 ∷ [])) r r ∷ [])
+  pub not-again : OffersFront (1 ∷ 2 ∷ 3 ∷ [])
+      (entry (give (1 ∷ 2 ∷ [])) (row 11 (1 ∷ 0 ∷ 1 ∷ [])) r r ∷ entry (give (3 ∷ [])) (row 0 (1 ∷ [])) r r ∷ [])
+      → ⊥
+
+-- of any state
+abbrev pub LogsWorked : Type 0
+LogsWorked = (r : State) → WorkedLogs r

@@ -1,0 +1,94 @@
+-- Each variant by its name, with its number and values in literal numbers, and each field of its structs by its name.
+-- The calls' equations speak of rows and states; these tables say which variant and which field a row or a state is.
+use Prim.Native.Nat.{ℕ}
+use mathlib.Core.Path.{_≡_}
+use mathlib.Core.Bool.{true, false}
+use mathlib.Core.List.{List, [], _∷_}
+use Rattle.base.specs.Rows.{row}
+use Rattle.base.specs.Outcomes.{Write, Reply}
+use Rattle.frame.specs.State.{Idle, Half, Header, Open, Escape, State, phaseOf, stateOf}
+use Rattle.frame.specs.Table.{eventRow, rowOf, endRowOf, writtenRowOf, countOf}
+use Rattle.frame.specs.Rules.{decidesOf}
+use Rattle.frame.specs.Calls.{replyOf, endingOf, Writes}
+use Rattle.frame.specs.declared.place.WirePlace.{WirePlace}
+use Rattle.frame.specs.declared.scan.Phase.the-variants as phase
+use Rattle.frame.specs.declared.scan.Verdict.{Verdict}
+use Rattle.frame.specs.declared.scan.Verdict.the-variants as verdict
+use Rattle.frame.specs.declared.scan.Event.the-variants as event
+use Rattle.frame.specs.declared.reader.Reader.{Reader}
+use Rattle.frame.specs.declared.reader.Fed.{Fed}
+use Rattle.frame.specs.declared.reader.Finished.{Finished}
+use Rattle.frame.specs.declared.reader.Answer.the-variants as answer
+use Rattle.frame.specs.declared.reader.Ending.the-variants as ending
+use Rattle.frame.specs.declared.writer.Written.{Written}
+use Rattle.frame.specs.declared.writer.Written.the-variants as written
+
+-- a place on the wire
+abbrev pub wirePlace : ℕ → WirePlace
+wirePlace n = record { 0 = n }
+
+-- ---- named-rows: every answer, by its variant: count c, start s, end e; of an end asked, n bytes taken
+pub record NamedRows : Type 0 where
+  pub more : (c : ℕ) → rowOf (answer.More c) ≡ row 0 (c ∷ [])
+  pub frame : (c s e : ℕ) → rowOf (answer.Decided c (wirePlace s) (wirePlace e) verdict.Frame) ≡ row 1 (c ∷ s ∷ e ∷ [])
+  pub short : (c s e : ℕ) → rowOf (answer.Decided c (wirePlace s) (wirePlace e) verdict.Short) ≡ row 11 (c ∷ s ∷ e ∷ [])
+  pub long : (c s e : ℕ) → rowOf (answer.Decided c (wirePlace s) (wirePlace e) verdict.Long) ≡ row 12 (c ∷ s ∷ e ∷ [])
+  pub stuff : (c s e : ℕ) → rowOf (answer.Decided c (wirePlace s) (wirePlace e) verdict.Stuff) ≡ row 13 (c ∷ s ∷ e ∷ [])
+  pub cut : (c s e : ℕ) → rowOf (answer.Decided c (wirePlace s) (wirePlace e) verdict.Cut) ≡ row 14 (c ∷ s ∷ e ∷ [])
+  pub sum : (c s e : ℕ) → rowOf (answer.Decided c (wirePlace s) (wirePlace e) verdict.Sum) ≡ row 15 (c ∷ s ∷ e ∷ [])
+  pub state : rowOf answer.State ≡ row 17 (0 ∷ [])
+  pub used : rowOf answer.Used ≡ row 18 (0 ∷ [])
+  pub clean : (n : ℕ) → endRowOf (ending.Clean (wirePlace n)) ≡ row 2 (n ∷ [])
+  pub left-open : (n s : ℕ) → endRowOf (ending.Open (wirePlace n) (wirePlace s)) ≡ row 16 (n ∷ s ∷ [])
+  pub end-state : endRowOf ending.State ≡ row 17 (0 ∷ [])
+  pub wrote : (c : ℕ) → writtenRowOf (written.Wrote c) ≡ row 0 (c ∷ [])
+  pub payload : writtenRowOf written.Payload ≡ row 21 (0 ∷ [])
+  pub room : writtenRowOf written.Room ≡ row 22 (0 ∷ [])
+  -- a raw byte that decides nothing, and one that decides
+  pub quiet : (c s e : ℕ) → eventRow event.Quiet c s e ≡ row 0 (c ∷ [])
+  pub decides : (c s e : ℕ) → eventRow (event.Decided verdict.Short) c s e ≡ row 11 (c ∷ s ∷ e ∷ [])
+  pub quiet-goes-on : decidesOf event.Quiet ≡ false
+  pub decided-stops : (v : Verdict) → decidesOf (event.Decided v) ≡ true
+  -- the count is the first value
+  pub count : (k c : ℕ) (v : List ℕ) → countOf (row k (c ∷ v)) ≡ c
+
+-- ---- named-states: every field of a reader by its name, and every phase
+abbrev pub someReader : Reader
+someReader =
+    record {
+      scan = record {
+        phase = phase.Open;
+        taken = record { 0 = 9 };
+        start = record { 0 = 4 };
+        have = record { 0 = 3 };
+        length = 5;
+        sum = 12;
+      };
+      body = 0 ∷ 5 ∷ 7 ∷ [];
+    }
+
+-- the same in the specification's terms
+pub record NamedStates : Type 0 where
+  pub idle : phaseOf phase.Idle ≡ Idle
+  pub half : phaseOf phase.Half ≡ Half
+  pub header : phaseOf phase.Header ≡ Header
+  pub open-frame : phaseOf phase.Open ≡ Open
+  pub escape : phaseOf phase.Escape ≡ Escape
+  pub any-reader : (r : Reader) → (stateOf r .scan .phase ≡ phaseOf (r .scan .phase))
+      × (stateOf r .scan .taken ≡ r .scan .taken .0) × (stateOf r .scan .start ≡ r .scan .start .0)
+      × (stateOf r .scan .have ≡ r .scan .have .0) × (stateOf r .scan .length ≡ r .scan .length)
+      × (stateOf r .scan .sum ≡ r .scan .sum) × (stateOf r .body ≡ r .body)
+  pub reader : stateOf someReader
+      ≡ record {
+        scan = record { phase = Open; taken = 9; start = 4; have = 3; length = 5; sum = 12 };
+        body = 0 ∷ 5 ∷ 7 ∷ [];
+      }
+
+-- ---- contracts-whole: the contracts' equations fix the answer and all that is left, each by itself
+pub record ContractsWhole : Type 0 where
+  pub fed : (f : Fed) (y : Reply State)
+      → replyOf f ≡ y → (rowOf (f .answer) ≡ y .row) × (stateOf (f .reader) ≡ y .state)
+  pub finished : (f : Finished) (y : Reply State)
+      → endingOf f ≡ y → (endRowOf (f .answer) ≡ y .row) × (stateOf (f .reader) ≡ y .state)
+  pub written : (r : Written) (after : List ℕ) (w : Write)
+      → Writes r after w → (writtenRowOf r ≡ w .row) × (after ≡ w .out)

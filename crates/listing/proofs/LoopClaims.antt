@@ -1,0 +1,219 @@
+-- The claims of specs/LoopClaims.antt but those over several calls of the loop (Turns). Assumes nothing.
+use Prim.Native.Nat.{ℕ, zero, suc, _+_, _-_, _^_, _≤_, _<_}
+use mathlib.Core.Path.{_≡_, refl, sym, ap, _∙_}
+use mathlib.Core.Bool.{Bool, true, false, true≢false}
+use mathlib.Core.List.{List, [], _∷_, _++_}
+use native.Mathlib.Omega.{arith}
+use borrow.Author.Tests.{eqb-true, eqb-false, ltb-true, le-ltb, ne-eqb}
+use lib.ListN.{length, take, drop, length-append, length-drop}
+use lib.Seq.{take-add, drop-drop}
+use lib.Dec.{eqb, ltb, leb}
+use Rattle.base.specs.Rows.{row}
+use Rattle.base.specs.Outcomes.{Reply, reply}
+use Rattle.base.specs.Keys.{among}
+use Rattle.frame.specs.Rules.{inRangeOf, advanceOf, decidesOf}
+use Rattle.frame.specs.State.{State}
+use Rattle.frame.specs.Table.{eventRow, countOf}
+use Rattle.frame.specs.Calls.{zeros, nextOf, runOf, feedOf}
+use Rattle.frame.specs.Logs.{logOf, stateAfter, stream, offer}
+use Rattle.frame.specs.declared.scan.Event.{Event}
+use Rattle.frame.specs.declared.scan.Event.the-variants.{Quiet, Decided}
+use Rattle.frame.proofs.Counts.{within}
+use Rattle.base.proofs.Claims.{placed-whole-or-not}
+use Rattle.base.proofs.Tests.{by-test, either-way}
+use Rattle.listing.specs.Decimal.{decimalOf, digitsIn, columnsOf}
+use Rattle.listing.specs.Lines.{lineRoom}
+use Rattle.listing.specs.Claims.{givenText}
+use Rattle.listing.specs.Feeding.{Run, stopped, full, onward, refuses, lineAfter, listIn}
+use Rattle.listing.specs.LoopClaims.{StopNumbers, LeftFieldsAlways, LeftWholeAlways, Listing, LoopLists}
+use Rattle.listing.specs.LoopClaims.{LoopProgress, WorkedLoop}
+use Rattle.listing.proofs.Loops.{verdict-goes-on, takes, turn-refused, turn-onward}
+
+pub stop-numbers : StopNumbers
+stop-numbers = record { done = refl; room = refl; state = refl; used = refl }
+
+pub left-fields : LeftFieldsAlways
+left-fields l after = record { state = refl; used = refl; written = refl; stop = refl; out = refl }
+
+-- the output is as with one text that is placed
+pub left-whole : LeftWholeAlways
+left-whole run out =
+    let whole = placed-whole-or-not (run .text) out in
+    record {
+      counted = refl;
+      fits = λ h. let sum = length-append (run .text) (drop (length (run .text)) out) in omega (arith, h, sum);
+      front = λ h. rw (le-ltb (length out) (length (run .text)) h) at (whole .front h);
+      stays = λ h i g. rw (le-ltb (length out) (length (run .text)) h) at (whole .stays i g);
+      same-length = λ h. rw (le-ltb (length out) (length (run .text)) h) at (whole .same-length);
+      state = refl;
+      used = refl;
+      stop = refl;
+    }
+
+-- ---- what a refused call leaves
+
+-- a byte that is taken refuses nothing
+event-goes-on : (e : Event) (n s p : ℕ) → refuses (eventRow e n s p .number) ≡ false
+event-goes-on Quiet n s p = refl
+event-goes-on (Decided v) n s p = verdict-goes-on v
+
+pub run-goes-on : (limit : ℕ) (bs : List ℕ) (n : ℕ) (r : State) → refuses (runOf limit bs n r .row .number) ≡ false
+unfolding runOf
+run-goes-on limit [] n r = refl
+run-goes-on limit (x ∷ xs) n r =
+    by-test (λ (y : Reply State). refuses (y .row .number) ≡ false) (decidesOf (advanceOf limit (r .scan) x .event))
+    (λ d. event-goes-on (advanceOf limit (r .scan) x .event) (n + 1) (r .scan .start) (nextOf limit r x .scan .taken))
+    (λ d. run-goes-on limit xs (n + 1) (nextOf limit r x))
+
+-- STATE and USED count nothing and leave the reader as it was
+refused-kept : (limit : ℕ) (r : State) (bs : List ℕ)
+    → refuses (feedOf limit r bs .row .number) ≡ true
+    → feedOf limit r bs ≡ reply (row (feedOf limit r bs .row .number) (0 ∷ [])) r
+refused-kept limit r bs =
+    by-test (λ (y : Reply State). refuses (y .row .number) ≡ true → y ≡ reply (row (y .row .number) (0 ∷ [])) r)
+    (inRangeOf limit (r .scan))
+    (λ a. by-test (λ (y : Reply State). refuses (y .row .number) ≡ true → y ≡ reply (row (y .row .number) (0 ∷ [])) r)
+    (leb (r .scan .taken + length bs) (2 ^ 62))
+    (λ b f. absurd (true≢false (sym f ∙ run-goes-on limit bs 0 r))) (λ b f. refl))
+    (λ a f. refl)
+
+-- ---- loop-lists
+
+-- a refusal is one of the four stops
+refusal-stops : (n : ℕ) → refuses n ≡ true → among n (0 ∷ 17 ∷ 18 ∷ 22 ∷ []) ≡ true
+unfolding among
+refusal-stops n f =
+    by-test (λ (t : Bool). t ≡ true) (eqb n 0) (λ e. refl)
+    (λ e. by-test (λ (t : Bool). t ≡ true) (eqb n 17) (λ g. refl)
+    (λ g. by-test (λ (t : Bool). t ≡ true) (eqb n 18) (λ h. refl) (λ h. absurd (true≢false (sym f ∙ rw (g, h))))))
+
+module _ (limit : ℕ) (before : List ℕ) where
+  -- no call was made, and why
+  module _ (r : State) (bs : List ℕ) (room : ℕ) where
+    abbrev y : Reply State
+    y = feedOf limit r bs
+
+    none-left : length bs ≡ 0 → Listing limit before r bs room (stopped r 0)
+    unfolding among givenText logOf stateAfter stream offer
+    none-left h =
+        record {
+          calls = 0;
+          text-is = refl;
+          state-is = refl;
+          taken-is = refl;
+          within = omega arith;
+          stops = refl;
+          done = λ e. sym h;
+          room-left = λ e. absurd (omega arith);
+          at-state = λ e. absurd (omega arith);
+          at-used = λ e. absurd (omega arith);
+        }
+
+    no-room : 1 ≤ length bs → room < length before + lineRoom → Listing limit before r bs room (full r)
+    unfolding among givenText logOf stateAfter stream offer
+    no-room h g =
+        record {
+          calls = 0;
+          text-is = refl;
+          state-is = refl;
+          taken-is = refl;
+          within = omega arith;
+          stops = refl;
+          done = λ e. absurd (omega arith);
+          room-left = λ e. (omega arith, omega arith);
+          at-state = λ e. absurd (omega arith);
+          at-used = λ e. absurd (omega arith);
+        }
+
+    -- a refused call is none: it takes nothing and leaves the reader as it was
+    no-more : refuses (y .row .number) ≡ true → Listing limit before r bs room (stopped (y .state) (y .row .number))
+    unfolding givenText logOf stateAfter stream offer
+    no-more f =
+        let same : y ≡ reply (row (y .row .number) (0 ∷ [])) r = refused-kept limit r bs f in
+        let kept : y .state ≡ r = ap (λ (z : Reply State). z .state) same in
+        let again : (n : ℕ) → y .row .number ≡ n → feedOf limit (y .state) bs .row ≡ row n (0 ∷ []) =
+        λ n z. rw kept (ap (λ (w : Reply State). w .row) same ∙ ap (λ (m : ℕ). row m (0 ∷ [])) z) in
+        record {
+          calls = 0;
+          text-is = refl;
+          state-is = kept;
+          taken-is = refl;
+          within = omega arith;
+          stops = refusal-stops (y .row .number) f;
+          done = λ z. absurd (true≢false (sym f ∙ rw z));
+          room-left = λ z. absurd (true≢false (sym f ∙ rw z));
+          at-state = again 17;
+          at-used = again 18;
+        }
+
+    -- a call more
+    one-more : (run : Run)
+        → Listing limit before (y .state) (drop (countOf (y .row)) bs) (room - length (lineAfter before y)) run
+        → Listing limit before r bs room (onward (countOf (y .row)) (lineAfter before y) run)
+    unfolding givenText logOf stateAfter stream offer
+    one-more run l =
+        let few : countOf (y .row) ≤ length bs = within limit r bs in
+        let left = length-drop (countOf (y .row)) bs in
+        let long = length-append (lineAfter before y) (run .text) in
+        record {
+          calls = suc (l .calls);
+          text-is = ap (λ (t : List ℕ). lineAfter before y ++ t) (l .text-is);
+          state-is = l .state-is;
+          taken-is = ap (λ (t : List ℕ). take (countOf (y .row)) bs ++ t) (l .taken-is)
+              ∙ sym (take-add (countOf (y .row)) (run .used) bs);
+          within = omega (arith, l .within);
+          stops = l .stops;
+          done = λ z. omega (arith, l .done z);
+          room-left = λ z. (omega (arith, l .room-left z .0), omega (arith, l .room-left z .1));
+          at-state = λ z. rw drop-drop at (l .at-state z);
+          at-used = λ z. rw drop-drop at (l .at-used z);
+        }
+
+  lists : (n : ℕ) (r : State) (bs : List ℕ) (room : ℕ)
+      → length bs ≤ n → Listing limit before r bs room (listIn limit before n r bs room)
+  unfolding listIn
+  lists zero r bs room h = none-left r bs room (omega arith)
+  lists (suc n) r bs room h =
+      by-test (Listing limit before r bs room) (eqb (length bs) 0) (λ e. none-left r bs room (eqb-true (length bs) 0 e))
+      (λ e.
+      let some : 1 ≤ length bs = nonzero (length bs) (eqb-false (length bs) 0 e) in
+      by-test (Listing limit before r bs room) (ltb room (length before + lineRoom))
+      (λ f. no-room r bs room some (ltb-true room (length before + lineRoom) f))
+      (λ f. by-test (Listing limit before r bs room) (refuses (feedOf limit r bs .row .number))
+      (λ g. no-more r bs room g)
+      (λ g.
+      let fewer : length (drop (countOf (feedOf limit r bs .row)) bs) ≤ n =
+      omega (arith, length-drop (countOf (feedOf limit r bs .row)) bs, takes limit r bs g some) in
+      one-more r bs room _
+      (lists n (feedOf limit r bs .state) (drop (countOf (feedOf limit r bs .row)) bs)
+      (room - length (lineAfter before (feedOf limit r bs))) fewer))))
+    where
+      nonzero : (m : ℕ) → (m ≡ 0 → ⊥) → 1 ≤ m
+      nonzero zero f = absurd (f refl)
+      nonzero (suc m) f = omega arith
+
+pub loop-lists : LoopLists
+loop-lists limit before r bytes room = lists limit before (length bytes) r bytes room (omega arith)
+
+-- ---- loop-progress
+
+pub loop-progress : LoopProgress
+loop-progress limit before r bytes room some h =
+    either-way (refuses (feedOf limit r bytes .row .number))
+    (λ f. rw (turn-refused limit before r bytes room some h (feedOf limit r bytes) refl f)
+    (λ g k. absurd (true≢false (sym f ∙ rw (ne-eqb _ 17 g, ne-eqb _ 18 k)))))
+    (λ f. rw (turn-onward limit before r bytes room some h (feedOf limit r bytes) refl f)
+    (λ g k. omega (arith, takes limit r bytes f some)))
+
+-- ---- worked-loop
+
+pub worked-loop : WorkedLoop
+unfolding listIn runOf zeros columnsOf decimalOf digitsIn
+worked-loop =
+    record {
+      whole = record { used-is = refl; stop-is = refl; text-is = refl };
+      none = record { used-is = refl; stop-is = refl; text-is = refl };
+      first = record { used-is = refl; stop-is = refl; text-is = refl };
+      column-none = record { used-is = refl; stop-is = refl; text-is = refl };
+      column-first = record { used-is = refl; stop-is = refl; text-is = refl };
+    }

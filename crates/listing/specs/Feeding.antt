@@ -1,0 +1,97 @@
+-- The desk's loop over bytes: they are fed, the line of each answer stands behind those before it, and what an answer
+-- did not take is fed again.
+use Prim.Native.Nat.{ℕ, zero, suc, _+_, _-_}
+use mathlib.Core.Bool.{Bool, cond, _||_}
+use mathlib.Core.List.{List, [], _++_}
+use lib.ListN.{length, drop}
+use lib.Dec.{eqb, ltb}
+use Rattle.base.specs.Outcomes.{Reply, onto}
+use Rattle.frame.specs.Table.{countOf}
+use Rattle.frame.specs.State.{State, stateOf}
+use Rattle.frame.specs.Calls.{feedOf}
+use Rattle.listing.specs.Lines.{answerText, lineRoom}
+use Rattle.listing.specs.declared.feeding.Listed.{Listed}
+use Rattle.listing.specs.declared.feeding.Stop.{Stop}
+use Rattle.listing.specs.declared.feeding.Stop.the-variants as stop
+
+-- why a loop stopped, by the table's numbers: 0 all bytes are used, 22 the output might have no room for the next line,
+-- 17 and 18 as the reader answered
+abbrev pub stopOf : Stop → ℕ
+stopOf stop.Done = 0
+stopOf stop.Room = 22
+stopOf stop.State = 17
+stopOf stop.Used = 18
+
+-- what a loop does: the state that it leaves, the bytes that it used, their lines, and why it stopped
+pub record Run : Type 0 where
+  pub state : State
+  pub used : ℕ
+  pub text : List ℕ
+  pub stop : ℕ
+
+-- it does nothing more
+abbrev pub stopped : State → ℕ → Run
+stopped r number = record { state = r; used = 0; text = []; stop = number }
+
+-- the output might have no room for the next line: ROOM
+abbrev pub full : State → Run
+full r = stopped r 22
+
+-- an answer took bytes and has a line, and the loop goes on
+abbrev pub onward : ℕ → List ℕ → Run → Run
+onward count line run =
+    record { state = run .state; used = count + run .used; text = line ++ run .text; stop = run .stop }
+
+-- STATE and USED take nothing, and would come again for ever
+abbrev pub refuses : ℕ → Bool
+refuses number = eqb number 17 || eqb number 18
+
+-- the line of what a call is answered, and of the body that the reader then holds
+abbrev pub lineAfter : List ℕ → Reply State → List ℕ
+lineAfter before y = answerText before (y .row) (y .state .body)
+
+-- in at most n calls, each of what is left, with so much room left
+unfoldable pub listIn : ℕ → List ℕ → ℕ → State → List ℕ → ℕ → Run
+listIn limit before zero r bytes room = stopped r 0
+listIn limit before (suc n) r bytes room =
+    cond (eqb (length bytes) 0) (stopped r 0)
+    (cond (ltb room (length before + lineRoom)) (full r)
+    (cond (refuses (feedOf limit r bytes .row .number))
+    (stopped (feedOf limit r bytes .state) (feedOf limit r bytes .row .number))
+    (onward (countOf (feedOf limit r bytes .row)) (lineAfter before (feedOf limit r bytes))
+    (listIn limit before n (feedOf limit r bytes .state) (drop (countOf (feedOf limit r bytes .row)) bytes)
+    (room - length (lineAfter before (feedOf limit r bytes)))))))
+
+-- as many calls as there are bytes are enough: each takes one at least
+abbrev pub listOf : ℕ → List ℕ → State → List ℕ → ℕ → Run
+listOf limit before r bytes room = listIn limit before (length bytes) r bytes room
+
+-- what a call of the loop returns and leaves, with the output afterwards
+pub record Left : Type 0 where
+  pub state : State
+  pub used : ℕ
+  pub written : ℕ
+  pub stop : ℕ
+  pub out : List ℕ
+
+-- the same of what the code returns
+abbrev pub leftOf : Listed → List ℕ → Left
+leftOf l after =
+    record {
+      state = stateOf (l .reader);
+      used = l .used;
+      written = l .written;
+      stop = stopOf (l .stop);
+      out = after;
+    }
+
+-- the lines stand at the front of the output, whose rest stays
+abbrev pub leftBy : Run → List ℕ → Left
+leftBy run out =
+    record {
+      state = run .state;
+      used = run .used;
+      written = length (run .text);
+      stop = run .stop;
+      out = onto (run .text) out;
+    }

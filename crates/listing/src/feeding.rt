@@ -1,0 +1,110 @@
+// The desk's loop over bytes: each answer's line is put behind those before it, until the bytes or the room end.
+use super::lines::answer_line;
+use frame::Answer;
+use frame::Reader;
+ghost use mathlib.Core.Path.{_≡_};
+ghost use mathlib.Core.Bool.{true};
+ghost use Prim.Native.Nat.{_+_, _≤_};
+ghost use lib.ListN.{length};
+ghost use Rattle.base.specs.Stores.{PutAt};
+ghost use Rattle.frame.specs.Wire.{frameLimit};
+ghost use Rattle.frame.specs.State.{stateOf};
+ghost use Rattle.frame.specs.Table.{rowOf};
+ghost use Rattle.listing.specs.Lines.{answerText, lineRoom};
+ghost use Rattle.listing.specs.Feeding.{stopOf, refuses, listOf, leftOf, leftBy};
+
+// No answer's line has more bytes behind what stands before its word.
+const LINE_ROOM: usize = 132;
+
+// Why a loop stopped: all bytes are used, the next line might have no room, or the reader refuses them.
+pub enum Stop {
+    Done,
+    Room,
+    State,
+    Used,
+}
+
+// The reader afterwards, the bytes used, the bytes of text at the front of the output, and why no more.
+pub struct Listed {
+    pub reader: Reader,
+    pub used: usize,
+    pub written: usize,
+    pub stop: Stop,
+}
+
+// Whether the reader refuses the call, and would refuse it again.
+fn is_refusal(said: Answer) -> bool
+    ensures { λ r. ⌜ r ≡ refuses (rowOf said .number) ⌝ }
+{
+    match said {
+        Answer::More { count: _ } => false,
+        Answer::Decided {
+            count: _,
+            start: _,
+            end: _,
+            verdict: _,
+        } => false,
+        Answer::State => true,
+        Answer::Used => true,
+    }
+}
+
+// Why a loop stops at a refusal; other answers do not stop one.
+fn refusal(said: Answer) -> Stop
+    ensures { λ r. ⌜ (refuses (rowOf said .number) ≡ true → stopOf r ≡ rowOf said .number) ⌝ }
+{
+    match said {
+        Answer::More { count: _ } => Stop::Done,
+        Answer::Decided {
+            count: _,
+            start: _,
+            end: _,
+            verdict: _,
+        } => Stop::Done,
+        Answer::State => Stop::State,
+        Answer::Used => Stop::Used,
+    }
+}
+
+// The line of an answer at a place of the output that has room for it; the place behind it.
+fn add_line(said: Answer, before: &[u8], body: &[u8], out: &mut [u8], at: usize) -> usize
+    requires { ⌜ at + length (now before) + lineRoom ≤ length (now out) ⌝ }
+    ensures { λ r. ⌜ PutAt (now (out .entry)) at
+        (answerText (now (before .entry)) (rowOf said) (now (body .entry))) r (now (out .exit)) ⌝ }
+    ensures { λ r. ⌜ r ≤ length (now (out .entry)) ⌝ }
+{
+    at + answer_line(said, before, body, &mut out[at..]).count()
+}
+
+// Feeds bytes and puts the line of each answer. Where it stops for room, the caller writes the text out and calls again
+// with the bytes that are left: room is asked before the bytes are fed, so that no answer is lost.
+pub fn list(reader: Reader, before: &[u8], bytes: &[u8], out: &mut [u8]) -> Listed
+    ensures { λ r. ⌜ leftOf r (now (out .exit)) ≡ leftBy (listOf frameLimit (now (before .entry)) (stateOf reader)
+        (now (bytes .entry)) (length (now (out .entry)))) (now (out .entry)) ⌝ }
+{
+    let mut next = reader;
+    let mut used = 0;
+    let mut written = 0;
+    let stop = loop {
+        if used == bytes.len() {
+            break Stop::Done;
+        }
+        if out.len() - written < before.len() + LINE_ROOM {
+            break Stop::Room;
+        }
+        let fed = frame::feed(next, &bytes[used..]);
+        let answer = fed.answer;
+        next = fed.reader;
+        if is_refusal(answer) {
+            break refusal(answer);
+        }
+        used += answer.count();
+        written = add_line(answer, before, &next.body, out, written);
+    };
+    Listed {
+        reader: next,
+        used,
+        written,
+        stop,
+    }
+}

@@ -1,0 +1,116 @@
+-- Messages written: each call's answer from the frame writer's, and refusals by computation. Assumes nothing.
+use Prim.Native.Nat.{ℕ, _+_}
+use mathlib.Core.Path.{_≡_, refl, ap, _∙_}
+use mathlib.Core.Bool.{Bool, true, false, cond}
+use mathlib.Core.List.{[], _∷_}
+use borrow.Author.Tests.{le-ltb, lt-ltb}
+use lib.Dec.{eqb}
+use lib.ListN.{length}
+use Rattle.base.specs.Keys.{among}
+use Rattle.base.specs.Sums.{total}
+use Rattle.base.proofs.Keys.{agree}
+use Rattle.base.proofs.Tests.{cond-same}
+use Rattle.frame.specs.Wire.{stuff, bodyOf}
+use Rattle.message.specs.Commands.{table, lineIn, kindOf, isListed, sizeFits, fits}
+use Rattle.message.specs.Writing.{commandIn, payloadIn, lentFits, allowedIn}
+use Rattle.message.specs.Claims.{emptyCommands}
+use Rattle.message.specs.Sendings.{messageWire, SendsExactly, RefusesExactly, LentTo, EmptyLent, LentExactly}
+use Rattle.message.specs.Sendings.{lentTaken, WorkedRefusals}
+use Rattle.message.specs.declared.kind.Line.{Line}
+use Rattle.message.specs.declared.values.Extra.the-variants as extra
+use Rattle.message.specs.declared.values.Message.{Message}
+use Rattle.message.specs.declared.values.Message.the-variants as message
+use Rattle.message.proofs.Lines.{paper-lists, every, unless}
+use Rattle.message.proofs.Tests.{and-true, and-false}
+
+pub sent-exactly : SendsExactly
+sent-exactly limit m number flags lent out w =
+    let w-length = length (messageWire m number flags lent) in
+    let needed = length (payloadIn m lent) + 5 in
+    record {
+      payload = λ h. rw (w .listed, w .sized, w .allows, lt-ltb limit needed h);
+      room = λ h r. rw (w .listed, w .sized, w .allows, le-ltb limit needed h, lt-ltb (length out) w-length r);
+      written = λ h r. rw (w .listed, w .sized, w .allows, le-ltb limit needed h, le-ltb (length out) w-length r);
+    }
+
+pub refused-exactly : RefusesExactly
+refused-exactly limit m number flags lent out =
+    record {
+      unlisted = λ l. rw l;
+      size = λ l s. rw (l, s);
+      field = λ l s a. rw (l, s, a);
+    }
+
+-- ---- the three tests
+
+plain : {takes : ℕ → Bool} {allows : Bool} (m : Message) → isListed (kindOf (commandIn m)) ≡ true
+    → ((n : ℕ) → lentFits m n ≡ takes n) → allowedIn m ≡ allows → LentTo m (commandIn m) takes allows
+plain m l t a = record { command-is = refl; listed = l; lent = t; values = a }
+
+-- no payload fits no other command, and none that is not listed
+takes-none : (command : ℕ) → among command (0x04 ∷ emptyCommands) ≡ false → sizeFits (kindOf command) [] ≡ false
+unfolding among table lineIn sizeFits fits
+takes-none command h =
+    unless false h
+    (every (λ c. cond (among c (0x04 ∷ emptyCommands)) false (sizeFits (kindOf c) [])) (λ _. false) refl
+    (λ c none _. ap (λ (l : Line). cond (among c (0x04 ∷ emptyCommands)) false (sizeFits (l .kind) [])) none ∙ cond-same
+    (among c (0x04 ∷ emptyCommands)) false) command)
+
+-- a command with no payload
+empty-lent : (command : ℕ) → EmptyLent command
+unfolding among table lineIn sizeFits fits
+empty-lent command =
+    record {
+      command-is = refl;
+      values = refl;
+      listed = paper-lists .listed command;
+      empty = λ h n.
+          let fits-none : sizeFits (kindOf command) [] ≡ true =
+          agree (λ c. sizeFits (kindOf c) []) (λ _. true) (0x04 ∷ emptyCommands) command refl h in
+          rw fits-none (and-true (eqb n 0));
+      others = λ h n. rw (takes-none command h) (and-false (eqb n 0));
+    }
+
+pub lent-exactly : LentExactly
+unfolding table lineIn
+lent-exactly =
+    record {
+      empty = empty-lent;
+      information = λ t. plain (message.Information t extra.Absent) refl (λ n. refl) refl;
+      attributes = λ t a. plain (message.Information t (extra.Attributes a)) refl (λ n. refl) refl;
+      secret = λ t a. plain (message.Information t (extra.AttributesAndSecret a)) refl (λ n. refl) refl;
+      control = λ c. plain (message.Control c) refl (λ n. refl) refl;
+      query = plain message.Query refl (λ n. refl) refl;
+      status = λ s. plain (message.Status s) refl (λ n. refl) refl;
+      report = λ s. plain (message.Report s) refl (λ n. refl) refl;
+      onboarding = λ w. plain (message.Onboarding w) refl (λ n. refl) refl;
+      network = λ m. plain (message.Network m) refl (λ n. refl) refl;
+      module-reject = λ c. plain (message.ModuleReject c) refl (λ n. refl) refl;
+      box-reject = λ c. plain (message.BoxReject c) refl (λ n. refl) refl;
+      time = λ t. plain (message.Time t) refl (λ n. refl) refl;
+      announcement = λ s. plain (message.Announcement s) refl (λ n. refl) refl;
+      ready = λ s. plain (message.Ready s) refl (λ n. refl) refl;
+      piece = λ i t. plain (message.Piece i t) refl (λ n. refl) refl;
+    }
+
+pub worked-refusals : WorkedRefusals
+unfolding stuff total bodyOf among table lineIn sizeFits fits lentTaken
+worked-refusals =
+    record {
+      information = refl;
+      attributes = refl;
+      secret = refl;
+      announcement = refl;
+      ready = refl;
+      piece = refl;
+      bare = refl;
+      empty = refl;
+      fields = refl;
+      strength = refl;
+      unlisted-first = refl;
+      size-before-field = refl;
+      field-before-room = refl;
+      room-last = refl;
+      too-many-texts = λ lent h. rw h;
+      too-long-code = λ lent h. rw h;
+    }

@@ -1,0 +1,33 @@
+-- The tables of commands and sizes, each by one computation. Assumes nothing.
+use mathlib.Core.Path.{refl}
+use Rattle.base.specs.Keys.{among}
+use Rattle.message.specs.Commands.{table, lineIn, sizeFits, fits}
+use Rattle.message.specs.Sizes.{takenOf, WorkedCommands, WorkedSizes}
+
+pub worked-commands : WorkedCommands
+unfolding among table lineIn sizeFits fits
+worked-commands = record { no-byte = refl; one-byte = refl }
+
+pub worked-sizes : WorkedSizes
+unfolding among table lineIn sizeFits fits takenOf
+worked-sizes =
+    record {
+      information = refl;
+      control = refl;
+      query = refl;
+      other-action = refl;
+      status = refl;
+      other-status = refl;
+      report = refl;
+      other-report = refl;
+      onboarding = refl;
+      network = refl;
+      module-reject = refl;
+      box-reject = refl;
+      time = refl;
+      announcement = refl;
+      announcement-counts = refl;
+      ready = refl;
+      ready-counts = refl;
+      piece = refl;
+    }

@@ -1,0 +1,48 @@
+-- The worked names, readings and writings, each table by one computation. Assumes nothing.
+use mathlib.Core.Path.{refl}
+use Rattle.base.specs.Keys.{among}
+use Rattle.message.specs.Commands.{table, lineIn, sizeFits, fits}
+use Rattle.message.specs.Worked.{WorkedReadings, WorkedParts}
+use Rattle.message.specs.Writings.{WorkedWritings}
+use Rattle.message.specs.Names.{WorkedNames}
+
+pub worked-readings : WorkedReadings
+unfolding among table lineIn sizeFits fits
+worked-readings =
+    record {
+      empty = refl;
+      status = refl;
+      report = refl;
+      control = refl;
+      network = refl;
+      numbers = refl;
+      single-bytes = refl;
+      competing = refl;
+    }
+
+pub worked-parts : WorkedParts
+unfolding among table lineIn sizeFits fits
+worked-parts =
+    record {
+      information = refl;
+      with-attributes = refl;
+      with-secret = refl;
+      announcement = refl;
+      ready = refl;
+      piece = refl;
+      time = refl;
+      refused = refl;
+    }
+
+pub worked-writings : WorkedWritings
+worked-writings = record { status = refl; control = refl; network = refl; named = refl; numbers = refl }
+
+pub worked-names : WorkedNames
+worked-names =
+    record {
+      got-as = λ m parts. refl;
+      readings = refl;
+      sendings = λ count. refl;
+      replies = λ n. refl;
+      rejected = λ n. refl;
+    }

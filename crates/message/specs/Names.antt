@@ -1,0 +1,52 @@
+-- The names of answers, each with its row in literal numbers: of what is read, of what is written, of what the box
+-- answers. `NamedNumbers` has the numbers of modes, ways, codes and causes by themselves; the fields of a message have
+-- theirs in `WorkedWritings`.
+use Prim.Native.Nat.{ℕ}
+use mathlib.Core.Path.{_≡_}
+use mathlib.Core.List.{List, [], _∷_, map}
+use Rattle.base.specs.Rows.{row}
+use Rattle.message.specs.Parts.{noParts}
+use Rattle.message.specs.Reading.{got}
+use Rattle.message.specs.Writing.{messageIn}
+use Rattle.message.specs.Table.{readingOf, sentRowOf, replyRowOf}
+use Rattle.message.specs.declared.values.Code.{Code}
+use Rattle.message.specs.declared.values.Code.the-variants as code
+use Rattle.message.specs.declared.values.Message.{Message}
+use Rattle.message.specs.declared.kind.Cause.{Cause}
+use Rattle.message.specs.declared.kind.Cause.the-variants as cause
+use Rattle.message.specs.declared.parts.Parts.{Parts}
+use Rattle.message.specs.declared.reader.Reading.the-variants as reading
+use Rattle.message.specs.declared.writer.Sent.the-variants as sent
+use Rattle.message.specs.declared.replies.Reply.the-variants as reply
+
+-- ---- worked-names
+
+-- why a frame was rejected, in the order of the code's enum
+abbrev pub causes : List Cause
+causes = cause.Sum ∷ cause.Command ∷ cause.Size ∷ cause.Field ∷ cause.BoxCommand ∷ []
+
+-- the codes, in that order
+abbrev pub codes : List Code
+codes = code.Sum ∷ code.Command ∷ code.Other ∷ code.FileType ∷ []
+
+-- whatever the count, the number received and the places are
+pub record WorkedNames : Type 0 where
+  pub got-as : (m : Message) (parts : Parts) → readingOf (reading.Got m parts) ≡ got (messageIn m) parts
+  pub readings :
+      map readingOf (reading.Command ∷ reading.Size ∷ reading.Field ∷ [])
+      ≡ map (λ n. record { row = row n []; parts = noParts }) (31 ∷ 32 ∷ 33 ∷ [])
+  pub sendings :
+      (count : ℕ)
+      → map sentRowOf (sent.Wrote count ∷ sent.Payload ∷ sent.Room ∷ sent.Command ∷ sent.Size ∷ sent.Field ∷ [])
+      ≡ row 0 (count ∷ []) ∷ row 21 (0 ∷ []) ∷ row 22 (0 ∷ []) ∷ row 31 [] ∷ row 32 [] ∷ row 33 [] ∷ []
+  pub replies :
+      (n : ℕ)
+      → map replyRowOf
+      (reply.Nothing ∷ reply.InformationWanted n ∷ reply.StatusWanted n ∷ reply.Acknowledged n ∷ reply.Room ∷ [])
+      ≡ row 0 [] ∷ row 0 (0 ∷ 2 ∷ n ∷ []) ∷ row 0 (0 ∷ 4 ∷ n ∷ []) ∷ row 0 (n ∷ []) ∷ row 22 (0 ∷ []) ∷ []
+  -- a 12 by each code and, for each, by each cause
+  pub rejected :
+      (n : ℕ)
+      → map (λ (c : Code). map (λ (k : Cause). replyRowOf (reply.Rejected n c k)) causes) codes
+      ≡ map (λ (c : ℕ). map (λ (k : ℕ). row 0 (n ∷ 0x12 ∷ c ∷ k ∷ [])) (15 ∷ 31 ∷ 32 ∷ 33 ∷ 0 ∷ []))
+      (1 ∷ 2 ∷ 3 ∷ 4 ∷ [])

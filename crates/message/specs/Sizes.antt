@@ -1,0 +1,72 @@
+-- Paper 01's list of commands and sizes, as tables in literal numbers: which commands and sizes reading refuses.
+use Prim.Native.Nat.{ℕ, zero, suc}
+use mathlib.Core.Path.{_≡_}
+use mathlib.Core.Bool.{cond}
+use mathlib.Core.List.{List, [], _∷_, _++_, map}
+use lib.ListN.{take, replicate}
+use lib.Dec.{eqb}
+use Rattle.base.specs.Rows.{Row, row}
+use Rattle.message.specs.Reading.{readOf}
+
+-- so many numbers from one on
+abbrev pub numbersFrom : ℕ → ℕ → List ℕ
+numbersFrom first zero = []
+numbersFrom first (suc n) = first ∷ numbersFrom (suc first) n
+
+-- all command bytes
+abbrev pub commandBytes : List ℕ
+commandBytes = numbersFrom 0 256
+
+-- ---- worked-commands: what every command byte gives with no payload, and with one byte 0
+
+-- the table's number for each command byte, with one payload
+abbrev pub answersTo : List ℕ → List ℕ
+answersTo p = map (λ c. readOf c p .number) commandBytes
+
+-- by sixteen command bytes a line; no command from 30 on is listed
+pub record WorkedCommands : Type 0 where
+  pub no-byte :
+      answersTo []
+      ≡ 31 ∷ 0 ∷ 32 ∷ 32 ∷ 0 ∷ 32 ∷ 0 ∷ 0 ∷ 0 ∷ 32 ∷ 0 ∷ 0 ∷ 0 ∷ 32 ∷ 0 ∷ 0
+      ∷ 0 ∷ 32 ∷ 32 ∷ 0 ∷ 0 ∷ 0 ∷ 0 ∷ 0 ∷ 32 ∷ 32 ∷ 0 ∷ 32 ∷ 0 ∷ 32 ∷ 0 ∷ 0
+      ∷ 0 ∷ 31 ∷ 31 ∷ 31 ∷ 31 ∷ 31 ∷ 31 ∷ 0 ∷ 0 ∷ 0 ∷ 0 ∷ 31 ∷ 31 ∷ 31 ∷ 31 ∷ 31
+      ∷ replicate 208 31
+  pub one-byte :
+      answersTo (0 ∷ [])
+      ≡ 31 ∷ 32 ∷ 32 ∷ 33 ∷ 33 ∷ 33 ∷ 32 ∷ 32 ∷ 32 ∷ 33 ∷ 32 ∷ 32 ∷ 32 ∷ 32 ∷ 32 ∷ 32
+      ∷ 32 ∷ 33 ∷ 33 ∷ 32 ∷ 32 ∷ 32 ∷ 32 ∷ 32 ∷ 32 ∷ 32 ∷ 32 ∷ 32 ∷ 32 ∷ 32 ∷ 32 ∷ 32
+      ∷ 32 ∷ 31 ∷ 31 ∷ 31 ∷ 31 ∷ 31 ∷ 31 ∷ 32 ∷ 32 ∷ 32 ∷ 32 ∷ 31 ∷ 31 ∷ 31 ∷ 31 ∷ 31
+      ∷ replicate 208 31
+
+-- ---- worked-sizes: the sizes that are not SIZE, of the fronts of some bytes
+
+-- of these sizes
+unfoldable pub takenOf : ℕ → List ℕ → List ℕ → List ℕ
+takenOf command p [] = []
+takenOf command p (n ∷ ns) =
+    cond (eqb (readOf command (take n p) .number) 32) (takenOf command p ns) (n ∷ takenOf command p ns)
+
+-- of the sizes below 120
+abbrev pub sizesTaken : ℕ → List ℕ → List ℕ
+sizesTaken command p = takenOf command (p ++ replicate 120 0) (numbersFrom 0 120)
+
+-- every command that has a payload; 03, 04 and 05 by their first byte, 19 and 1B by their count
+pub record WorkedSizes : Type 0 where
+  pub information : sizesTaken 0x02 [] ≡ 66 ∷ 74 ∷ 106 ∷ []
+  pub control : sizesTaken 0x03 (1 ∷ []) ≡ 5 ∷ []
+  pub query : sizesTaken 0x03 (2 ∷ []) ≡ 1 ∷ []
+  pub other-action : sizesTaken 0x03 (3 ∷ []) ≡ numbersFrom 1 119
+  pub status : sizesTaken 0x04 (3 ∷ []) ≡ 0 ∷ 9 ∷ []
+  pub other-status : sizesTaken 0x04 (4 ∷ []) ≡ numbersFrom 0 120
+  pub report : sizesTaken 0x05 (4 ∷ []) ≡ 9 ∷ []
+  pub other-report : sizesTaken 0x05 (3 ∷ []) ≡ numbersFrom 1 119
+  pub onboarding : sizesTaken 0x09 (1 ∷ []) ≡ 1 ∷ []
+  pub network : sizesTaken 0x0D [] ≡ 2 ∷ []
+  pub module-reject : sizesTaken 0x11 (1 ∷ []) ≡ 1 ∷ []
+  pub box-reject : sizesTaken 0x12 (1 ∷ []) ≡ 1 ∷ []
+  pub time : sizesTaken 0x18 [] ≡ 7 ∷ 11 ∷ []
+  pub announcement : sizesTaken 0x19 [] ≡ 6 ∷ []
+  pub announcement-counts : sizesTaken 0x19 (9 ∷ 9 ∷ 9 ∷ 9 ∷ 0 ∷ 16 ∷ []) ≡ 22 ∷ []
+  pub ready : sizesTaken 0x1B [] ≡ 4 ∷ []
+  pub ready-counts : sizesTaken 0x1B (0 ∷ 16 ∷ []) ≡ 20 ∷ []
+  pub piece : sizesTaken 0x1D [] ≡ numbersFrom 4 116
