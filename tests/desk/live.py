@@ -241,17 +241,36 @@ def dies(test, door):
 
 
 def waits_for_its_input(test, door, room):
-    """A named pipe that nobody writes to yet; the signal comes before there is anything to list."""
+    """A named pipe that nobody writes to yet; the signal comes before there is anything to list, while the run's processes begin."""
     os.mkfifo(room / "silent")
-    for word, (who, send) in itertools.product(("SIGINT", "SIGTERM", "SIGHUP"), RECEIVERS):
+    for word, (who, send), begun in itertools.product(("SIGINT", "SIGTERM", "SIGHUP"), RECEIVERS, (1, 2, 3, 4)):
         number = getattr(signal, word)
-        name = f"{word} to {who} before the input is there"
+        name = f"{word} to {who} before the input is there, {begun} of the run begun"
         with Live([door, "list", room / "silent"], start_new_session=True) as live:
-            wait_for(lambda: len(left_in(live.process.pid)) == 3)
+            begins = wait_for(lambda: len(left_in(live.process.pid)) >= begun)
             send(live.process.pid, number)
             found = live.ended()
-            test(name, found.status == -number and found.out + found.err == b"", str(found))
+            test(name, begins and found.status == -number and found.out + found.err == b"", str(found))
             nothing_left(test, name, live.process.pid)
+
+
+def half_a_message(test, door, room):
+    """The relay's reader is ended in the middle of a line that it writes; the stand-in writes half of one and waits."""
+    tools = room / "halfway"
+    tools.mkdir()
+    (tools / "cat").write_text("#!/bin/sh\nprintf 'cat: half' >&2\nexec sleep 600\n")
+    (tools / "cat").chmod(0o755)
+    env = os.environ | {"PATH": f"{tools}:{os.environ['PATH']}"}
+    for name, ends, lines in [
+        ("the input is ended", lambda pid: os.kill(pid, signal.SIGTERM), b"clean 0\n"),
+        ("the program dies", lambda pid: os.kill(program_of(pid), signal.SIGSEGV), b""),
+    ]:
+        with Live([door, "list"], env=env, start_new_session=True) as live:
+            begins = below(live.process.pid, "sleep") and live.line() == HEADING
+            ends(live.process.pid)
+            found = live.ended()
+            test(f"{name} in half a message", begins and found.is_refusal("standard input", status=1, out=lines), str(found))
+            nothing_left(test, f"{name} in half a message", live.process.pid)
 
 
 RECEIVERS = [("the front door", os.kill), ("all of the run, as by a terminal", os.killpg)]
@@ -263,6 +282,7 @@ def signals(test, door, room):
     at_once(test, door, room)
     control_c(test, door)
     waits_for_its_input(test, door, room)
+    half_a_message(test, door, room)
     stopped(test, door)
     dies(test, door)
 
