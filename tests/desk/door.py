@@ -9,7 +9,7 @@ import termios
 import time
 import tty
 
-PATIENCE = 10  # seconds in which a thing that should happen has to
+PATIENCE = 60  # seconds in which a thing that should happen has to
 PAUSE = 0.05  # seconds in which a thing that should not happen is waited for
 
 
@@ -132,7 +132,7 @@ class Live:
 def rest_of(file):
     """What can be read up to its end; a process that was left behind could keep it from ending."""
     found = b""
-    while select.select([file], [], [], 1)[0]:
+    while select.select([file], [], [], PATIENCE)[0]:
         more = os.read(file.fileno(), 65536)
         if not more:
             return found

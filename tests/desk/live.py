@@ -9,8 +9,8 @@ import termios
 import threading
 
 import model
-from door import PAUSE, SILENT, Live, below, ends_of, hung_up, is_full, is_line, left_in, peak_memory, play, program_of, stands_still
-from door import terminal, wait_for, written_by
+from door import PATIENCE, PAUSE, SILENT, Live, below, ends_of, hung_up, is_full, is_line, left_in, peak_memory, play
+from door import program_of, stands_still, terminal, wait_for, written_by
 from model import HEADING
 
 # Written by hand: bytes, the lines behind them, and silence where no line is due yet.
@@ -328,7 +328,7 @@ def lines_at(lines, offset):
 def received(live, size):
     """As many bytes of its output, or less where it ends or stops."""
     found = bytearray()
-    while len(found) < size and live.says(10):
+    while len(found) < size and live.says(PATIENCE):
         more = os.read(live.process.stdout.fileno(), min(65536, size - len(found)))
         if not more:
             break
@@ -353,7 +353,7 @@ def through(test, door, data, lines, copies):
         # Its input is still open, so that it can be looked at.
         program = program_of(live.process.pid)
         peak = peak_memory(program) if program else MOST_KIB * 99
-        sender.join(10)
+        sender.join(PATIENCE)
         live.close_wire()
         found = live.ended()
         test(f"{name}, its end", found.is_quiet(f"clean {len(data) * copies}\n".encode()), str(found))

@@ -377,7 +377,7 @@ WANTED = dict.fromkeys(OFTEN, 100) | dict.fromkeys(SELDOM, 20)
 
 # The program on its input.
 
-PATIENCE = 5  # seconds
+PATIENCE = 60  # seconds
 
 
 def run_stated(program):

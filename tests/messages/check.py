@@ -401,7 +401,7 @@ def run_writes(program, seed, count):
 
 # The program on a stream.
 
-PATIENCE = 10  # seconds
+PATIENCE = 60  # seconds
 
 
 def run_stated(program):

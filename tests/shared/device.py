@@ -4,7 +4,7 @@ import select
 import subprocess
 import time
 
-PATIENCE = 5  # seconds
+PATIENCE = 60  # seconds
 PAUSE = 0.05  # seconds between the pieces of a record
 
 
