@@ -20,6 +20,7 @@ worked-numbers =
     record { two-read = refl; two-at-end = refl; two-written = refl; four-read = refl; four-written = refl; sum = refl }
 
 pub numbers-spelled : AllSpelled
+unfolding total
 numbers-spelled a b c d n k r v =
     record {
       two-at = refl;
@@ -31,6 +32,9 @@ numbers-spelled a b c d n k r v =
           let third : n % 65536 / 256 ≡ n / 256 % 256 = omega arith in
           let last : n % 65536 % 256 ≡ n % 256 = omega arith in
           rw (first, third, last);
+      total-none = refl;
+      total-of = refl;
+      sum-of = refl;
       written = refl;
     }
 

@@ -8,7 +8,7 @@ use denote.Ref.{RefT, now}
 use Rattle.base.specs.Rows.{row}
 use Rattle.base.specs.Outcomes.{writtenIn, placed}
 use Rattle.base.specs.Numbers.{twoAt, fourAt, two, four}
-use Rattle.base.specs.Sums.{checksum}
+use Rattle.base.specs.Sums.{total, checksum}
 use Rattle.base.specs.Parts.{IsPart}
 
 -- ---- worked-numbers: literal bytes, by computation;
@@ -28,6 +28,10 @@ pub record NumbersSpelled (a b c d n k : ℕ) (r v : List ℕ) : Type 0 where
   pub four-at : fourAt (a ∷ b ∷ c ∷ d ∷ r) 0 ≡ ((a * 256 + b) * 256 + c) * 256 + d
   pub two-of : two n r ≡ n / 256 ∷ n % 256 ∷ r
   pub four-of : four n r ≡ n / 16777216 ∷ n / 65536 % 256 ∷ n / 256 % 256 ∷ n % 256 ∷ r
+  -- every byte is added once, and only the lowest eight bits are the sum
+  pub total-none : total [] ≡ 0
+  pub total-of : total (a ∷ r) ≡ a + total r
+  pub sum-of : checksum r ≡ total r % 256
   -- what an answer counts as written is its first value
   pub written : writtenIn (row k (n ∷ v)) ≡ n
 
