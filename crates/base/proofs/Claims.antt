@@ -1,17 +1,19 @@
 -- The claims of specs/Claims.antt. Assumes nothing.
 use Prim.Native.Nat.{ℕ, _+_, _-_, _/_, _%_, _≤_}
-use mathlib.Core.Path.{_≡_, refl, _∙_}
-use mathlib.Core.List.{List}
+use mathlib.Core.Path.{_≡_, refl, sym, _∙_}
+use mathlib.Core.Bool.{Bool, true, true≢false}
+use mathlib.Core.List.{List, [], _∷_, List·Memᴰ, List·Memᴰ·head, List·Memᴰ·tail, List·Memᴰ·not-nil}
 use native.Mathlib.Nat.{add-assoc}
 use native.Mathlib.Omega.{arith}
-use borrow.Author.Tests.{ltb-true, ltb-false}
+use borrow.Author.Tests.{ltb-true, ltb-false, eq-eqb, eqb-true}
 use lib.ListN.{length, getD, drop, length-append, length-drop}
 use lib.Seq.{getD-append-add, getD-append-seam, getD-drop, take-append-seam}
-use lib.Dec.{ltb}
+use lib.Dec.{ltb, eqb}
 use Rattle.base.specs.Outcomes.{onto}
 use Rattle.base.specs.Sums.{total}
-use Rattle.base.specs.Claims.{WorkedNumbers, AllSpelled, PartsWhole, ReadBackBetween, PlacedAlways}
-use Rattle.base.proofs.Tests.{either-way}
+use Rattle.base.specs.Keys.{among}
+use Rattle.base.specs.Claims.{WorkedNumbers, AllSpelled, AllLookedUp, PartsWhole, ReadBackBetween, PlacedAlways}
+use Rattle.base.proofs.Tests.{by-test, either-way}
 use Rattle.base.proofs.Numbers.{two-behind}
 
 pub worked-numbers : WorkedNumbers
@@ -37,6 +39,22 @@ numbers-spelled a b c d n k r v =
       sum-of = refl;
       written = refl;
     }
+
+there : (x : ℕ) (l : List ℕ) → List·Memᴰ x l → among x l ≡ true
+unfolding among
+there x [] d = absurd (List·Memᴰ·not-nil d)
+there x (y ∷ ys) (List·Memᴰ·head e) = rw (eq-eqb x y e)
+there x (y ∷ ys) (List·Memᴰ·tail d) = by-test (λ (b : Bool). b ≡ true) (eqb x y) (λ _. refl) λ _. there x ys d
+
+only-there : (x : ℕ) (l : List ℕ) → among x l ≡ true → List·Memᴰ x l
+unfolding among
+only-there x [] = λ h. absurd (true≢false (sym h))
+only-there x (y ∷ ys) =
+    by-test (λ (b : Bool). b ≡ true → List·Memᴰ x (y ∷ ys)) (eqb x y) (λ e _. List·Memᴰ·head (eqb-true x y e))
+    λ _ h. List·Memᴰ·tail (only-there x ys h)
+
+pub looked-up : AllLookedUp
+looked-up x l = record { there = there x l; only-there = only-there x l }
 
 pub part-whole : PartsWhole
 part-whole whole part start size p = record { bytes = p .bytes; place = (p .block, p .offset) }

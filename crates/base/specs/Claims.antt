@@ -2,7 +2,8 @@
 -- proofs/Claims.antt has a theorem for each.
 use Prim.Native.Nat.{ℕ, _+_, _*_, _/_, _%_, _≤_, _<_}
 use mathlib.Core.Path.{_≡_}
-use mathlib.Core.List.{List, [], _∷_, _++_}
+use mathlib.Core.Bool.{true}
+use mathlib.Core.List.{List, [], _∷_, _++_, List·Memᴰ}
 use lib.ListN.{length, getD, take, drop}
 use denote.Ref.{RefT, now}
 use Rattle.base.specs.Rows.{row}
@@ -10,6 +11,7 @@ use Rattle.base.specs.Outcomes.{writtenIn, placed}
 use Rattle.base.specs.Numbers.{twoAt, fourAt, two, four}
 use Rattle.base.specs.Sums.{total, checksum}
 use Rattle.base.specs.Parts.{IsPart}
+use Rattle.base.specs.Keys.{among}
 
 -- ---- worked-numbers: literal bytes, by computation;
 -- the higher byte comes first, and a byte that is not there counts 0
@@ -38,6 +40,15 @@ pub record NumbersSpelled (a b c d n k : ℕ) (r v : List ℕ) : Type 0 where
 -- of any numbers
 abbrev pub AllSpelled : Type 0
 AllSpelled = (a b c d n k : ℕ) (r v : List ℕ) → NumbersSpelled a b c d n k r v
+
+-- ---- looked-up: a number is among those of a list exactly when it is one of them
+pub record LookedUp (x : ℕ) (l : List ℕ) : Type 0 where
+  pub there : List·Memᴰ x l → among x l ≡ true
+  pub only-there : among x l ≡ true → List·Memᴰ x l
+
+-- of any number and list
+abbrev pub AllLookedUp : Type 0
+AllLookedUp = (x : ℕ) (l : List ℕ) → LookedUp x l
 
 -- ---- part-whole: a part has its bytes, and lies in the whole's block of memory behind its first byte
 pub record PartWhole (whole part : RefT (List ℕ)) (start size : ℕ) : Type 0 where
