@@ -6,10 +6,11 @@ use native.Mathlib.Omega.{arith}
 use lib.ListN.{length-replicate}
 use Rattle.frame.specs.Calls.{freshOf, zeros}
 use Rattle.frame.specs.Logs.{Call, logOf, stream, callOf, Chains}
-use Rattle.frame.specs.Claims.{Demand3s, NeverState, LogChains, StateKept}
+use Rattle.frame.specs.Claims.{Demand3s, SentAgain, NeverState, LogChains, StateKept}
 use Rattle.frame.proofs.Listed.{framesOf-lists}
 use Rattle.frame.proofs.Moves.{Inv}
 use Rattle.frame.proofs.Logged.{Logged, logged}
+use Rattle.frame.proofs.Sent.{fronted}
 
 pub fresh-holds : (limit : ℕ) → Inv limit (freshOf limit)
 unfolding zeros
@@ -33,7 +34,11 @@ demand-3 limit small calls =
       lists = rw (ok .frames) (framesOf-lists limit small (stream (logOf limit (freshOf limit) calls)));
       accounts = ok .accounts;
       chains = log-chains limit (freshOf limit) calls;
+      again = λ sent. fronted 0 (logOf limit (freshOf limit) calls) sent (ok .accounts);
     }
+
+pub sent-again : SentAgain
+sent-again limit small calls = demand-3 limit small calls .again
 
 pub never-state : NeverState
 never-state limit small calls = from-fresh limit small calls .never

@@ -18,11 +18,11 @@ pub mod Bodies
 pub mod Moves
 pub mod Accounts
 pub mod Logged
+pub mod Sent
 pub mod Demand3
 pub mod WrongLogs
 pub mod LogExact
 pub mod Worked
-pub mod Sent
 pub mod Sender
 pub mod Round
 pub mod Fold

@@ -6,11 +6,9 @@ use mathlib.Core.List.{List, [], _∷_, _++_, append-assoc, append-nil}
 use native.Mathlib.Omega.{arith}
 use lib.ListN.{length, take, drop, take-append-drop, length-append}
 use lib.Seq.{take-append-le}
-use Rattle.frame.specs.Calls.{freshOf}
-use Rattle.frame.specs.Logs.{Entry, takenIn, logOf, offered, stream, Accounts, OffersFront}
-use Rattle.frame.specs.Claims.{Front, SentAgain}
+use Rattle.frame.specs.Logs.{Entry, takenIn, offered, stream, Accounts, OffersFront}
+use Rattle.frame.specs.Claims.{Front}
 use Rattle.base.proofs.Lists.{no-bytes}
-use Rattle.frame.proofs.Demand3.{from-fresh}
 
 front : (n : ℕ) (log : List Entry) (sent : List ℕ)
     → Accounts n log → OffersFront sent log → (rest : List ℕ) × (sent ≡ stream log ++ rest)
@@ -27,7 +25,7 @@ front n (e ∷ es) sent a f =
           ∙ sym (append-assoc (take c (offered (e .call))) (stream es) (ih .0)),
     )
 
-fronted : (n : ℕ) (log : List Entry) (sent : List ℕ) → Accounts n log → OffersFront sent log → Front sent log
+pub fronted : (n : ℕ) (log : List Entry) (sent : List ℕ) → Accounts n log → OffersFront sent log → Front sent log
 fronted n log sent a f =
     let r = front n log sent a f in
     let k : length sent ≡ length (stream log) + length (r .0) = ap length (r .1) ∙ length-append (stream log) (r .0) in
@@ -37,7 +35,3 @@ fronted n log sent a f =
       whole = λ l. sym (r .1 ∙ ap (λ (t : List ℕ). stream log ++ t) (no-bytes (r .0) (omega arith))
           ∙ append-nil (stream log));
     }
-
-pub sent-again : SentAgain
-sent-again limit small calls sent f =
-    fronted 0 (logOf limit (freshOf limit) calls) sent (from-fresh limit small calls .accounts) f

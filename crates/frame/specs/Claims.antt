@@ -54,12 +54,19 @@ MadeGood =
     (limit command number flags : ℕ) (payload : List ℕ)
     → length payload + 5 ≤ limit → Made limit command number flags payload
 
+-- "the stream is the front of what was sent, and the whole once all is taken"
+pub record Front (sent : List ℕ) (log : List Entry) : Type 0 where
+  pub rest : List ℕ
+  pub front : sent ≡ stream log ++ rest
+  pub whole : length (stream log) ≡ length sent → stream log ≡ sent
+
 -- ---- demand-3: "a single claim about the whole list of calls". What each line of it refuses is `wrong-logs`
 pub record Demand3 (limit : ℕ) (log : List Entry) : Type 0 where
   pub frames : handedOut log ≡ framesOf limit (stream log)
   pub lists : Lists limit (stream log) (handedOut log)
   pub accounts : Accounts 0 log
   pub chains : Chains (freshOf limit) log
+  pub again : (sent : List ℕ) → OffersFront sent log → Front sent log  -- "where they always come again first"
 
 -- of every list of calls of a fresh reader
 abbrev pub Demand3s : Type 0
@@ -132,13 +139,7 @@ NeverState =
     (limit : ℕ) → limit ≤ widest → (calls : List Call) (e : Entry)
     → List·Memᴰ e (logOf limit (freshOf limit) calls) → e .row .number ≢ 17
 
--- ---- sent-again: "the stream is the front of what was sent, and the whole once all is taken"
-pub record Front (sent : List ℕ) (log : List Entry) : Type 0 where
-  pub rest : List ℕ
-  pub front : sent ≡ stream log ++ rest
-  pub whole : length (stream log) ≡ length sent → stream log ≡ sent
-
--- of every list of calls that offers so
+-- ---- sent-again: the same of every list of calls that offers so
 abbrev pub SentAgain : Type 0
 SentAgain =
     (limit : ℕ) → limit ≤ widest → (calls : List Call) (sent : List ℕ)
