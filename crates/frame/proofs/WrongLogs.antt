@@ -55,6 +55,7 @@ wrong-logs limit r q =
       used-changes = λ bytes n d. n (first d .used-kept refl);
       asked-length = λ d. omega (arith, first d .asked refl);
       asked-changes = λ n d. n (first d .asked-kept refl);
+      not-fresh = λ n d. n (d .chains .0);
       not-chained = λ n d. n (d .chains .1 .0);
       counts-anew = λ d. omega (arith, d .accounts .1 .0 .asked refl);
       no-frame = λ d. cons≢nil (d .frames ∙ none);

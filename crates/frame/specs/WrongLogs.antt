@@ -9,6 +9,7 @@ use Rattle.base.specs.Rows.{Row, row}
 use Rattle.base.specs.Keys.{among}
 use Rattle.frame.specs.State.{State}
 use Rattle.frame.specs.Wire.{frameLimit}
+use Rattle.frame.specs.Calls.{freshOf}
 use Rattle.frame.specs.Logs.{Call, give, ask, Entry}
 use Rattle.frame.specs.Claims.{Demand3}
 
@@ -58,7 +59,8 @@ pub record WrongLogs (limit : ℕ) (r q : State) : Type 0 where
   -- an end asked names another length, or changes the reader
   pub asked-length : Refused limit ask (row 2 (5 ∷ [])) r q
   pub asked-changes : q ≢ r → Refused limit ask (row 2 (0 ∷ [])) r q
-  -- the second call is of another reader than the first left
+  -- the first call is of a reader that is not fresh, or the second of another than the first left
+  pub not-fresh : r ≢ freshOf limit → Refused limit ask (row 2 (0 ∷ [])) r r
   pub not-chained : q ≢ r → Demand3 limit (entry ask (row 2 (0 ∷ [])) r r ∷ entry ask (row 2 (0 ∷ [])) q q ∷ []) → ⊥
   -- the second call counts from 0 again
   pub counts-anew : Demand3 limit (entry (give (7 ∷ [])) (row 0 (1 ∷ [])) r q ∷ entry ask (row 2 (0 ∷ [])) q q ∷ []) → ⊥
