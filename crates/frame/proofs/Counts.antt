@@ -1,18 +1,23 @@
 -- What any call of any reader owes its caller: it counts no byte that was not offered,
 -- and takes one where it can. Assumes nothing.
-use Prim.Native.Nat.{ℕ, _+_, _^_, _≤_}
+use Prim.Native.Nat.{ℕ, _+_, _^_, _≤_, _<_}
 use mathlib.Core.Path.{_≡_, refl}
 use mathlib.Core.List.{List, [], _∷_}
+use mathlib.Core.Bool.{true}
 use native.Mathlib.Omega.{arith}
 use lib.ListN.{length}
 use lib.Dec.{leb}
 use borrow.Author.Tests.{le-leb, leb-true}
-use Rattle.frame.specs.Table.{countOf, eventRow}
+use Rattle.base.specs.Keys.{among}
+use Rattle.frame.specs.Table.{codeOf, countOf, eventRow}
+use Rattle.frame.specs.Logs.{givenNumbers}
 use Rattle.frame.specs.Rules.{advanceOf, decidesOf, inRangeOf, mostTaken}
 use Rattle.base.specs.Outcomes.{Reply}
 use Rattle.frame.specs.Calls.{nextOf, runOf}
 use Rattle.frame.specs.declared.scan.Event.{Event}
 use Rattle.frame.specs.declared.scan.Event.the-variants.{Quiet, Decided}
+use Rattle.frame.specs.declared.scan.Verdict.{Verdict}
+use Rattle.frame.specs.declared.scan.Verdict.the-variants.{Frame, Short, Long, Stuff, Cut, Sum}
 use Rattle.frame.specs.State.{State}
 use Rattle.frame.specs.Claims.{Within, Progress, EmptyCall}
 use Rattle.base.proofs.Tests.{by-test, both}
@@ -20,6 +25,21 @@ use Rattle.base.proofs.Tests.{by-test, both}
 pub count-event : (e : Event) (n s p : ℕ) → countOf (eventRow e n s p) ≡ n
 count-event Quiet n s p = refl
 count-event (Decided v) n s p = refl
+
+-- a verdict's line: FRAME or a refused frame
+pub record Numbered (d : ℕ) : Type 0 where
+  pub is-given : among d givenNumbers ≡ true
+  pub low : 1 ≤ d
+  pub high : d < 17
+
+pub numbered : (v : Verdict) → Numbered (codeOf v)
+unfolding among
+numbered Frame = record { is-given = refl; low = omega arith; high = omega arith }
+numbered Short = record { is-given = refl; low = omega arith; high = omega arith }
+numbered Long = record { is-given = refl; low = omega arith; high = omega arith }
+numbered Stuff = record { is-given = refl; low = omega arith; high = omega arith }
+numbered Cut = record { is-given = refl; low = omega arith; high = omega arith }
+numbered Sum = record { is-given = refl; low = omega arith; high = omega arith }
 
 abbrev Counts : ℕ → ℕ → Reply State → Type 0
 Counts low high y = (low ≤ countOf (y .row)) × (countOf (y .row) ≤ high)

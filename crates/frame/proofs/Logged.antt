@@ -19,14 +19,13 @@ use Rattle.frame.specs.Rules.{advanceOf, decidesOf, inRangeOf, mostTaken
 use Rattle.base.specs.Outcomes.{Reply, reply}
 use Rattle.frame.specs.Calls.{nextOf, endingRow, runOf, feedOf, finishOf}
 use Rattle.frame.specs.Logs.{Call, give, ask, callOf, Entry, entryOf, logOf, stateAfter, offered, takenBy}
-use Rattle.frame.specs.Logs.{takenIn, stream, handed, handedOut, decided, givenNumbers, endNumbers, Account}
+use Rattle.frame.specs.Logs.{takenIn, stream, handed, handedOut, decided, endNumbers, Account}
 use Rattle.frame.specs.Logs.{Accounts}
 use Rattle.frame.specs.State.{Phase, Idle, Half, Header, Open, Escape, State}
 use Rattle.frame.specs.declared.scan.Event.{Event}
 use Rattle.frame.specs.declared.scan.Event.the-variants.{Quiet, Decided}
-use Rattle.frame.specs.declared.scan.Verdict.{Verdict}
-use Rattle.frame.specs.declared.scan.Verdict.the-variants.{Frame, Short, Long, Stuff, Cut, Sum}
 use Rattle.base.proofs.Tests.{by-test}
+use Rattle.frame.proofs.Counts.{Numbered, numbered}
 use Rattle.frame.proofs.Accounts.{not-state}
 use Rattle.frame.proofs.Moves.{Inv, origin, pending, handedBy, moves, nothing-left}
 
@@ -170,22 +169,6 @@ module _ (limit : ℕ) (r q : State) (bs : List ℕ) (k s : ℕ)
         shape = λ e. absurd (omega arith);
         frames = f;
       }
-
-  -- a verdict's line: FRAME or a refused frame
-  record Numbered (d : ℕ) : Type 0 where
-    is-decided : decided d ≡ true
-    is-given : among d givenNumbers ≡ true
-    low : 1 ≤ d
-    high : d < 17
-
-  numbered : (v : Verdict) → Numbered (codeOf v)
-  unfolding among
-  numbered Frame = record { is-decided = refl; is-given = refl; low = omega arith; high = omega arith }
-  numbered Short = record { is-decided = refl; is-given = refl; low = omega arith; high = omega arith }
-  numbered Long = record { is-decided = refl; is-given = refl; low = omega arith; high = omega arith }
-  numbered Stuff = record { is-decided = refl; is-given = refl; low = omega arith; high = omega arith }
-  numbered Cut = record { is-decided = refl; is-given = refl; low = omega arith; high = omega arith }
-  numbered Sum = record { is-decided = refl; is-given = refl; low = omega arith; high = omega arith }
 
   event-called : (e : Event) → (decidesOf e ≡ false → k ≡ length bs) → (decidesOf e ≡ true → 1 ≤ k)
       → ((t : List ℕ) → framesFrom limit (origin r) (pending r ++ (take k bs ++ t))

@@ -18,7 +18,7 @@ use Rattle.frame.specs.Calls.{zeros, endingRow, nextOf, runOf}
 use Rattle.frame.specs.Ranges.{OutOfRange, ReaderRangesAll, UsedAlways, FreshReader}
 use Rattle.frame.specs.declared.scan.Event.{Event}
 use Rattle.frame.specs.declared.scan.Event.the-variants.{Quiet, Decided}
-use Rattle.frame.specs.declared.scan.Verdict.the-variants.{Frame, Short, Long, Stuff, Cut, Sum}
+use Rattle.frame.proofs.Counts.{numbered}
 
 -- ---- the test
 
@@ -39,12 +39,7 @@ inside-not r e =
 
 event-below : (e : Event) (n s p : ℕ) → eventRow e n s p .number < 17
 event-below Quiet n s p = omega arith
-event-below (Decided Frame) n s p = omega arith
-event-below (Decided Short) n s p = omega arith
-event-below (Decided Long) n s p = omega arith
-event-below (Decided Stuff) n s p = omega arith
-event-below (Decided Cut) n s p = omega arith
-event-below (Decided Sum) n s p = omega arith
+event-below (Decided v) n s p = numbered v .high
 
 abbrev Below : Reply State → Type 0
 Below y = y .row .number < 17

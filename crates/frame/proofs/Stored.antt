@@ -19,8 +19,8 @@ use Rattle.frame.specs.Calls.{nextOf, runOf, feedOf}
 use Rattle.frame.specs.Stored.{BytesStored, TakesOne, StoresAt, later, AllInPieces}
 use Rattle.frame.specs.declared.scan.Event.{Event}
 use Rattle.frame.specs.declared.scan.Event.the-variants.{Quiet, Decided}
-use Rattle.frame.specs.declared.scan.Verdict.the-variants.{Frame, Short, Long, Stuff, Cut, Sum}
 use Rattle.frame.proofs.Puts.{put-other, put-length, put-same}
+use Rattle.frame.proofs.Counts.{numbered}
 use Rattle.frame.proofs.Steps.{kept}
 
 -- ---- one byte
@@ -130,12 +130,7 @@ stored-at limit r x h room =
 -- what decides is not MORE
 decides-some : (e : Event) (n s p : ℕ) → decidesOf e ≡ true → eventRow e n s p .number ≢ 0
 decides-some Quiet n s p d = absurd (true≢false (sym d))
-decides-some (Decided Frame) n s p d = λ h. omega arith
-decides-some (Decided Short) n s p d = λ h. omega arith
-decides-some (Decided Long) n s p d = λ h. omega arith
-decides-some (Decided Stuff) n s p d = λ h. omega arith
-decides-some (Decided Cut) n s p d = λ h. omega arith
-decides-some (Decided Sum) n s p d = λ h. omega arith
+decides-some (Decided v) n s p d = λ h. omega (arith, numbered v .low)
 
 module _ (limit : ℕ) where
   abbrev Quiets : List ℕ → ℕ → State → Type 0
