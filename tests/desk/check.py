@@ -87,6 +87,20 @@ def listings(door, room):
         door.list_both_ways(name, data, expected, room)
     found = door("list", "-", data=bytes.fromhex(STATED[0][1]))
     test("- is standard input", found.is_quiet(text_of(STATED[0][2]).encode()), str(found))
+    descriptors(door, room)
+
+
+def descriptors(door, room):
+    """Inputs by the names of descriptors, those that the front door uses itself among them: a pipe, and a file."""
+    data, expected = bytes.fromhex(STATED[0][1]), text_of(STATED[0][2]).encode()
+    (room / "stream").write_bytes(data)
+    for name in ["/dev/stdin", *(f"/dev/fd/{number}" for number in range(10) if number not in (1, 2)), "/proc/self/fd/3"]:
+        number = name[-1] if name[-1].isdigit() else "0"
+        for way, words in [("a pipe", f'cat "$3" | "$1" list "$2" {number}<&0'), ("a file", f'"$1" list "$2" {number}<"$3"')]:
+            found = run(["sh", "-c", words, "sh", door.path, name, room / "stream"])
+            test(f"{name}, {way}", found.is_quiet(expected), str(found))
+    found = run(["sh", "-c", '"$1" list /dev/fd/3 3<&-', "sh", door.path])
+    test("/dev/fd/3, closed", found.is_refusal("/dev/fd/3"), str(found))
 
 
 def sample(door, samples):
