@@ -23,6 +23,7 @@ from checks import Checks  # noqa: E402
 
 PATIENCE = 1200
 MAY_CHANGE = {"code": ("src/",), "rule": ("src/", "specs/")}
+MISFITS = ("has no `Need-", "can be named from here")  # of a proof text, and not of what is to be proved
 
 
 def replacements(edit):
@@ -88,6 +89,15 @@ def unrefused(edit, said):
     return "it names no claim" if not claims else passed and f"the claim {passed[0]} does not refuse it" or ""
 
 
+def is_misfit(edit, said, error):
+    """Whether a proof text only does not fit the edited code. Some `rule_` edits need another one, and there the claims tell."""
+    if edit.stem.startswith("rule_"):
+        return any(misfit in error.group(0) for misfit in MISFITS)
+    # A message may go on in lines that are set in.
+    message = re.match(r".*(?:\n +.*)*", said[error.start():]).group(0)
+    return any(misfit in message for misfit in (*MISFITS, "has no field"))
+
+
 def wrong_with(room, name, edit):
     """Why an edit does not show what it is to show, or '', and a line on it."""
     crate = room / "crates" / name
@@ -105,7 +115,7 @@ def wrong_with(room, name, edit):
     error = first_error(said)
     if not error:
         return f"refused without a place: {said[-300:]}", ""
-    if "has no `Need-" in error.group(0) or "can be named from here" in error.group(0):
+    if is_misfit(edit, said, error):
         return f"refused only because a proof file does not fit the code: {error.group(0)[:300]}", ""
     place = error.group(1).removeprefix(str(crate) + "/")
     wrong = unrefused(edit, said)
