@@ -19,6 +19,7 @@ pub mod Sizes
 pub mod Worked
 pub mod Exactly
 pub mod Places
+pub mod Writes
 pub mod Sendings
 pub mod Spelt
 pub mod SameBytes

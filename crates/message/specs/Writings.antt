@@ -1,16 +1,21 @@
--- Worked writings: messages by their names, and the literal payload that each is written as. With one name set at a
--- time, a name that stands for another bit, number or place gives other bytes.
-use Prim.Native.Nat.{ℕ}
+-- Messages by their names, and the payload that each is written as: of every message, byte by byte at its literal place,
+-- and worked, in literal bytes. With one name set at a time, a name that stands for another bit, number or place gives
+-- other bytes.
+use Prim.Native.Nat.{ℕ, _+_, _*_, _/_, _%_}
 use mathlib.Core.Path.{_≡_}
-use mathlib.Core.Bool.{Bool, true, false}
+use mathlib.Core.Bool.{Bool, true, false, cond, _&&_}
 use mathlib.Core.List.{List, [], _∷_, _++_, map}
-use lib.ListN.{replicate}
+use lib.ListN.{length, take, drop, replicate}
+use Rattle.message.specs.Commands.{wayNumber, codeNumber}
+use Rattle.message.specs.Counter.{modeNumber}
 use Rattle.message.specs.Writing.{commandIn, payloadIn}
 use Rattle.message.specs.declared.counter.Mode.{Mode}
 use Rattle.message.specs.declared.counter.Mode.the-variants as mode
 use Rattle.message.specs.declared.counter.Status.{Status}
 use Rattle.message.specs.declared.counter.Control.{Control}
+use Rattle.message.specs.declared.values.Way.{Way}
 use Rattle.message.specs.declared.values.Way.the-variants as way
+use Rattle.message.specs.declared.values.Code.{Code}
 use Rattle.message.specs.declared.values.Code.the-variants as code
 use Rattle.message.specs.declared.values.Extra.the-variants as extra
 use Rattle.message.specs.declared.values.Network.{Network}
@@ -184,3 +189,78 @@ pub record WorkedWritings : Type 0 where
   pub network : AsWritten networkWritings
   pub named : AsWritten namedWritings
   pub numbers : AsWritten numberWritings
+
+-- ---- writes-exactly: the payload of every message, whatever its values and its lent bytes are
+
+-- a number in four bytes, before others
+abbrev pub inFour : ℕ → List ℕ → List ℕ
+inFour n more = n / 16777216 ∷ n / 65536 % 256 ∷ n / 256 % 256 ∷ n % 256 ∷ more
+
+-- timeout and attributes, before others
+abbrev pub timeoutAnd : ℕ → ℕ → List ℕ → List ℕ
+timeoutAnd timeout attributes more =
+    timeout / 256 ∷ timeout % 256 ∷ inFour (attributes / 4294967296) (inFour (attributes % 4294967296) more)
+
+-- a status
+abbrev pub statusSpelled : Status → List ℕ
+statusSpelled s =
+    (cond (s .feeding) 1 0 + cond (s .lamp) 2 0 + modeNumber (s .mode) * 4) ∷ s .volume / 256 ∷ s .volume % 256
+    ∷ inFour (s .leaf) ((cond (s .double) 1 0 + cond (s .skipped) 2 0 + cond (s .fault) 4 0) ∷ [])
+
+-- a control; "A value whose flag is 0 is .. written as 0"
+abbrev pub controlSpelled : Control → List ℕ
+controlSpelled c =
+    (cond (c .flags .lamp) 1 0 + cond (c .flags .mode) 2 0 + cond (c .flags .volume) 4 0)
+    ∷ (cond (c .flags .lamp && c .lamp) 1 0 + cond (c .flags .mode) (modeNumber (c .mode) * 2) 0)
+    ∷ cond (c .flags .volume) (c .volume / 256) 0 ∷ cond (c .flags .volume) (c .volume % 256) 0 ∷ []
+
+-- the module's networks
+abbrev pub networkSpelled : Network → List ℕ
+networkSpelled n =
+    (n .strength + cond (n .app) 8 0 + cond (n .testing) 16 0)
+    ∷ (cond (n .softap) 1 0 + cond (n .station) 2 0 + cond (n .onboarding) 4 0
+    + cond (n .binding) 8 0 + cond (n .router) 16 0 + cond (n .server) 32 0)
+    ∷ []
+
+-- a time, before the seconds since 1970
+abbrev pub timeSpelled : Time → List ℕ → List ℕ
+timeSpelled t more =
+    t .year / 256 ∷ t .year % 256 ∷ t .month ∷ t .day ∷ t .hour ∷ t .minute ∷ t .second ∷ more
+
+-- of all messages
+pub record WritesExactly (lent : List ℕ) : Type 0 where
+  pub empty : (command : ℕ) → payloadIn (message.Empty command) lent ≡ []
+  pub information :
+      (timeout : ℕ)
+      → payloadIn (message.Information timeout extra.Absent) lent
+      ≡ take 64 lent ++ timeout / 256 ∷ timeout % 256 ∷ drop 64 lent
+  pub attributes :
+      (timeout a : ℕ)
+      → payloadIn (message.Information timeout (extra.Attributes a)) lent
+      ≡ take 64 lent ++ timeoutAnd timeout a (drop 64 lent)
+  pub secret :
+      (timeout a : ℕ)
+      → payloadIn (message.Information timeout (extra.AttributesAndSecret a)) lent
+      ≡ take 64 lent ++ timeoutAnd timeout a (drop 64 lent)
+  pub control : (c : Control) → payloadIn (message.Control c) lent ≡ 1 ∷ controlSpelled c
+  pub query : payloadIn message.Query lent ≡ 2 ∷ []
+  pub status : (s : Status) → payloadIn (message.Status s) lent ≡ 3 ∷ statusSpelled s
+  pub report : (s : Status) → payloadIn (message.Report s) lent ≡ 4 ∷ statusSpelled s
+  pub onboarding : (w : Way) → payloadIn (message.Onboarding w) lent ≡ wayNumber w ∷ []
+  pub network : (n : Network) → payloadIn (message.Network n) lent ≡ networkSpelled n
+  pub module-reject : (c : Code) → payloadIn (message.ModuleReject c) lent ≡ codeNumber c ∷ []
+  pub box-reject : (c : Code) → payloadIn (message.BoxReject c) lent ≡ codeNumber c ∷ []
+  pub time : (t : Time) → t .unix ≡ unix.Absent → payloadIn (message.Time t) lent ≡ timeSpelled t []
+  pub seconds :
+      (t : Time) (n : ℕ) → t .unix ≡ unix.Seconds n → payloadIn (message.Time t) lent ≡ timeSpelled t (inFour n [])
+  pub announcement :
+      (size : ℕ)
+      → payloadIn (message.Announcement size) lent ≡ inFour size (length lent / 256 ∷ length lent % 256 ∷ lent)
+  pub ready :
+      (piece : ℕ)
+      → payloadIn (message.Ready piece) lent
+      ≡ length lent / 256 ∷ length lent % 256 ∷ (lent ++ piece / 256 ∷ piece % 256 ∷ [])
+  pub piece :
+      (index total : ℕ)
+      → payloadIn (message.Piece index total) lent
+      ≡ index / 256 ∷ index % 256 ∷ total / 256 ∷ total % 256 ∷ lent
