@@ -1,10 +1,12 @@
 -- The worked names, readings and writings, each table by one computation. Assumes nothing.
-use mathlib.Core.Path.{refl}
+use mathlib.Core.Path.{refl, sym, ap}
 use Rattle.base.specs.Keys.{among}
+use Rattle.base.specs.Outcomes.{Write}
 use Rattle.message.specs.Commands.{table, lineIn, sizeFits, fits}
+use Rattle.message.specs.Reading.{Read}
 use Rattle.message.specs.Worked.{WorkedReadings, WorkedParts}
 use Rattle.message.specs.Writings.{WorkedWritings}
-use Rattle.message.specs.Names.{WorkedNames}
+use Rattle.message.specs.Names.{WorkedNames, ContractsWhole}
 
 pub worked-readings : WorkedReadings
 unfolding among table lineIn sizeFits fits
@@ -45,4 +47,13 @@ worked-names =
       sendings = λ count. refl;
       replies = λ n. refl;
       rejected = λ n. refl;
+    }
+
+pub contracts-whole : ContractsWhole
+contracts-whole =
+    record {
+      read = λ r command p e. (ap (λ (d : Read). d .row) e, ap (λ (d : Read). d .parts) e);
+      got-read = λ m parts command p e. (sym (ap (λ (d : Read). d .row) e), sym (ap (λ (d : Read). d .parts) e));
+      written = λ r after w e. (ap (λ (v : Write). v .row) e, ap (λ (v : Write). v .out) e);
+      answered = λ r after w e. (ap (λ (v : Write). v .row) e, ap (λ (v : Write). v .out) e);
     }
