@@ -44,6 +44,10 @@ module _ (k : Kind) (command : ℕ) (p : List ℕ) (listed : isListed k ≡ true
 unlisted : (k : Kind) (command : ℕ) (p : List ℕ) → isListed k ≡ false → decodeAs k command p .row ≡ row 31 []
 unlisted k command p e = rw e
 
+-- the row of a command whose kind is known
+as-kind : (k : Kind) (command : ℕ) → kindOf command ≡ k → (p : List ℕ) → readOf command p ≡ decodeAs k command p .row
+as-kind k command is p = ap (λ (k : Kind). decodeAs k command p .row) is
+
 -- ---- numbers
 
 four-spelt : (w x y z : ℕ) → (w * 256 + x) * 65536 + (y * 256 + z) ≡ w * 16777216 + x * 65536 + y * 256 + z
@@ -58,8 +62,8 @@ empty : (command : ℕ) → kindOf command ≡ kind.Empty → EmptyRead command
 unfolding among fits sizeFits
 empty command is =
     record {
-      read = ap (λ (k : Kind). decodeAs k command [] .row) is;
-      size = λ b p. ap (λ (k : Kind). decodeAs k command (b ∷ p) .row) is
+      read = as-kind kind.Empty command is [];
+      size = λ b p. as-kind kind.Empty command is (b ∷ p)
           ∙ size kind.Empty command (b ∷ p) refl (simp (ne-eqb (length (b ∷ p)) 0 (omega arith)));
     }
 
@@ -167,9 +171,6 @@ record Counting (k : Kind) (action : ℕ) : Type 0 where
   values : (byte : ℕ) (p : List ℕ) → valuesOf k (byte ∷ p) ≡ byte ∷ statusValues p
 
 module _ (k : Kind) (command action : ℕ) (is : kindOf command ≡ k) (c : Counting k action) where
-  as-kind : (p : List ℕ) → readOf command p ≡ decodeAs k command p .row
-  as-kind p = ap (λ (k : Kind). decodeAs k command p .row) is
-
   own : eqb action action ≡ true
   own = eq-eqb action action refl
 
@@ -179,16 +180,16 @@ module _ (k : Kind) (command action : ℕ) (is : kindOf command ≡ k) (c : Coun
   status-read : StatusRead command action
   status-read =
       record {
-        read = λ a h l w x y z e f g. as-kind (nineBytes command action a h l w x y z e) ∙ read k command _ (c .listed)
-            (nine _ refl) (c .allows _ _ ∙ rw (own, status-allows a h l w x y z e f g))
+        read = λ a h l w x y z e f g. as-kind k command is (nineBytes command action a h l w x y z e)
+            ∙ read k command _ (c .listed) (nine _ refl) (c .allows _ _ ∙ rw (own, status-allows a h l w x y z e f g))
             (c .values _ _ ∙ ap (λ (vs : List ℕ). action ∷ vs) (status-values a h l w x y z e f g));
-        first = λ a h l w x y z e f. as-kind (nineBytes command action a h l w x y z e) ∙ field k command _ (c .listed)
-            (nine _ refl) (c .allows _ _ ∙ rw (own, no-first a h l w x y z e f));
-        last = λ a h l w x y z e f. as-kind (nineBytes command action a h l w x y z e) ∙ field k command _ (c .listed)
-            (nine _ refl) (c .allows _ _ ∙ rw (own, no-last a h l w x y z e f));
-        size = λ p h. as-kind (action ∷ p) ∙ size k command _ (c .listed)
+        first = λ a h l w x y z e f. as-kind k command is (nineBytes command action a h l w x y z e)
+            ∙ field k command _ (c .listed) (nine _ refl) (c .allows _ _ ∙ rw (own, no-first a h l w x y z e f));
+        last = λ a h l w x y z e f. as-kind k command is (nineBytes command action a h l w x y z e)
+            ∙ field k command _ (c .listed) (nine _ refl) (c .allows _ _ ∙ rw (own, no-last a h l w x y z e f));
+        size = λ p h. as-kind k command is (action ∷ p) ∙ size k command _ (c .listed)
             (nine p (ne-eqb (length (action ∷ p)) 9 (omega arith)));
-        other = λ b p h. as-kind (b ∷ p) ∙ field k command _ (c .listed)
+        other = λ b p h. as-kind k command is (b ∷ p) ∙ field k command _ (c .listed)
             (simp (size-fits, c .some, c .chosen, ne-eqb b action h, fits-any))
             (c .allows b p ∙ rw (ne-eqb b action h));
       }
@@ -206,20 +207,17 @@ record Single (k : Kind) (most : ℕ) : Type 0 where
   values : (byte : ℕ) → valuesOf k (byte ∷ []) ≡ byte ∷ []
 
 module _ (k : Kind) (command most : ℕ) (is : kindOf command ≡ k) (c : Single k most) where
-  as-single : (p : List ℕ) → readOf command p ≡ decodeAs k command p .row
-  as-single p = ap (λ (k : Kind). decodeAs k command p .row) is
-
   sized : (p : List ℕ) → eqb (length p) 1 ≡ sizeFits k p
   sized p = sized-one k p (c .any (getD p 0 0)) 1 (c .one)
 
   byte-read : ByteRead command most
   byte-read =
       record {
-        read = λ b g h. as-single (b ∷ []) ∙ read k command (b ∷ []) (c .listed) (sym (sized (b ∷ [])))
+        read = λ b g h. as-kind k command is (b ∷ []) ∙ read k command (b ∷ []) (c .listed) (sym (sized (b ∷ [])))
             (c .within b g h) (c .values b);
-        zero = as-single (0 ∷ []) ∙ field k command (0 ∷ []) (c .listed) (sym (sized (0 ∷ []))) (c .zero);
-        above = λ b h. as-single (b ∷ []) ∙ field k command (b ∷ []) (c .listed) (sym (sized (b ∷ []))) (c .above b h);
-        size = λ p h. as-single p ∙ size k command p (c .listed) (sym (sized p) ∙ ne-eqb (length p) 1 h);
+        zero = as-kind k command is (0 ∷ []) ∙ field k command (0 ∷ []) (c .listed) (sym (sized (0 ∷ []))) (c .zero);
+        above = λ b h. as-kind k command is (b ∷ []) ∙ field k command (b ∷ []) (c .listed) (sym (sized (b ∷ []))) (c .above b h);
+        size = λ p h. as-kind k command is p ∙ size k command p (c .listed) (sym (sized p) ∙ ne-eqb (length p) 1 h);
       }
 
 way : Single kind.Onboarding 2

@@ -68,7 +68,7 @@ once : (f : Bool) (n : ℕ) → num f * (num f * n) ≡ num f * n
 once true n = omega arith
 once false n = omega arith
 
-num-and : (f b : Bool) → num f * num b ≡ num (f && b)
+pub num-and : (f b : Bool) → num f * num b ≡ num (f && b)
 num-and true b = omega arith
 num-and false b = omega arith
 

@@ -14,6 +14,7 @@ use Rattle.message.specs.Writings.{WritesExactly, inFour, timeoutAnd, st
 use Rattle.message.specs.declared.counter.Status.{Status}
 use Rattle.message.specs.declared.counter.Control.{Control}
 use Rattle.message.specs.declared.values.Network.{Network}
+use Rattle.message.proofs.Fields.{num-and}
 
 -- a number in four bytes
 fours : (n : ℕ) (r : List ℕ) → four n r ≡ inFour n r
@@ -32,9 +33,7 @@ one true = refl
 one false = refl
 
 lamps : (set b : Bool) → num set * num b ≡ cond (set && b) 1 0
-lamps true true = refl
-lamps true false = refl
-lamps false b = omega arith
+lamps set b = num-and set b ∙ one (set && b)
 
 modes : (set : Bool) (n : ℕ) → num set * n * 2 ≡ cond set (n * 2) 0
 modes true n = omega arith
