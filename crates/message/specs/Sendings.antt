@@ -12,7 +12,7 @@ use Rattle.base.specs.Keys.{among}
 use Rattle.message.specs.Commands.{kindOf, isListed}
 use Rattle.message.specs.Writing.{commandIn, payloadIn, lentFits, allowedIn, sendOf}
 use Rattle.message.specs.Claims.{Writable, emptyCommands, otherCommands}
-use Rattle.message.specs.Sizes.{numbersFrom, commandBytes}
+use Rattle.message.specs.Sizes.{numbersFrom, commandBytes, withoutPayload}
 use Rattle.message.specs.Writings.{statusOf, controlOf, networkOf, timeOf}
 use Rattle.message.specs.declared.counter.Mode.the-variants as mode
 use Rattle.message.specs.declared.counter.Status.{Status}
@@ -155,12 +155,7 @@ pub record WorkedRefusals : Type 0 where
   pub piece : lentTaken (message.Piece 1 2) (0 ∷ 1 ∷ 65536 ∷ []) ≡ 0 ∷ 1 ∷ 65536 ∷ []
   pub bare : map (λ m. lentTaken m (numbersFrom 0 12)) bareMessages ≡ replicate 11 (0 ∷ [])
   -- a message without payload, for every command byte: 31 or 32 where reading says so
-  pub empty :
-      map (λ c. sentNumber (message.Empty c) 0 12) commandBytes
-      ≡ 31 ∷ 0 ∷ 32 ∷ 32 ∷ 0 ∷ 32 ∷ 0 ∷ 0 ∷ 0 ∷ 32 ∷ 0 ∷ 0 ∷ 0 ∷ 32 ∷ 0 ∷ 0
-      ∷ 0 ∷ 32 ∷ 32 ∷ 0 ∷ 0 ∷ 0 ∷ 0 ∷ 0 ∷ 32 ∷ 32 ∷ 0 ∷ 32 ∷ 0 ∷ 32 ∷ 0 ∷ 0
-      ∷ 0 ∷ 31 ∷ 31 ∷ 31 ∷ 31 ∷ 31 ∷ 31 ∷ 0 ∷ 0 ∷ 0 ∷ 0 ∷ 31 ∷ 31 ∷ 31 ∷ 31 ∷ 31
-      ∷ replicate 208 31
+  pub empty : map (λ c. sentNumber (message.Empty c) 0 12) commandBytes ≡ withoutPayload
   -- only a strength can be FIELD
   pub fields : map allowedIn bareMessages ≡ replicate 11 true
   pub strength : map (λ n. allowedIn (withStrength n)) (numbersFrom 0 10) ≡ replicate 8 true ++ false ∷ false ∷ []

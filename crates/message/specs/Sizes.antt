@@ -23,14 +23,17 @@ commandBytes = numbersFrom 0 256
 abbrev pub answersTo : List ℕ → List ℕ
 answersTo p = map (λ c. readOf c p .number) commandBytes
 
--- by sixteen command bytes a line; no command from 30 on is listed
+-- with no payload, by sixteen command bytes a line; no command from 30 on is listed
+abbrev pub withoutPayload : List ℕ
+withoutPayload =
+    31 ∷ 0 ∷ 32 ∷ 32 ∷ 0 ∷ 32 ∷ 0 ∷ 0 ∷ 0 ∷ 32 ∷ 0 ∷ 0 ∷ 0 ∷ 32 ∷ 0 ∷ 0
+    ∷ 0 ∷ 32 ∷ 32 ∷ 0 ∷ 0 ∷ 0 ∷ 0 ∷ 0 ∷ 32 ∷ 32 ∷ 0 ∷ 32 ∷ 0 ∷ 32 ∷ 0 ∷ 0
+    ∷ 0 ∷ 31 ∷ 31 ∷ 31 ∷ 31 ∷ 31 ∷ 31 ∷ 0 ∷ 0 ∷ 0 ∷ 0 ∷ 31 ∷ 31 ∷ 31 ∷ 31 ∷ 31
+    ∷ replicate 208 31
+
+-- by sixteen command bytes a line
 pub record WorkedCommands : Type 0 where
-  pub no-byte :
-      answersTo []
-      ≡ 31 ∷ 0 ∷ 32 ∷ 32 ∷ 0 ∷ 32 ∷ 0 ∷ 0 ∷ 0 ∷ 32 ∷ 0 ∷ 0 ∷ 0 ∷ 32 ∷ 0 ∷ 0
-      ∷ 0 ∷ 32 ∷ 32 ∷ 0 ∷ 0 ∷ 0 ∷ 0 ∷ 0 ∷ 32 ∷ 32 ∷ 0 ∷ 32 ∷ 0 ∷ 32 ∷ 0 ∷ 0
-      ∷ 0 ∷ 31 ∷ 31 ∷ 31 ∷ 31 ∷ 31 ∷ 31 ∷ 0 ∷ 0 ∷ 0 ∷ 0 ∷ 31 ∷ 31 ∷ 31 ∷ 31 ∷ 31
-      ∷ replicate 208 31
+  pub no-byte : answersTo [] ≡ withoutPayload
   pub one-byte :
       answersTo (0 ∷ [])
       ≡ 31 ∷ 32 ∷ 32 ∷ 33 ∷ 33 ∷ 33 ∷ 32 ∷ 32 ∷ 32 ∷ 33 ∷ 32 ∷ 32 ∷ 32 ∷ 32 ∷ 32 ∷ 32
