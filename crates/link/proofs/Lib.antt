@@ -10,3 +10,4 @@ pub mod Found
 pub mod Refusals
 pub mod Examples
 pub mod Ranges
+pub mod LogExact

@@ -8,3 +8,4 @@ pub mod Logs
 pub mod History
 pub mod Claims
 pub mod Ranges
+pub mod LogExact
