@@ -1,10 +1,10 @@
--- turns-listing, turns-told, turns-front, sent-turns, any-turns: calls of the loop, one after the other.
+-- turns-listing, turns-told, turns-front, sent-turns, any-turns, worked-turns: calls of the loop, one after the other.
 -- Assumes nothing.
 use Prim.Native.Nat.{ℕ, _+_, _^_, _≤_, _<_}
 use mathlib.Core.Path.{_≡_, refl, sym, ap, subst, _∙_}
 use mathlib.Core.Bool.{true, true≢false}
 use mathlib.Core.Logic.{_≢_}
-use mathlib.Core.List.{List, [], _∷_, _++_, append-assoc, append-nil}
+use mathlib.Core.List.{List, [], _∷_, _++_, append-assoc, append-nil, head-eq-of-cons-eq, tail-eq-of-cons-eq}
 use native.Mathlib.Nat.{zero-add}
 use native.Mathlib.Omega.{arith}
 use borrow.Author.Tests.{leb-false}
@@ -16,18 +16,20 @@ use Rattle.base.specs.Outcomes.{Reply}
 use Rattle.frame.specs.Wire.{widest}
 use Rattle.frame.specs.Rules.{inRangeOf}
 use Rattle.frame.specs.State.{State}
-use Rattle.frame.specs.Calls.{freshOf, feedOf}
+use Rattle.frame.specs.Calls.{zeros, runOf, freshOf, feedOf}
 use Rattle.frame.specs.Logs.{Call, give, ask, entryOf, takenIn, logOf, stateAfter, stream, offer}
 use Rattle.frame.proofs.Moves.{Inv}
 use Rattle.frame.proofs.Logged.{in-range, reached}
 use Rattle.frame.proofs.Demand3.{fresh-holds}
 use Rattle.base.proofs.Tests.{either-way}
 use Rattle.base.proofs.Lists.{no-bytes}
+use Rattle.listing.specs.Decimal.{decimalOf, digitsIn, columnsOf}
 use Rattle.listing.specs.Lines.{headingText}
-use Rattle.listing.specs.Claims.{givenIn, givenText, listingOf, IsListing, OnlyGive}
-use Rattle.listing.specs.Feeding.{Run, refuses, listOf}
+use Rattle.listing.specs.Claims.{givenIn, givenText, listingOf, IsListing, OnlyGive, paperStream}
+use Rattle.listing.specs.Feeding.{Run, refuses, listIn, listOf}
 use Rattle.listing.specs.LoopClaims.{Listing, Turn, Turned, turned, turnsOf, writtenBy, TurnsListing}
 use Rattle.listing.specs.LoopClaims.{Told, TurnsTold, OfferedFront, TurnsFront, SentTurns, AnyTurns}
+use Rattle.listing.specs.LoopClaims.{WorkedTurns}
 use Rattle.listing.proofs.LoopClaims.{loop-lists, run-goes-on}
 use Rattle.listing.proofs.Whole.{only-offered, texts, whole-listing, one-listing}
 
@@ -204,3 +206,18 @@ sent-turns before limit small sent turns o all =
 pub any-turns : AnyTurns
 any-turns before limit small a b e =
     one-listing before limit _ _ _ (turns-listing before limit small a) (rw e (turns-listing before limit small b))
+
+-- ---- worked-turns
+
+pub worked-turns : WorkedTurns
+unfolding turnsOf OfferedFront listIn runOf zeros columnsOf decimalOf digitsIn
+worked-turns =
+    record {
+      taken-is = refl;
+      text-is = refl;
+      written-is = refl;
+      offered = (([], refl), (([], refl), tt));
+      not-again = λ o. omega (arith, ap length (o .1 .0 .1), length-append paperStream (o .1 .0 .0));
+      not-kept = λ o.
+          let z : _≡_ {A = ℕ} 0xFF 0x00 = head-eq-of-cons-eq (tail-eq-of-cons-eq (o .1 .0 .1)) in omega arith;
+    }

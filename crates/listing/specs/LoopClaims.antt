@@ -185,3 +185,26 @@ pub record WorkedLoop : Type 0 where
   pub first : Worked (paperRun [] 132) 10 22 (ascii "frame 1 10 7 1 0 0\n")
   pub column-none : Worked (paperRun (ascii "in ") 134) 0 22 []
   pub column-first : Worked (paperRun (ascii "in ") 135) 10 22 (ascii "in frame 1 10 7 1 0 0\n")
+
+-- ---- worked-turns: two calls of the loop over the paper's stream, the first with room for one line; what they used,
+-- wrote and were offered
+abbrev pub paperTurns : List Turn
+paperTurns = record { bytes = paperStream; room = 132 } ∷ record { bytes = drop 10 paperStream; room = 500 } ∷ []
+
+-- the same bytes offered to the second call again, and a second call from which one byte is kept
+abbrev pub sameTurns : List Turn
+sameTurns = record { bytes = paperStream; room = 132 } ∷ record { bytes = paperStream; room = 500 } ∷ []
+
+abbrev pub keptTurns : List Turn
+keptTurns = record { bytes = paperStream; room = 132 } ∷ record { bytes = drop 11 paperStream; room = 500 } ∷ []
+
+-- of a fresh reader
+pub record WorkedTurns : Type 0 where
+  pub taken-is : turnsOf frameLimit [] (freshOf frameLimit) paperTurns .taken ≡ paperStream
+  pub text-is : turnsOf frameLimit [] (freshOf frameLimit) paperTurns .text
+      ≡ ascii "frame 1 10 7 1 0 0\ncut 10 17 - - - -\nframe 15 25 7 243 0 0\n"
+  pub written-is : writtenBy frameLimit [] (turnsOf frameLimit [] (freshOf frameLimit) paperTurns)
+      ≡ headingText [] ++ ascii "frame 1 10 7 1 0 0\ncut 10 17 - - - -\nframe 15 25 7 243 0 0\nclean 25\n"
+  pub offered : OfferedFront frameLimit [] (freshOf frameLimit) paperStream paperTurns
+  pub not-again : OfferedFront frameLimit [] (freshOf frameLimit) paperStream sameTurns → ⊥
+  pub not-kept : OfferedFront frameLimit [] (freshOf frameLimit) paperStream keptTurns → ⊥
