@@ -2,9 +2,10 @@
 use Prim.Native.Nat.{ℕ, zero, suc, _+_, _-_, _^_, _≤_, _<_}
 use mathlib.Core.Path.{_≡_, refl, sym, ap, _∙_}
 use mathlib.Core.Bool.{Bool, true, false, true≢false}
+use mathlib.Core.Logic.{_≢_}
 use mathlib.Core.List.{List, [], _∷_, _++_}
 use native.Mathlib.Omega.{arith}
-use borrow.Author.Tests.{eqb-true, eqb-false, ltb-true, le-ltb, ne-eqb}
+use borrow.Author.Tests.{eqb-true, eqb-false, ltb-true, leb-true, leb-false, le-ltb, ne-eqb}
 use lib.ListN.{length, take, drop, length-append, length-drop}
 use lib.Seq.{take-add, drop-drop}
 use lib.Dec.{eqb, ltb, leb}
@@ -20,13 +21,13 @@ use Rattle.frame.specs.declared.scan.Event.{Event}
 use Rattle.frame.specs.declared.scan.Event.the-variants.{Quiet, Decided}
 use Rattle.frame.proofs.Counts.{within}
 use Rattle.base.proofs.Claims.{placed-whole-or-not}
-use Rattle.base.proofs.Tests.{by-test, either-way}
+use Rattle.base.proofs.Tests.{by-test, either-way, both}
 use Rattle.listing.specs.Decimal.{decimalOf, digitsIn, columnsOf}
 use Rattle.listing.specs.Lines.{lineRoom}
 use Rattle.listing.specs.Claims.{givenText}
 use Rattle.listing.specs.Feeding.{Run, stopped, full, onward, refuses, lineAfter, listIn}
 use Rattle.listing.specs.LoopClaims.{StopNumbers, LeftFieldsAlways, LeftWholeAlways, Listing, LoopLists}
-use Rattle.listing.specs.LoopClaims.{LoopProgress, WorkedLoop}
+use Rattle.listing.specs.LoopClaims.{StateFirst, LoopProgress, WorkedLoop}
 use Rattle.listing.proofs.Loops.{verdict-goes-on, takes, turn-refused, turn-onward}
 
 pub stop-numbers : StopNumbers
@@ -76,6 +77,24 @@ refused-kept limit r bs =
     (leb (r .scan .taken + length bs) (2 ^ 62))
     (λ b f. absurd (true≢false (sym f ∙ run-goes-on limit bs 0 r))) (λ b f. refl))
     (λ a f. refl)
+
+-- a call of a reader in range is refused for USED alone, and only past 2^62
+pub refused-late : (limit : ℕ) (s : State) (bs : List ℕ) (n : ℕ) → inRangeOf limit (s .scan) ≡ true → refuses n ≡ true
+    → feedOf limit s bs .row .number ≡ n → (n ≢ 17) × (2 ^ 62 < s .scan .taken + length bs)
+refused-late limit s bs n i f =
+    rw i (either-way (leb (s .scan .taken + length bs) (2 ^ 62))
+    (λ b. rw b (λ e. absurd (true≢false (sym f ∙ (ap refuses (sym e) ∙ run-goes-on limit bs 0 s)))))
+    (λ b. rw b (λ e. (λ z. omega (arith, e, z), leb-false _ _ b))))
+
+-- an empty call is refused only where the reader is out of range
+out-of-range : (limit : ℕ) (r : State)
+    → refuses (feedOf limit r [] .row .number) ≡ true → inRangeOf limit (r .scan) ≡ false
+out-of-range limit r =
+    either-way (inRangeOf limit (r .scan))
+    (λ a f.
+    let late = refused-late limit r [] (feedOf limit r [] .row .number) a f refl .1 in
+    absurd (omega (arith, late, leb-true (r .scan .taken) (2 ^ 62) (both (leb (r .scan .taken) (2 ^ 62)) a .0))))
+    (λ a f. a)
 
 -- ---- loop-lists
 
@@ -193,17 +212,30 @@ module _ (limit : ℕ) (before : List ℕ) where
       nonzero (suc m) f = omega arith
 
 pub loop-lists : LoopLists
-loop-lists limit before r bytes room = lists limit before (length bytes) r bytes room (omega arith)
+loop-lists limit before r bytes room =
+    by-test (Listing limit before r bytes room) (refuses (feedOf limit r [] .row .number))
+    (λ f. let a = out-of-range limit r f in rw a (rw a at (no-more limit before r bytes room (rw a))))
+    (λ f. lists limit before (length bytes) r bytes room (omega arith))
+
+-- ---- state-first
+
+pub state-first : StateFirst
+state-first limit before r bytes room =
+    either-way (inRangeOf limit (r .scan))
+    (λ a e. absurd (refused-late limit r bytes 17 a refl e .0 refl))
+    (λ a e. rw a)
 
 -- ---- loop-progress
 
 pub loop-progress : LoopProgress
 loop-progress limit before r bytes room some h =
-    either-way (refuses (feedOf limit r bytes .row .number))
+    either-way (refuses (feedOf limit r [] .row .number))
+    (λ e. rw e (λ g k. absurd (true≢false (sym e ∙ rw (ne-eqb _ 17 g, ne-eqb _ 18 k)))))
+    (λ e. rw e (either-way (refuses (feedOf limit r bytes .row .number))
     (λ f. rw (turn-refused limit before r bytes room some h (feedOf limit r bytes) refl f)
     (λ g k. absurd (true≢false (sym f ∙ rw (ne-eqb _ 17 g, ne-eqb _ 18 k)))))
     (λ f. rw (turn-onward limit before r bytes room some h (feedOf limit r bytes) refl f)
-    (λ g k. omega (arith, takes limit r bytes f some)))
+    (λ g k. omega (arith, takes limit r bytes f some)))))
 
 -- ---- worked-loop
 

@@ -3,7 +3,7 @@ use Prim.Native.Nat.{ℕ, zero, suc, _+_, _-_, _^_, _≤_, _<_}
 use mathlib.Core.Path.{_≡_, refl, sym, ap, _∙_}
 use mathlib.Core.Bool.{Bool, true, false, cond, true≢false}
 use mathlib.Core.Logic.{_≢_}
-use mathlib.Core.List.{List, _++_}
+use mathlib.Core.List.{List, [], _++_}
 use native.Mathlib.Nat.{sub-zero}
 use native.Mathlib.Omega.{arith}
 use borrow.Author.Tests.{eq-eqb, ne-eqb, lt-ltb, le-ltb, leb-true, eqb-false}
@@ -22,7 +22,8 @@ use Rattle.frame.proofs.Counts.{within as count-most, progress}
 use Rattle.base.proofs.Tests.{either-way}
 use Rattle.base.proofs.Stores.{sets-append, sets-front}
 use Rattle.listing.specs.Lines.{lineRoom}
-use Rattle.listing.specs.Feeding.{Run, stopped, full, onward, refuses, lineAfter, listIn, listOf, leftBy}
+use Rattle.listing.specs.Feeding.{Run, stopped, full, onward, refuses, lineAfter, listIn, loopOf, listOf}
+use Rattle.listing.specs.Feeding.{leftBy}
 
 -- no verdict on a frame refuses the call
 pub verdict-goes-on : (v : Verdict) → refuses (codeOf v) ≡ false
@@ -80,15 +81,15 @@ module _ (limit : ℕ) (before : List ℕ) where
 
   module _ (r : State) (bs : List ℕ) (room : ℕ) where
     -- one call more than there are bytes, so that the definition computes
-    one-more : listOf limit before r bs room ≡ listIn limit before (suc (length bs)) r bs room
+    one-more : loopOf limit before r bs room ≡ listIn limit before (suc (length bs)) r bs room
     one-more = enough (length bs) (suc (length bs)) r bs room (omega arith) (omega arith)
 
-    pub turn-done : length bs ≡ 0 → listOf limit before r bs room ≡ stopped r 0
+    pub turn-done : length bs ≡ 0 → loopOf limit before r bs room ≡ stopped r 0
     unfolding listIn
     turn-done h = one-more ∙ rw (eq-eqb (length bs) 0 h)
 
     module _ (some : 1 ≤ length bs) where
-      pub turn-room : room < length before + lineRoom → listOf limit before r bs room ≡ full r
+      pub turn-room : room < length before + lineRoom → loopOf limit before r bs room ≡ full r
       unfolding listIn
       turn-room h =
           one-more ∙ rw (ne-eqb (length bs) 0 (λ e. omega arith), lt-ltb room (length before + lineRoom) h)
@@ -96,16 +97,16 @@ module _ (limit : ℕ) (before : List ℕ) where
       -- with room for a line, by what the call is answered
       module _ (h : length before + lineRoom ≤ room) (y : Reply State) (e : y ≡ feedOf limit r bs) where
         pub turn-refused : refuses (y .row .number) ≡ true
-            → listOf limit before r bs room ≡ stopped (y .state) (y .row .number)
+            → loopOf limit before r bs room ≡ stopped (y .state) (y .row .number)
         unfolding listIn
         turn-refused f =
             one-more
             ∙ rw (ne-eqb (length bs) 0 (λ z. omega arith), le-ltb room (length before + lineRoom) h, ← e, f)
 
         pub turn-onward : refuses (y .row .number) ≡ false
-            → listOf limit before r bs room
+            → loopOf limit before r bs room
             ≡ onward (countOf (y .row)) (lineAfter before y)
-            (listOf limit before (y .state) (drop (countOf (y .row)) bs) (room - length (lineAfter before y)))
+            (loopOf limit before (y .state) (drop (countOf (y .row)) bs) (room - length (lineAfter before y)))
         unfolding listIn
         turn-onward f =
             let fewer : length (drop (countOf (y .row)) bs) ≤ length bs =
@@ -158,8 +159,8 @@ module _ (limit : ℕ) (before bytes out₀ : List ℕ) (r₀ : State) where
     pub within : used ≤ length bytes
     pub room : written ≤ length out
     pub same-length : length out ≡ length out₀
-    pub rest : Rest (listOf limit before r₀ bytes (length out₀))
-        (listOf limit before r (drop used bytes) (length out - written)) used written out₀ out
+    pub rest : Rest (loopOf limit before r₀ bytes (length out₀))
+        (loopOf limit before r (drop used bytes) (length out - written)) used written out₀ out
 
   pub at-start : At out₀ r₀ 0 0
   at-start =
@@ -191,12 +192,12 @@ module _ {limit : ℕ} {before bytes out₀ out : List ℕ} {r₀ r : State} {us
 
   -- the loop stops
   pub at-end : (q : State) (number : ℕ)
-      → listOf limit before r (drop used bytes) (length out - written) ≡ stopped q number
+      → loopOf limit before r (drop used bytes) (length out - written) ≡ stopped q number
       → record { state = q; used = used; written = written; stop = number; out = out }
-      ≡ leftBy (listOf limit before r₀ bytes (length out₀)) out₀
+      ≡ leftBy (loopOf limit before r₀ bytes (length out₀)) out₀
   at-end q number e = rest-stopped q number (rw e at (at .rest)) (omega (arith, at .room, at .same-length))
 
-  pub at-done : used ≡ length bytes → listOf limit before r (drop used bytes) (length out - written) ≡ stopped r 0
+  pub at-done : used ≡ length bytes → loopOf limit before r (drop used bytes) (length out - written) ≡ stopped r 0
   at-done e = turn-done limit before r (drop used bytes) (length out - written) (omega (arith, left-is))
 
   module _ (more : used ≢ length bytes) where
@@ -204,7 +205,7 @@ module _ {limit : ℕ} {before bytes out₀ out : List ℕ} {r₀ r : State} {us
     some-left = omega (arith, left-is, at .within)
 
     pub at-room : length out - written < length before + lineRoom
-        → listOf limit before r (drop used bytes) (length out - written) ≡ full r
+        → loopOf limit before r (drop used bytes) (length out - written) ≡ full r
     at-room h = turn-room limit before r (drop used bytes) (length out - written) some-left h
 
     module _ (h : length before + lineRoom ≤ length out - written)
@@ -214,7 +215,7 @@ module _ {limit : ℕ} {before bytes out₀ out : List ℕ} {r₀ r : State} {us
       e = rw (take-all (length bytes - used) (drop used bytes) (omega (arith, left-is))) at lent
 
       pub at-refused : refuses (y .row .number) ≡ true
-          → listOf limit before r (drop used bytes) (length out - written) ≡ stopped (y .state) (y .row .number)
+          → loopOf limit before r (drop used bytes) (length out - written) ≡ stopped (y .state) (y .row .number)
       at-refused f = turn-refused limit before r (drop used bytes) (length out - written) some-left h y e f
 
       pub at-onward : refuses (y .row .number) ≡ false → Onward limit before bytes out₀ r₀ out used written y
@@ -233,7 +234,7 @@ module _ {limit : ℕ} {before bytes out₀ out : List ℕ} {r₀ r : State} {us
               let turn = turn-onward limit before r (drop used bytes) (length out - written) some-left h y e f in
               let left : length out - written - length (lineAfter before y) ≡ length after - next =
               omega (arith, long, put .0) in
-              let rest : Rest (listOf limit before r₀ bytes (length out₀)) (listOf limit before (y .state)
+              let rest : Rest (loopOf limit before r₀ bytes (length out₀)) (loopOf limit before (y .state)
               (drop (countOf (y .row)) (drop used bytes)) (length out - written - length (lineAfter before y)))
               (used + countOf (y .row)) (written + length (lineAfter before y)) out₀
               (sets out written (lineAfter before y)) =
@@ -244,3 +245,17 @@ module _ {limit : ℕ} {before bytes out₀ out : List ℕ} {r₀ r : State} {us
                 same-length = long ∙ at .same-length;
                 rest = rw (drop-drop, left, ← put .0, ← put .1) at rest;
               }
+
+-- ---- the empty call before the loop
+
+module _ (limit : ℕ) (before bytes out : List ℕ) (r : State) (y : Reply State) (e : y ≡ feedOf limit r []) where
+  -- refused, it ends the call, and nothing changes
+  pub none-fed : refuses (y .row .number) ≡ true
+      → record { state = r; used = 0; written = 0; stop = y .row .number; out = out }
+      ≡ leftBy (listOf limit before r bytes (length out)) out
+  none-fed f = rw (← e, f)
+
+  -- otherwise the loop decides
+  pub all-fed : refuses (y .row .number) ≡ false
+      → loopOf limit before r bytes (length out) ≡ listOf limit before r bytes (length out)
+  all-fed f = rw (← e, f)

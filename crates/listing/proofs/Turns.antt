@@ -30,7 +30,7 @@ use Rattle.listing.specs.Feeding.{Run, refuses, listIn, listOf}
 use Rattle.listing.specs.LoopClaims.{Listing, Turn, Turned, turned, turnsOf, writtenBy, TurnsListing}
 use Rattle.listing.specs.LoopClaims.{Told, TurnsTold, OfferedFront, TurnsFront, SentTurns, AnyTurns}
 use Rattle.listing.specs.LoopClaims.{WorkedTurns}
-use Rattle.listing.proofs.LoopClaims.{loop-lists, run-goes-on}
+use Rattle.listing.proofs.LoopClaims.{loop-lists, refused-late}
 use Rattle.listing.proofs.Whole.{only-offered, texts, whole-listing, one-listing}
 
 -- ---- calls that make what turns leave
@@ -111,14 +111,6 @@ turns-listing before limit small turns =
     (called limit before turns (freshOf limit))
 
 -- ---- turns-told
-
--- a call of a reader in range is refused for USED alone, and only past 2^62
-refused-late : (limit : ℕ) (s : State) (bs : List ℕ) (n : ℕ) → inRangeOf limit (s .scan) ≡ true → refuses n ≡ true
-    → feedOf limit s bs .row .number ≡ n → (n ≢ 17) × (2 ^ 62 < s .scan .taken + length bs)
-refused-late limit s bs n i f =
-    rw i (either-way (leb (s .scan .taken + length bs) (2 ^ 62))
-    (λ b. rw b (λ e. absurd (true≢false (sym f ∙ (ap refuses (sym e) ∙ run-goes-on limit bs 0 s)))))
-    (λ b. rw b (λ e. (λ z. omega (arith, e, z), leb-false _ _ b))))
 
 module _ (limit : ℕ) (small : limit ≤ widest) where
   -- a state that calls of a fresh reader lead to, by which n bytes were taken

@@ -63,8 +63,15 @@ listIn limit before (suc n) r bytes room =
     (room - length (lineAfter before (feedOf limit r bytes)))))))
 
 -- as many calls as there are bytes are enough: each takes one at least
+abbrev pub loopOf : ℕ → List ℕ → State → List ℕ → ℕ → Run
+loopOf limit before r bytes room = listIn limit before (length bytes) r bytes room
+
+-- "17 comes before all others": an empty call is made first, so that a reader out of range is answered STATE with no
+-- room and no bytes, too
 abbrev pub listOf : ℕ → List ℕ → State → List ℕ → ℕ → Run
-listOf limit before r bytes room = listIn limit before (length bytes) r bytes room
+listOf limit before r bytes room =
+    cond (refuses (feedOf limit r [] .row .number)) (stopped r (feedOf limit r [] .row .number))
+    (loopOf limit before r bytes room)
 
 -- what a call of the loop returns and leaves, with the output afterwards
 pub record Left : Type 0 where

@@ -76,6 +76,13 @@ LoopLists =
     (limit : ℕ) (before : List ℕ) (r : State) (bytes : List ℕ) (room : ℕ)
     → Listing limit before r bytes room (listOf limit before r bytes room)
 
+-- ---- state-first: "17 comes before all others": a reader out of range stops it for STATE, with no room and no bytes,
+-- too
+abbrev pub StateFirst : Type 0
+StateFirst =
+    (limit : ℕ) (before : List ℕ) (r : State) (bytes : List ℕ) (room : ℕ) → feedOf limit r bytes .row .number ≡ 17
+    → listOf limit before r bytes room ≡ record { state = r; used = 0; text = []; stop = 17 }
+
 -- ---- loop-progress: with a byte offered and room for a line, where neither STATE nor USED stops it, a byte is used
 abbrev pub LoopProgress : Type 0
 LoopProgress =

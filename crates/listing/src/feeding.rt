@@ -11,7 +11,7 @@ ghost use Rattle.frame.specs.Wire.{frameLimit};
 ghost use Rattle.frame.specs.State.{stateOf};
 ghost use Rattle.frame.specs.Table.{rowOf};
 ghost use Rattle.listing.specs.Lines.{answerText, lineRoom};
-ghost use Rattle.listing.specs.Feeding.{stopOf, refuses, listOf, leftOf, leftBy};
+ghost use Rattle.listing.specs.Feeding.{stopOf, refuses, loopOf, listOf, leftOf, leftBy};
 
 // No answer's line has more bytes behind what stands before its word.
 const LINE_ROOM: usize = 132;
@@ -76,10 +76,9 @@ fn add_line(said: Answer, before: &[u8], body: &[u8], out: &mut [u8], at: usize)
     at + answer_line(said, before, body, &mut out[at..]).count()
 }
 
-// Feeds bytes and puts the line of each answer. Where it stops for room, the caller writes the text out and calls again
-// with the bytes that are left: room is asked before the bytes are fed, so that no answer is lost.
-pub fn list(reader: Reader, before: &[u8], bytes: &[u8], out: &mut [u8]) -> Listed
-    ensures { λ r. ⌜ leftOf r (now (out .exit)) ≡ leftBy (listOf frameLimit (now (before .entry)) (stateOf reader)
+// Feeds bytes to a reader and puts the line of each answer.
+fn feed_all(reader: Reader, before: &[u8], bytes: &[u8], out: &mut [u8]) -> Listed
+    ensures { λ r. ⌜ leftOf r (now (out .exit)) ≡ leftBy (loopOf frameLimit (now (before .entry)) (stateOf reader)
         (now (bytes .entry)) (length (now (out .entry)))) (now (out .entry)) ⌝ }
 {
     let mut next = reader;
@@ -107,4 +106,24 @@ pub fn list(reader: Reader, before: &[u8], bytes: &[u8], out: &mut [u8]) -> List
         written,
         stop,
     }
+}
+
+// Feeds bytes and puts the line of each answer. Where it stops for room, the caller writes the text out and calls again
+// with the bytes that are left: room is asked before the bytes are fed, so that no answer is lost. A reader that
+// is out of range is refused before all else.
+pub fn list(reader: Reader, before: &[u8], bytes: &[u8], out: &mut [u8]) -> Listed
+    ensures { λ r. ⌜ leftOf r (now (out .exit)) ≡ leftBy (listOf frameLimit (now (before .entry)) (stateOf reader)
+        (now (bytes .entry)) (length (now (out .entry)))) (now (out .entry)) ⌝ }
+{
+    let asked = frame::feed(reader, b"");
+    let answer = asked.answer;
+    if is_refusal(answer) {
+        return Listed {
+            reader,
+            used: 0,
+            written: 0,
+            stop: refusal(answer),
+        };
+    }
+    feed_all(reader, before, bytes, out)
 }

@@ -1,99 +1,43 @@
--- `list` meets its contract. The loop's invariant: what is still to be done, behind what was done, is the whole run.
-use Prim.Native.Nat.{_-_}
+-- `list` asks an empty call first, and then feeds the bytes.
 use mathlib.Core.Path.{sym, _∙_}
-use native.Mathlib.Omega.{arith}
-use lib.ListN.{length}
 use borrow.Author.Needs.{needs}
-use Rattle.base.specs.Outcomes.{Reply}
 use Rattle.frame.specs.Wire.{frameLimit}
-use Rattle.frame.specs.State.{State, stateOf}
+use Rattle.frame.specs.State.{stateOf}
 use Rattle.frame.specs.Calls.{replyOf}
-use Rattle.listing.proofs.Loops.{At, at-start, at-end, at-done, at-room, at-refused}
-use Rattle.listing.proofs.Loops.{Onward, at-onward}
+use Rattle.listing.proofs.Loops.{none-fed, all-fed}
 use Rattle.listing.proofs.feeding.list.Statement.{statement}
 use Rattle.listing.proofs.feeding.list.Tie as tie
 
-abbrev Inv-loop : tie.InvT-loop
-Inv-loop before bytes out₀ next₀ used₀ written₀ out next used written =
-    At frameLimit before bytes out₀ (stateOf next₀) out (stateOf next) used written
+-- what the call is given
+abbrev given : tie.After-is-refusal → tie.Start
+given s = s .before .before .before .before .before .before
 
-abbrev μ-loop : tie.MeasureT-loop
-μ-loop before bytes out₀ next₀ used₀ written₀ out next used written = length bytes - used
-
-loop-holds : tie.Need-loop-holds Inv-loop μ-loop
-loop-holds c = at-start frameLimit _ _ _ _
-
-returns : tie.Need-returns Inv-loop μ-loop
+returns : tie.Need-returns
 returns c =
-    let at = c .before .loop .inv in
-    at-end at _ _ (at-done at (c .if1 .taken))
-
-returns-2 : tie.Need-returns-2 Inv-loop μ-loop
-returns-2 c =
-    let at = c .before .before .loop .inv in
-    at-end at _ _ (at-room at (c .before .if1 .left) (c .if2 .taken))
-
--- what the reader replies in a turn
-abbrev reply : tie.After-is-refusal Inv-loop μ-loop → Reply State
-reply c = replyOf (c .before .before .feed .result)
-
-returns-3 : tie.Need-returns-3 Inv-loop μ-loop
-returns-3 c =
     let s = c .before .before in
-    let at = s .before .before .before .before .before .before .loop .inv in
-    let refused = sym (s .is-refusal .ensures) ∙ c .before .if3 .taken in
+    let args = given s .args in
+    let refused = sym (s .is-refusal .ensures) ∙ c .before .if1 .taken in
     rw (c .refusal .ensures refused)
-    (at-end at _ _ (at-refused at (s .before .before .before .before .before .if1 .left)
-    (s .before .before .before .before .if2 .left) (reply s) (s .before .before .feed .ensures) refused))
+    (none-fed frameLimit (args .before .now) (args .bytes .now) (args .out .now) (stateOf (args .reader))
+    (replyOf (s .before .feed .result)) (s .before .feed .ensures) refused)
 
--- a turn that goes on
-module _ (c : tie.After-count Inv-loop μ-loop) where
-  abbrev turn : tie.After-is-refusal Inv-loop μ-loop
-  turn = c .before .before
-
-  abbrev begun : tie.At-loop Inv-loop μ-loop
-  begun = turn .before .before .before .before .before .before
-
-  abbrev start : tie.Start Inv-loop μ-loop
-  start = begun .before .before .before .before
-
-  onward : Onward frameLimit (start .args .before .now) (start .args .bytes .now) (start .args .out .now)
-      (stateOf (start .args .reader)) (begun .loop .out) (begun .loop .used) (begun .loop .written) (reply turn)
-  onward =
-      at-onward (begun .loop .inv) (turn .before .before .before .before .before .if1 .left)
-      (turn .before .before .before .before .if2 .left) (reply turn) (turn .before .before .feed .ensures)
-      (sym (turn .is-refusal .ensures) ∙ c .before .if3 .left)
-
-add-used : tie.Need-add-used Inv-loop μ-loop
-add-used c = omega (arith, c .count .ensures, onward c .within)
-
-loop-less : tie.Need-loop-less Inv-loop μ-loop
-loop-less c =
-    let counted = c .before .before .before .before .before .before .before in
-    omega (arith, counted .count .ensures, onward counted .within, onward counted .some)
-
-loop-again : tie.Need-loop-again Inv-loop μ-loop
-loop-again c =
-    let counted = c .before .before .before .before .before .before .before in
-    let line = c .before .before .add-line .ensures in
-    rw (counted .count .ensures) (onward counted .again _ _ (line .0) (line .1))
+returns-2 : tie.Need-returns-2
+returns-2 c =
+    let f = c .before .before in
+    let s = f .before .before .before in
+    let args = given s .args in
+    let goes-on = sym (s .is-refusal .ensures) ∙ f .before .before .if1 .left in
+    rw (← all-fed frameLimit (args .before .now) (args .bytes .now) (args .out .now) (stateOf (args .reader))
+    (replyOf (s .before .feed .result)) (s .before .feed .ensures) goes-on)
+    (f .feed-all .ensures)
 
 pub list-spec : {M : Type 1} → statement M
 list-spec =
     tie.close
     (tie.spec
-    Inv-loop
-    μ-loop
-    loop-holds
-    (λ c. search needs) (λ c. search needs) (λ c. search needs) (λ c. search needs) (λ c. search needs)
-    (λ c κs. search needs) (λ c κs. search needs) (λ c κs. search needs) (λ c κs. search needs)
-    add-used
-    (λ c κs. omega arith)
-    loop-less
-    loop-again
     (λ c. search needs)
+    (λ c κs. search needs) (λ c κs. search needs) (λ c κs. search needs)
     returns
+    (λ c κs. search needs)
     (λ c. search needs)
-    returns-2
-    (λ c. search needs)
-    returns-3)
+    returns-2)
