@@ -28,7 +28,7 @@ use Rattle.listing.specs.Claims.{givenText}
 use Rattle.listing.specs.Feeding.{Run, stopped, full, onward, refuses, lineAfter, listIn}
 use Rattle.listing.specs.LoopClaims.{StopNumbers, LeftFieldsAlways, LeftWholeAlways, Listing, LoopLists}
 use Rattle.listing.specs.LoopClaims.{StateFirst, LoopProgress, WorkedLoop}
-use Rattle.listing.proofs.Loops.{verdict-goes-on, takes, turn-refused, turn-onward}
+use Rattle.listing.proofs.Loops.{verdict-goes-on, nonzero, takes, turn-refused, turn-onward}
 
 pub stop-numbers : StopNumbers
 stop-numbers = record { done = refl; room = refl; state = refl; used = refl }
@@ -206,10 +206,6 @@ module _ (limit : ℕ) (before : List ℕ) where
       one-more r bs room _
       (lists n (feedOf limit r bs .state) (drop (countOf (feedOf limit r bs .row)) bs)
       (room - length (lineAfter before (feedOf limit r bs))) fewer))))
-    where
-      nonzero : (m : ℕ) → (m ≡ 0 → ⊥) → 1 ≤ m
-      nonzero zero f = absurd (f refl)
-      nonzero (suc m) f = omega arith
 
 pub loop-lists : LoopLists
 loop-lists limit before r bytes room =

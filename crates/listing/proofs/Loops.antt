@@ -34,6 +34,11 @@ verdict-goes-on Stuff = refl
 verdict-goes-on Cut = refl
 verdict-goes-on Sum = refl
 
+-- what is not 0 is 1 at least
+pub nonzero : (n : ℕ) → (n ≡ 0 → ⊥) → 1 ≤ n
+nonzero zero f = absurd (f refl)
+nonzero (suc n) f = omega arith
+
 -- a call that is not refused takes a byte
 pub takes : (limit : ℕ) (r : State) (bs : List ℕ)
     → refuses (feedOf limit r bs .row .number) ≡ false → 1 ≤ length bs → 1 ≤ countOf (feedOf limit r bs .row)
@@ -74,10 +79,6 @@ module _ (limit : ℕ) (before : List ℕ) where
       same : (t : Bool) {x y z w : Run} → (t ≡ true → x ≡ y) → (t ≡ false → z ≡ w) → cond t x z ≡ cond t y w
       same true f g = f refl
       same false f g = g refl
-
-      nonzero : (n : ℕ) → (n ≡ 0 → ⊥) → 1 ≤ n
-      nonzero zero f = absurd (f refl)
-      nonzero (suc n) f = omega arith
 
   module _ (r : State) (bs : List ℕ) (room : ℕ) where
     -- one call more than there are bytes, so that the definition computes
