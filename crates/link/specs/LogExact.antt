@@ -38,7 +38,7 @@ pub record LogExact (first most : ℕ) (l : Link) (calls : List Call) : Type 0 w
 abbrev pub LogsExact : Type 0
 LogsExact = (first most : ℕ) (l : Link) (calls : List Call) → LogExact first most l calls
 
--- ---- worked-wait: "at most 4 due ticks without an answer end a wait", counted in a log of six ticks
+-- ---- worked-wait: a wait that no answer ends: the fourth due tick does, counted in a log of six ticks
 
 -- a report sent at clock 0, and ticks; those at 200, 400, 600 and 800 are due
 abbrev pub waitLog : List Entry

@@ -216,7 +216,8 @@ module _ (k : Kind) (command most : ℕ) (is : kindOf command ≡ k) (c : Single
         read = λ b g h. as-kind k command is (b ∷ []) ∙ read k command (b ∷ []) (c .listed) (sym (sized (b ∷ [])))
             (c .within b g h) (c .values b);
         zero = as-kind k command is (0 ∷ []) ∙ field k command (0 ∷ []) (c .listed) (sym (sized (0 ∷ []))) (c .zero);
-        above = λ b h. as-kind k command is (b ∷ []) ∙ field k command (b ∷ []) (c .listed) (sym (sized (b ∷ []))) (c .above b h);
+        above = λ b h. as-kind k command is (b ∷ []) ∙ field k command (b ∷ []) (c .listed) (sym (sized (b ∷ [])))
+            (c .above b h);
         size = λ p h. as-kind k command is p ∙ size k command p (c .listed) (sym (sized p) ∙ ne-eqb (length p) 1 h);
       }
 

@@ -10,7 +10,8 @@ use Rattle.base.proofs.Claims.{numbers-spelled}
 use Rattle.message.specs.Numbers.{num, eight}
 use Rattle.message.specs.Counter.{modeNumber, statusBytes, controlBytes}
 use Rattle.message.specs.Writing.{networkBytes, timeBytes, unixBytes}
-use Rattle.message.specs.Writings.{WritesExactly, inFour, timeoutAnd, statusSpelled, controlSpelled, networkSpelled}
+use Rattle.message.specs.Writings.{WritesExactly, inFour, timeoutAnd}
+use Rattle.message.specs.Writings.{statusSpelled, controlSpelled, networkSpelled}
 use Rattle.message.specs.declared.counter.Status.{Status}
 use Rattle.message.specs.declared.counter.Control.{Control}
 use Rattle.message.specs.declared.values.Network.{Network}

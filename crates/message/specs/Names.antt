@@ -65,7 +65,8 @@ pub record ContractsWhole : Type 0 where
       (m : Message) (parts : Parts) (command : ℕ) (p : List ℕ) → readingOf (reading.Got m parts) ≡ decodeOf command p
       → (readOf command p ≡ row 0 (messageIn m)) × (partsOf command p ≡ parts)
   pub written :
-      (r : Sent) (after : List ℕ) (w : Write) → outcome (sentRowOf r) after ≡ w → (sentRowOf r ≡ w .row) × (after ≡ w .out)
+      (r : Sent) (after : List ℕ) (w : Write)
+      → outcome (sentRowOf r) after ≡ w → (sentRowOf r ≡ w .row) × (after ≡ w .out)
   pub answered :
       (r : Reply) (after : List ℕ) (w : Write)
       → outcome (replyRowOf r) after ≡ w → (replyRowOf r ≡ w .row) × (after ≡ w .out)

@@ -1,6 +1,6 @@
--- Messages by their names, and the payload that each is written as: of every message, byte by byte at its literal place,
--- and worked, in literal bytes. With one name set at a time, a name that stands for another bit, number or place gives
--- other bytes.
+-- Messages by their names, and the payload that each is written as: of every message, byte by byte at its literal
+-- place, and worked, in literal bytes. With one name set at a time, a name that stands for another bit, number or place
+-- gives other bytes.
 use Prim.Native.Nat.{ℕ, _+_, _*_, _/_, _%_}
 use mathlib.Core.Path.{_≡_}
 use mathlib.Core.Bool.{Bool, true, false, cond, _&&_}

@@ -1,4 +1,4 @@
--- `feed_all` meets its contract. The loop's invariant: what is still to be done, behind what was done, is the whole run.
+-- `feed_all` meets its contract. The loop's invariant: what is to be done, behind what was done, is the whole run.
 use Prim.Native.Nat.{_-_}
 use mathlib.Core.Path.{sym, _∙_}
 use native.Mathlib.Omega.{arith}
