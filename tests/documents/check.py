@@ -10,7 +10,7 @@ import sys
 
 HERE = pathlib.Path(__file__).resolve().parent
 ROOT = HERE.parents[1]
-sys.path.insert(0, str(HERE.parent / "shared"))
+sys.path.insert(0, str(HERE.parent / "lib"))
 from checks import Checks  # noqa: E402
 
 SPAN = re.compile(r"`([^`\n]+)`")
@@ -36,7 +36,7 @@ def found(pattern, paths):
 
 def edits():
     """Every wrong program, with its text."""
-    return {path: text_of(path) for path in files("crates/*/must-fail/*.edit", "tests/edits/*/*.edit")}
+    return {path: text_of(path) for path in files("crates/*/must-fail/*.edit", "tests/mutants/*/*.edit")}
 
 
 def tree_words():
@@ -135,7 +135,7 @@ def misvalued(text):
 
 
 def crate_of(edit):
-    """crates/NAME/must-fail/x.edit and tests/edits/NAME/x.edit are of NAME."""
+    """crates/NAME/must-fail/x.edit and tests/mutants/NAME/x.edit are of NAME."""
     parts = edit.relative_to(ROOT).parts
     return parts[1] if parts[0] == "crates" else parts[2]
 

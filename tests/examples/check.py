@@ -12,7 +12,7 @@ import expected
 from expected import FF, LIMIT, STUFFED, Reader, stuff, wire
 from stored import stored
 
-sys.path.insert(0, str(pathlib.Path(__file__).resolve().parent.parent / "shared"))
+sys.path.insert(0, str(pathlib.Path(__file__).resolve().parent.parent / "lib"))
 from checks import Checks, Program, seed_and_count, shares
 
 checks = Checks("examples")

@@ -9,7 +9,7 @@ expected.py script prints the script, expected.py text what the driver has to pr
 import pathlib
 import sys
 
-sys.path.insert(0, str(pathlib.Path(__file__).resolve().parent.parent / "shared"))
+sys.path.insert(0, str(pathlib.Path(__file__).resolve().parent.parent / "lib"))
 from records import FEED, FINISH, FRESH, SET, WRITE, print_part, record
 
 LIMIT = 1024  # the greatest length

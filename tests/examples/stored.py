@@ -1,8 +1,8 @@
 #!/usr/bin/env python3
 """The driver's stored script and what it has to print for it: the parts of three tests, one behind the other.
 
-stored.py script > crates/driver/stdin
-stored.py text > crates/driver/stdout
+stored.py script > crates/test_driver/stdin
+stored.py text > crates/test_driver/stdout
 
 Neither is ever made by running the driver.
 """

@@ -16,7 +16,7 @@ import model
 from model import ANSWER, ELAPSED, OFFER, SET_IDLE, SET_WAITING, TICK_IN_PLACE, TICKS, WAITING, scripted
 from stated import stated
 
-sys.path.insert(0, str(pathlib.Path(__file__).resolve().parent.parent / "shared"))
+sys.path.insert(0, str(pathlib.Path(__file__).resolve().parent.parent / "lib"))
 from checks import Checks, Program, seed_and_count
 from device import drive
 

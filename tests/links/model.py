@@ -10,7 +10,7 @@ model.py < SCRIPT prints the text.
 import pathlib
 import sys
 
-sys.path.insert(0, str(pathlib.Path(__file__).resolve().parent.parent / "shared"))
+sys.path.insert(0, str(pathlib.Path(__file__).resolve().parent.parent / "lib"))
 import records
 from records import LINK
 

@@ -8,7 +8,7 @@ import sys
 
 import model
 
-sys.path.insert(0, str(pathlib.Path(__file__).resolve().parent.parent / "shared"))
+sys.path.insert(0, str(pathlib.Path(__file__).resolve().parent.parent / "lib"))
 from records import LINK, is_whole, print_part, record
 
 # A name, then each record and its line. A record is the operation, a, b, c, d and the clock. C7 is 199, C8 is 200.

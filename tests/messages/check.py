@@ -13,7 +13,7 @@ import model
 from model import FF, STUFFED, wire_form
 from stated import STATED, STATED_TAIL, kinds, stated
 
-sys.path.insert(0, str(pathlib.Path(__file__).resolve().parent.parent / "shared"))
+sys.path.insert(0, str(pathlib.Path(__file__).resolve().parent.parent / "lib"))
 from checks import Checks, Program, seed_and_count
 from device import drive
 from records import FRESH, STREAM, record, records_of, streamed

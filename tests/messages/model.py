@@ -10,7 +10,7 @@ model.py < STREAM prints the text of a stream.
 import pathlib
 import sys
 
-sys.path.insert(0, str(pathlib.Path(__file__).resolve().parent.parent / "shared"))
+sys.path.insert(0, str(pathlib.Path(__file__).resolve().parent.parent / "lib"))
 from records import ANSWER, NAMES, WRITE_MESSAGE, record
 
 # The frame on the wire.

@@ -9,7 +9,7 @@ import sys
 
 import model
 
-sys.path.insert(0, str(pathlib.Path(__file__).resolve().parent.parent / "shared"))
+sys.path.insert(0, str(pathlib.Path(__file__).resolve().parent.parent / "lib"))
 from records import print_part, streamed
 
 # A name, the stream and its lines.

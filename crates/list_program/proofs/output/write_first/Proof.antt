@@ -1,0 +1,13 @@
+-- `list::output::write_first` is safe and ends: the count is tested against the buffer. Assumes nothing.
+use native.Mathlib.Omega.{arith}
+use lib.ListN.{length-take}
+use borrow.Author.Needs.{needs}
+use Rattle.list_program.proofs.output.write_first.Statement.{statement}
+use Rattle.list_program.proofs.output.write_first.Tie as tie
+
+slice-aggregate-write-whole : tie.Need-slice-aggregate-write-whole
+slice-aggregate-write-whole c = simp length-take (omega arith)
+
+pub write-first-spec : {M : Type 1} → statement M
+write-first-spec =
+    tie.close (tie.spec (λ c. search needs) slice-aggregate-write-whole (λ c κs. search needs) (λ c. search needs))

@@ -1,0 +1,170 @@
+//! The table of all tests: which inputs there are, what they are played through, and how many of them.
+
+use crate::random::Rng;
+use crate::{link_scripts, scripts, streams, vectors};
+
+/// What an input is played through: the program `list`, or one kind of script on the program `driver`.
+#[derive(Clone, Copy, PartialEq, Eq, Debug)]
+pub enum Play {
+    List,
+    Messages,
+    Calls,
+    Links,
+}
+
+const PLAYS: [Play; 4] = [Play::List, Play::Messages, Play::Calls, Play::Links];
+
+#[derive(Clone, Copy, PartialEq, Eq, Debug)]
+pub enum Program {
+    List,
+    Driver,
+}
+
+pub const PROGRAMS: [Program; 2] = [Program::List, Program::Driver];
+
+impl Play {
+    fn name(self) -> &'static str {
+        match self {
+            Play::List => "list",
+            Play::Messages => "messages",
+            Play::Calls => "calls",
+            Play::Links => "links",
+        }
+    }
+
+    pub fn named(name: &str) -> Option<Play> {
+        PLAYS.into_iter().find(|play| play.name() == name)
+    }
+
+    pub fn program(self) -> Program {
+        if self == Play::List {
+            Program::List
+        } else {
+            Program::Driver
+        }
+    }
+}
+
+impl Program {
+    pub fn name(self) -> &'static str {
+        match self {
+            Program::List => "list_program",
+            Program::Driver => "test_driver",
+        }
+    }
+}
+
+/// Makes an input from its index; one that the index does not fix is random.
+type Make = fn(&mut Rng, u64) -> Vec<u8>;
+
+/// What a family makes, and with it what that is played through.
+#[derive(Clone, Copy)]
+enum Kind {
+    /// A stream to list, to play in records, and to give to the reader in random cuts.
+    Stream(Make),
+    /// A stream that is too long for random cuts.
+    Long(Make),
+    /// A script of single calls to the reader and the writer.
+    Calls(Make),
+    /// A script of a link's records.
+    Links(Make),
+}
+
+pub struct Family {
+    pub name: &'static str,
+    kind: Kind,
+    /// How many inputs, from the count that was asked for.
+    inputs: fn(u64) -> u64,
+}
+
+const fn family(name: &'static str, kind: Kind, inputs: fn(u64) -> u64) -> Family {
+    Family { name, kind, inputs }
+}
+
+fn as_asked(count: u64) -> u64 {
+    count
+}
+
+const FAMILIES: [Family; 25] = [
+    family("whole", Kind::Stream(streams::whole), as_asked),
+    family("damaged", Kind::Stream(streams::damaged), as_asked),
+    family("cut", Kind::Stream(streams::cut), as_asked),
+    family("brim", Kind::Stream(streams::brim), as_asked),
+    family("noise", Kind::Stream(streams::noise), as_asked),
+    family("few-bytes", Kind::Stream(streams::few_bytes), as_asked),
+    family("half-headers", Kind::Stream(streams::half_headers), as_asked),
+    family("all-ff", Kind::Stream(streams::all_ff), as_asked),
+    family("lengths", Kind::Stream(streams::lengths), as_asked),
+    family("wrong-sums", Kind::Stream(streams::wrong_sums), as_asked),
+    // Never fewer than one input for each command.
+    family("commands", Kind::Stream(streams::commands), |count| count.max(256)),
+    family("every-bit", Kind::Stream(streams::every_bit), |_| streams::BIT_SETS),
+    family("empty", Kind::Stream(streams::empty), |_| 1),
+    family("vectors", Kind::Stream(|_, index| vectors::all()[index as usize].clone()), |_| vectors::all().len() as u64),
+    family("long", Kind::Long(streams::long), |count| count / 10),
+    family("limits", Kind::Calls(scripts::limits), as_asked),
+    family("writer", Kind::Calls(scripts::writer), as_asked),
+    family("every-room", Kind::Calls(scripts::every_room), |count| count / 4),
+    family("every-cut-vectors", Kind::Calls(scripts::every_cut_of_vector), |_| vectors::short().len() as u64),
+    family("every-cut-damaged", Kind::Calls(scripts::every_cut_of_damaged), |count| count / 2),
+    family("every-stream", Kind::Calls(scripts::every_stream), |_| scripts::STREAM_SETS),
+    family("every-large-room", Kind::Calls(scripts::every_large_room), |_| 1),
+    family("long-life", Kind::Links(link_scripts::long_life), as_asked),
+    family("elsewhere", Kind::Links(link_scripts::elsewhere), as_asked),
+    family("link-noise", Kind::Links(link_scripts::noise), as_asked),
+];
+
+/// One input, played once.
+#[derive(Clone, Copy)]
+pub struct Test {
+    pub play: Play,
+    family: usize,
+    index: u64,
+}
+
+impl Test {
+    pub fn named(play: Play, family: &str, index: u64) -> Option<Test> {
+        let place = FAMILIES.iter().position(|known| known.name == family)?;
+        let fits = FAMILIES[place].plays().contains(&play) && index < (FAMILIES[place].inputs)(u64::MAX);
+        fits.then_some(Test { play, family: place, index })
+    }
+
+    pub fn name(&self, seed: u64) -> String {
+        let family = FAMILIES[self.family].name;
+        format!("{} seed {seed} family {family} index {}", self.play.name(), self.index)
+    }
+
+    pub fn input(&self, seed: u64) -> Vec<u8> {
+        let mut rng = Rng::for_test(seed, self.family as u64, self.index);
+        let (Kind::Stream(make) | Kind::Long(make) | Kind::Calls(make) | Kind::Links(make)) =
+            FAMILIES[self.family].kind;
+        let made = make(&mut rng, self.index);
+        match (FAMILIES[self.family].kind, self.play) {
+            (Kind::Stream(_), Play::Calls) => scripts::random_cuts(&made, &mut rng),
+            (_, Play::Messages) => scripts::in_records(&made, &mut rng),
+            _ => made,
+        }
+    }
+}
+
+impl Family {
+    fn plays(&self) -> &'static [Play] {
+        match self.kind {
+            Kind::Stream(_) => &[Play::List, Play::Messages, Play::Calls],
+            Kind::Long(_) => &[Play::List, Play::Messages],
+            Kind::Calls(_) => &[Play::Calls],
+            Kind::Links(_) => &[Play::Links],
+        }
+    }
+}
+
+/// All tests of a run.
+pub fn tests(count: u64) -> Vec<Test> {
+    let mut tests = Vec::new();
+    for (place, family) in FAMILIES.iter().enumerate() {
+        for index in 0..(family.inputs)(count) {
+            tests.extend(family.plays().iter().map(|&play| Test { play, family: place, index }));
+        }
+    }
+    tests
+}
