@@ -14,7 +14,7 @@ use Rattle.base.specs.Sums.{total}
 use Rattle.base.specs.Keys.{among}
 use Rattle.base.specs.Claims.{WorkedNumbers, AllSpelled, AllLookedUp, PartsWhole, ReadBackBetween, PlacedAlways}
 use Rattle.base.proofs.Tests.{by-test, either-way}
-use Rattle.base.proofs.Numbers.{two-behind}
+use Rattle.base.proofs.Numbers.{two-after}
 
 pub worked-numbers : WorkedNumbers
 unfolding total
@@ -62,7 +62,7 @@ part-whole whole part start size p = record { bytes = p .bytes; place = (p .bloc
 pub read-back : ReadBackBetween
 read-back f r =
     record {
-      two-back = λ n. two-behind f refl n r;
+      two-back = λ n. two-after f refl n r;
       four-back = λ n. simp (getD-append-add, getD-append-seam, add-assoc) (omega arith);
       two-fits = λ n h. (omega arith, omega arith);
       four-fits = λ n h. (omega arith, omega arith, omega arith, omega arith);
@@ -70,8 +70,8 @@ read-back f r =
 
 -- bytes at the front of an output that has room for them
 module _ (w out : List ℕ) where
-  behind : (i : ℕ) → length w ≤ i → getD (onto w out) i 0 ≡ getD out i 0
-  behind i h =
+  after : (i : ℕ) → length w ≤ i → getD (onto w out) i 0 ≡ getD out i 0
+  after i h =
       let e : i ≡ length w + (i - length w) = omega arith in
       rw e (getD-append-add w (drop (length w) out) (i - length w) 0 ∙ getD-drop (length w) out (i - length w) 0)
 
@@ -96,7 +96,7 @@ placed-whole-or-not w out =
       room-out = λ h. absurd (omega (arith, ltb-false));
       fits-row = λ h. rw s;
       front = λ h. rw s (take-append-seam w (drop (length w) out));
-      stays = λ i h. rw s (behind w out i h);
+      stays = λ i h. rw s (after w out i h);
       same-length = rw s (as-long w out (omega (arith, ltb-false)));
       room-counts = λ h. absurd (omega (arith, ltb-false));
       fits-counts = λ h. rw s;

@@ -12,8 +12,8 @@ RisingFrom start m [] = Unit {0}
 RisingFrom start m (x ∷ xs) = (m ≤ start x) × RisingFrom start (start x + 1) xs
 
 -- what is in a list and is not its first is behind it
-behind-first : {A : Type 0} (y : A) (r : List A) (x : A) → List·Memᴰ x (y ∷ r) → (x ≡ y → ⊥) → List·Memᴰ x r
-behind-first y r x k other = go (List·Memᴰ·cases-cons k)
+after-first : {A : Type 0} (y : A) (r : List A) (x : A) → List·Memᴰ x (y ∷ r) → (x ≡ y → ⊥) → List·Memᴰ x r
+after-first y r x k other = go (List·Memᴰ·cases-cons k)
   where
     go : (x ≡ y) ⊎ List·Memᴰ x r → List·Memᴰ x r
     go (inl e) = absurd (other e)
@@ -44,8 +44,8 @@ same-members {A} start m n (f ∷ a) (g ∷ b) p q to fro =
     cc (
       same,
       same-members start (start f + 1) (start g + 1) a b (p .1) (q .1)
-          (λ x k. behind-first g b x (to x (List·Memᴰ·tail k)) (λ e. later f a x (p .1) k (e ∙ sym same)))
-          (λ x k. behind-first f a x (fro x (List·Memᴰ·tail k)) (λ e. later g b x (q .1) k (e ∙ same))),
+          (λ x k. after-first g b x (to x (List·Memᴰ·tail k)) (λ e. later f a x (p .1) k (e ∙ sym same)))
+          (λ x k. after-first f a x (fro x (List·Memᴰ·tail k)) (λ e. later g b x (q .1) k (e ∙ same))),
     )
   where
     later : (y : A) (r : List A) (x : A) → RisingFrom start (start y + 1) r → List·Memᴰ x r → x ≡ y → ⊥

@@ -9,8 +9,8 @@ use lib.Dec.{eqb}
 use Rattle.base.specs.Rows.{Row, row}
 
 -- what can be read back is told apart
-pub told-apart : {A B : Type 0} (f : A → B) (g : B → A) → ((a : A) → g (f a) ≡ a) → (a b : A) → f a ≡ f b → a ≡ b
-told-apart f g back a b e = sym (back a) ∙ ap g e ∙ back b
+pub injective-by : {A B : Type 0} (f : A → B) (g : B → A) → ((a : A) → g (f a) ≡ a) → (a b : A) → f a ≡ f b → a ≡ b
+injective-by f g back a b e = sym (back a) ∙ ap g e ∙ back b
 
 -- what stands in a row under its number, or else
 abbrev pub under : {A : Type 0} → Row → ℕ → A → A → A

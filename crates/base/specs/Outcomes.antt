@@ -7,22 +7,22 @@ use lib.Dec.{ltb}
 use Rattle.base.specs.Rows.{Row, row}
 
 -- a call's row, and the state that it returns
-pub record Reply (S : Type 0) : Type 0 where
+pub record Outcome (S : Type 0) : Type 0 where
   pub row : Row
   pub state : S
 
 -- a reply of the two
-abbrev pub reply : {S : Type 0} → Row → S → Reply S
-reply a s = record { row = a; state = s }
+abbrev pub outcome : {S : Type 0} → Row → S → Outcome S
+outcome a s = record { row = a; state = s }
 
 -- the row of a call that writes, and the output afterwards
-pub record Write : Type 0 where
+pub record Output : Type 0 where
   pub row : Row
   pub out : List ℕ
 
 -- the same of the two
-abbrev pub outcome : Row → List ℕ → Write
-outcome a o = record { row = a; out = o }
+abbrev pub output : Row → List ℕ → Output
+output a o = record { row = a; out = o }
 
 -- bytes at the front of an output, whose rest stays
 abbrev pub onto : List ℕ → List ℕ → List ℕ
@@ -34,6 +34,6 @@ writtenIn r = getD (r .values) 0 0
 
 -- bytes that fit stand at the front of the output; their count has no number in the table and stands under 0 (not
 -- MORE). Others are ROOM 22, with the output as it was
-abbrev pub placed : List ℕ → List ℕ → Write
+abbrev pub placed : List ℕ → List ℕ → Output
 placed w out =
-    cond (ltb (length out) (length w)) (outcome (row 22 (0 ∷ [])) out) (outcome (row 0 (length w ∷ [])) (onto w out))
+    cond (ltb (length out) (length w)) (output (row 22 (0 ∷ [])) out) (output (row 0 (length w ∷ [])) (onto w out))

@@ -7,5 +7,5 @@ pub use bytes::four_at;
 pub use bytes::four_bytes;
 pub use bytes::two_at;
 pub use bytes::two_bytes;
-pub use slices::least;
+pub use slices::min;
 pub use slices::part;

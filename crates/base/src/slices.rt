@@ -5,7 +5,7 @@ ghost use lib.ListN.{length, drop};
 ghost use Rattle.base.specs.Parts.{IsPart};
 
 // The smaller of two numbers.
-pub fn least(a: usize, b: usize) -> usize
+pub fn min(a: usize, b: usize) -> usize
     ensures { λ r. ⌜ r ≡ min a b ⌝ }
 {
     if a <= b {
@@ -18,8 +18,8 @@ pub fn least(a: usize, b: usize) -> usize
 pub fn part(bytes: &[u8], start: usize, size: usize) -> &[u8]
     ensures { λ r. ⌜ IsPart (bytes .entry) r (min start (length (now (bytes .entry)))) size ⌝ }
 {
-    let from = least(start, bytes.len());
-    let count = least(size, bytes.len() - from);
+    let from = min(start, bytes.len());
+    let count = min(size, bytes.len() - from);
     let to = from + count;
     &bytes[from..to]
 }

@@ -6,12 +6,12 @@ use Rattle.frame.specs.Wire.{stuff, bodyOf}
 use Rattle.base.specs.Sums.{total}
 use Rattle.frame.specs.Calls.{zeros, runOf}
 use Rattle.base.specs.Keys.{among}
-use Rattle.message.specs.Commands.{table, lineIn, fits, sizeFits}
+use Rattle.message.specs.Commands.{table, profileIn, fits, sizeFits}
 use Rattle.examples.specs.Examples.{Example, Answer, answerTo, examples, CountedExamples}
 
 -- what an entry is answered, and what it states
 abbrev found : Example → Answer
-found e = answerTo (e .asked)
+found e = answerTo (e .question)
 
 abbrev stated : Example → Answer
 stated e = e .stated
@@ -26,5 +26,5 @@ each (x ∷ xs) p e m = step (each xs (cc) e) (List·Memᴰ·cases-cons m)
     step below (inr later) = below later
 
 pub counted-examples : CountedExamples
-unfolding stuff total bodyOf zeros runOf among table lineIn fits sizeFits examples
+unfolding stuff total bodyOf zeros runOf among table profileIn fits sizeFits examples
 counted-examples = record { all-twelve = refl; answers = each examples refl }

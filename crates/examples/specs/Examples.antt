@@ -13,7 +13,7 @@ use Rattle.frame.specs.Frames.{frontBody}
 use Rattle.base.specs.Rows.{Row, row}
 use Rattle.frame.specs.State.{State}
 use Rattle.frame.specs.Calls.{zeros, freshOf, feedOf, writeOf}
-use Rattle.base.specs.Outcomes.{Reply, Write}
+use Rattle.base.specs.Outcomes.{Outcome, Output}
 use Rattle.message.specs.Reading.{readOf}
 use Rattle.message.specs.Writing.{sendOf}
 use Rattle.message.specs.declared.counter.Mode.the-variants as mode
@@ -27,11 +27,11 @@ use Rattle.link.specs.Clock.{elapsedOf, isDue}
 pub data Question : Type 0 where
   -- frame: bytes given to a fresh reader in one call;
   -- where the answer counts them all, it is "the reader's last answer"
-  bytesGiven : (bytes : List ℕ) → Question
+  bytesFed : (bytes : List ℕ) → Question
   -- frame: a frame written into an output
   frameWritten : (command number flags : ℕ) (payload out : List ℕ) → Question
   -- message: a message written into an output
-  messageWritten : (m : Message) (number flags : ℕ) (lent out : List ℕ) → Question
+  messageWritten : (m : Message) (number flags : ℕ) (opaque out : List ℕ) → Question
   -- message: a command and its payload read
   messageRead : (command : ℕ) (payload : List ℕ) → Question
   -- link: the time elapsed at a clock, since an earlier one
@@ -42,7 +42,7 @@ pub data Question : Type 0 where
 -- what they answer
 pub data Answer : Type 0 where
   -- the table's number and values
-  said : (r : Row) → Answer
+  answered : (r : Row) → Answer
   -- the same of FRAME and SUM, where the "reader holds the body": its first L + 2 bytes and the four parts
   held : (r : Row) (body : List ℕ) (command number flags : ℕ) (payload : List ℕ) → Answer
   -- a writer's number and values, and the output afterwards
@@ -53,24 +53,24 @@ pub data Answer : Type 0 where
   due : (yes : Bool) → Answer
 
 -- the reader's answer; FRAME is 1 and SUM 15
-abbrev pub readerAnswer : Reply State → Answer
+abbrev pub readerAnswer : Outcome State → Answer
 readerAnswer a =
     cond (eqb (a .row .number) 1 || eqb (a .row .number) 15)
     (held (a .row) (frontBody (a .state .body)) (commandOf (a .state .body)) (numberOf (a .state .body))
     (flagsOf (a .state .body)) (payloadOf (a .state .body)))
-    (said (a .row))
+    (answered (a .row))
 
 -- a writer's
-abbrev pub writerAnswer : Write → Answer
+abbrev pub writerAnswer : Output → Answer
 writerAnswer w = output (w .row) (w .out)
 
 -- each question's
 abbrev pub answerTo : Question → Answer
-answerTo (bytesGiven bytes) = readerAnswer (feedOf frameLimit (freshOf frameLimit) bytes)
+answerTo (bytesFed bytes) = readerAnswer (feedOf frameLimit (freshOf frameLimit) bytes)
 answerTo (frameWritten command number flags payload out) =
     writerAnswer (writeOf frameLimit command number flags payload out)
-answerTo (messageWritten m number flags lent out) = writerAnswer (sendOf frameLimit m number flags lent out)
-answerTo (messageRead command payload) = said (readOf command payload)
+answerTo (messageWritten m number flags opaque out) = writerAnswer (sendOf frameLimit m number flags opaque out)
+answerTo (messageRead command payload) = answered (readOf command payload)
 answerTo (timeElapsed clock since) = milliseconds (elapsedOf clock since)
 answerTo (tickDue clock sent) = due (isDue clock sent)
 
@@ -79,12 +79,12 @@ answerTo (tickDue clock sent) = due (isDue clock sent)
 -- an example's number in the paper, a question, and the answer that the paper states
 pub record Example : Type 0 where
   pub number : ℕ
-  pub asked : Question
+  pub question : Question
   pub stated : Answer
 
 -- an entry of the three
 abbrev pub entry : ℕ → Question → Answer → Example
-entry number asked stated = record { number = number; asked = asked; stated = stated }
+entry number question stated = record { number = number; question = question; stated = stated }
 
 -- "FF FF 00 05 07 01 00 00 0D"
 abbrev pub bytes1 : List ℕ
@@ -129,38 +129,38 @@ unfoldable pub examples : List Example
 examples =
     -- 1. "Heartbeat 1: FF FF 00 05 07 01 00 00 0D, FRAME 0 to 9."
     entry 1 (frameWritten 0x07 1 0 [] (zeros 9)) (output (row 0 (9 ∷ [])) bytes1)
-    ∷ entry 1 (bytesGiven bytes1)
+    ∷ entry 1 (bytesFed bytes1)
     (held (row 1 (9 ∷ 0 ∷ 9 ∷ [])) (0x00 ∷ 0x05 ∷ 0x07 ∷ 0x01 ∷ 0x00 ∷ 0x00 ∷ 0x0D ∷ []) 0x07 1 0 [])
     -- 2. "Number FF: FF FF 00 05 07 FF 55 00 00 0B, FRAME 0 to 10."
     ∷ entry 2 (frameWritten 0x07 0xFF 0 [] (zeros 10)) (output (row 0 (10 ∷ [])) bytes2)
-    ∷ entry 2 (bytesGiven bytes2)
+    ∷ entry 2 (bytesFed bytes2)
     (held (row 1 (10 ∷ 0 ∷ 10 ∷ [])) (0x00 ∷ 0x05 ∷ 0x07 ∷ 0xFF ∷ 0x00 ∷ 0x00 ∷ 0x0B ∷ []) 0x07 0xFF 0 [])
     -- 3. "Sum FF: FF FF 00 05 07 F3 00 00 FF 55, FRAME at the 55; one byte less is MORE*."
     ∷ entry 3 (frameWritten 0x07 0xF3 0 [] (zeros 10)) (output (row 0 (10 ∷ [])) bytes3)
-    ∷ entry 3 (bytesGiven bytes3)
+    ∷ entry 3 (bytesFed bytes3)
     (held (row 1 (10 ∷ 0 ∷ 10 ∷ [])) (0x00 ∷ 0x05 ∷ 0x07 ∷ 0xF3 ∷ 0x00 ∷ 0x00 ∷ 0xFF ∷ []) 0x07 0xF3 0 [])
-    ∷ entry 3 (bytesGiven (0xFF ∷ 0xFF ∷ 0x00 ∷ 0x05 ∷ 0x07 ∷ 0xF3 ∷ 0x00 ∷ 0x00 ∷ 0xFF ∷ [])) (said (row 0 (9 ∷ [])))
+    ∷ entry 3 (bytesFed (0xFF ∷ 0xFF ∷ 0x00 ∷ 0x05 ∷ 0x07 ∷ 0xF3 ∷ 0x00 ∷ 0x00 ∷ 0xFF ∷ [])) (answered (row 0 (9 ∷ [])))
     -- 4. "Volume 3, leaf 255, gathering, feeding, number 2:
     -- FF FF 00 0E 05 02 00 00 04 05 00 03 00 00 00 FF 55 00 20, 19 bytes."
     ∷ entry 4 (messageWritten report 2 0 [] (zeros 19)) (output (row 0 (19 ∷ [])) bytes4)
-    ∷ entry 4 (bytesGiven bytes4) (held (row 1 (19 ∷ 0 ∷ 19 ∷ []))
+    ∷ entry 4 (bytesFed bytes4) (held (row 1 (19 ∷ 0 ∷ 19 ∷ []))
     (0x00 ∷ 0x0E ∷ 0x05 ∷ 0x02 ∷ 0x00 ∷ 0x00 ∷ (reportPayload ++ 0x20 ∷ [])) 0x05 2 0 reportPayload)
-    ∷ entry 4 (messageRead 0x05 reportPayload) (said (row 0 (0x05 ∷ 4 ∷ 1 ∷ 0 ∷ 1 ∷ 3 ∷ 255 ∷ 0 ∷ 0 ∷ 0 ∷ [])))
+    ∷ entry 4 (messageRead 0x05 reportPayload) (answered (row 0 (0x05 ∷ 4 ∷ 1 ∷ 0 ∷ 1 ∷ 3 ∷ 255 ∷ 0 ∷ 0 ∷ 0 ∷ [])))
     -- 5. "FF before example 1: FRAME 1 to 10."
-    ∷ entry 5 (bytesGiven (0xFF ∷ bytes1))
+    ∷ entry 5 (bytesFed (0xFF ∷ bytes1))
     (held (row 1 (10 ∷ 1 ∷ 10 ∷ [])) (0x00 ∷ 0x05 ∷ 0x07 ∷ 0x01 ∷ 0x00 ∷ 0x00 ∷ 0x0D ∷ []) 0x07 1 0 [])
     -- 6. "FF FF 00 04: SHORT. FF FF 00 05: MORE."
-    ∷ entry 6 (bytesGiven (0xFF ∷ 0xFF ∷ 0x00 ∷ 0x04 ∷ [])) (said (row 11 (4 ∷ 0 ∷ 4 ∷ [])))
-    ∷ entry 6 (bytesGiven (0xFF ∷ 0xFF ∷ 0x00 ∷ 0x05 ∷ [])) (said (row 0 (4 ∷ [])))
+    ∷ entry 6 (bytesFed (0xFF ∷ 0xFF ∷ 0x00 ∷ 0x04 ∷ [])) (answered (row 11 (4 ∷ 0 ∷ 4 ∷ [])))
+    ∷ entry 6 (bytesFed (0xFF ∷ 0xFF ∷ 0x00 ∷ 0x05 ∷ [])) (answered (row 0 (4 ∷ [])))
     -- 7. "FF FF 04 01: LONG. FF FF 04 00: MORE."
-    ∷ entry 7 (bytesGiven (0xFF ∷ 0xFF ∷ 0x04 ∷ 0x01 ∷ [])) (said (row 12 (4 ∷ 0 ∷ 4 ∷ [])))
-    ∷ entry 7 (bytesGiven (0xFF ∷ 0xFF ∷ 0x04 ∷ 0x00 ∷ [])) (said (row 0 (4 ∷ [])))
+    ∷ entry 7 (bytesFed (0xFF ∷ 0xFF ∷ 0x04 ∷ 0x01 ∷ [])) (answered (row 12 (4 ∷ 0 ∷ 4 ∷ [])))
+    ∷ entry 7 (bytesFed (0xFF ∷ 0xFF ∷ 0x04 ∷ 0x00 ∷ [])) (answered (row 0 (4 ∷ [])))
     -- 8. "FF FF FF 55 00: LONG, start 1."
-    ∷ entry 8 (bytesGiven (0xFF ∷ 0xFF ∷ 0xFF ∷ 0x55 ∷ 0x00 ∷ [])) (said (row 12 (5 ∷ 1 ∷ 5 ∷ [])))
+    ∷ entry 8 (bytesFed (0xFF ∷ 0xFF ∷ 0xFF ∷ 0x55 ∷ 0x00 ∷ [])) (answered (row 12 (5 ∷ 1 ∷ 5 ∷ [])))
     -- 9. "FF FF 00 05 07 FF 00: STUFF, end 7."
-    ∷ entry 9 (bytesGiven (0xFF ∷ 0xFF ∷ 0x00 ∷ 0x05 ∷ 0x07 ∷ 0xFF ∷ 0x00 ∷ [])) (said (row 13 (7 ∷ 0 ∷ 7 ∷ [])))
+    ∷ entry 9 (bytesFed (0xFF ∷ 0xFF ∷ 0x00 ∷ 0x05 ∷ 0x07 ∷ 0xFF ∷ 0x00 ∷ [])) (answered (row 13 (7 ∷ 0 ∷ 7 ∷ [])))
     -- 10. "Example 1 ending in 0E: SUM."
-    ∷ entry 10 (bytesGiven (0xFF ∷ 0xFF ∷ 0x00 ∷ 0x05 ∷ 0x07 ∷ 0x01 ∷ 0x00 ∷ 0x00 ∷ 0x0E ∷ []))
+    ∷ entry 10 (bytesFed (0xFF ∷ 0xFF ∷ 0x00 ∷ 0x05 ∷ 0x07 ∷ 0x01 ∷ 0x00 ∷ 0x00 ∷ 0x0E ∷ []))
     (held (row 15 (9 ∷ 0 ∷ 9 ∷ [])) (0x00 ∷ 0x05 ∷ 0x07 ∷ 0x01 ∷ 0x00 ∷ 0x00 ∷ 0x0E ∷ []) 0x07 1 0 [])
     -- 11. "Clock 4,294,967,200, then 104: elapsed 200, due; 103: not due."
     ∷ entry 11 (timeElapsed 104 4294967200) (milliseconds 200)
@@ -181,4 +181,4 @@ numberIn e = e .number
 pub record CountedExamples : Type 0 where
   pub all-twelve : map numberIn examples ≡ 1 ∷ 1 ∷ 2 ∷ 2 ∷ 3 ∷ 3 ∷ 3 ∷ 4 ∷ 4 ∷ 4 ∷ 5 ∷ 6 ∷ 6 ∷ 7 ∷ 7 ∷ 8 ∷ 9 ∷ 10
       ∷ 11 ∷ 11 ∷ 11 ∷ 12 ∷ 12 ∷ []
-  pub answers : (e : Example) → List·Memᴰ e examples → answerTo (e .asked) ≡ e .stated
+  pub answers : (e : Example) → List·Memᴰ e examples → answerTo (e .question) ≡ e .stated

@@ -8,15 +8,15 @@ use lib.Dec.{ltb}
 use lib.ListN.{length}
 use Rattle.frame.specs.Wire.{bodyOf, frameLimit}
 use Rattle.base.specs.Rows.{row}
-use Rattle.base.specs.Outcomes.{Write, outcome, onto}
+use Rattle.base.specs.Outcomes.{Output, output, onto}
 use Rattle.base.proofs.Tests.{by-test}
 use Rattle.frame.proofs.Stuffing.{stuffed-form}
 use Rattle.frame.proofs.Round.{made-good}
 use Rattle.firmware.specs.Code.{refused, countIn, codeOf, rowFrom, Returned, returned, returnedOf}
-use Rattle.firmware.specs.Claims.{Given, answered, codeFor, wireFor, CodeWhen, CodesWhen, CountsBelow}
-use Rattle.firmware.specs.Claims.{RoomSuffices, CodesTell, RefusalUnchanged, CGetsAlways}
+use Rattle.firmware.specs.Claims.{Arguments, outputOf, codeFor, wireFor, CodeWhen, CodesWhen, CountsBelow}
+use Rattle.firmware.specs.Claims.{RoomSuffices, CodesInjective, RefusalUnchanged, CGetsAlways}
 
-module _ (limit : ℕ) (g : Given) where
+module _ (limit : ℕ) (g : Arguments) where
   -- the longest wire form
   longest : length (g .payload) + 5 ≤ limit → length (wireFor g) ≤ 2 + 2 * (limit + 2)
   longest h =
@@ -24,41 +24,41 @@ module _ (limit : ℕ) (g : Given) where
       omega (
         arith,
         made .true-length,
-        made .most,
+        made .longest,
         stuffed-form (bodyOf (g .command) (g .number) (g .flags) (g .payload)) .at-most-twice,
       )
 
   -- the writer's three answers
-  each : (P : Write → Type 0) → P (outcome (row 21 (0 ∷ [])) (g .out)) → P (outcome (row 22 (0 ∷ [])) (g .out))
+  each : (P : Output → Type 0) → P (output (row 21 (0 ∷ [])) (g .out)) → P (output (row 22 (0 ∷ [])) (g .out))
       → (length (wireFor g) ≤ 2 + 2 * (limit + 2)
-      → P (outcome (row 0 (length (wireFor g) ∷ [])) (onto (wireFor g) (g .out)))) → P (answered limit g)
+      → P (output (row 0 (length (wireFor g) ∷ [])) (onto (wireFor g) (g .out)))) → P (outputOf limit g)
   each P too-long no-room written =
       by-test P (ltb limit (length (g .payload) + 5)) (λ _. too-long) λ t.
       by-test P (ltb (length (g .out)) (length (wireFor g))) (λ _. no-room)
       λ _. written (longest (ltb-false limit (length (g .payload) + 5) t))
 
-below : (limit : ℕ) (g : Given) → countIn (answered limit g .row) ≤ 2 + 2 * (limit + 2)
+below : (limit : ℕ) (g : Arguments) → countIn (outputOf limit g .row) ≤ 2 + 2 * (limit + 2)
 below limit g =
-    each limit g (λ (w : Write). countIn (w .row) ≤ 2 + 2 * (limit + 2)) (omega arith) (omega arith) (λ h. h)
+    each limit g (λ (w : Output). countIn (w .row) ≤ 2 + 2 * (limit + 2)) (omega arith) (omega arith) (λ h. h)
 
 pub counts-below : CountsBelow
 counts-below = record { any = below; ours = below frameLimit }
 
-told : (limit : ℕ) → 2 + 2 * (limit + 2) < 65536 → (g : Given) → rowFrom (codeFor limit g) ≡ answered limit g .row
-told limit small g =
-    each limit g (λ (w : Write). rowFrom (codeOf (w .row)) ≡ w .row) refl refl
+decoded : (limit : ℕ) → 2 + 2 * (limit + 2) < 65536 → (g : Arguments) → rowFrom (codeFor limit g) ≡ outputOf limit g .row
+decoded limit small g =
+    each limit g (λ (w : Output). rowFrom (codeOf (w .row)) ≡ w .row) refl refl
     (λ h. rw (lt-ltb (length (wireFor g)) refused (omega arith)))
 
-pub code-tells : CodesTell
-code-tells limit small =
-    record { told = told limit small; apart = λ g h e. sym (told limit small g) ∙ ap rowFrom e ∙ told limit small h }
+pub code-injective : CodesInjective
+code-injective limit small =
+    record { decoded = decoded limit small; injective = λ g h e. sym (decoded limit small g) ∙ ap rowFrom e ∙ decoded limit small h }
 
 pub refusal-unchanged : RefusalUnchanged
 refusal-unchanged limit small g =
-    each limit g (λ (w : Write). refused ≤ codeOf (w .row) → w .out ≡ g .out) (λ _. refl) (λ _. refl)
+    each limit g (λ (w : Output). refused ≤ codeOf (w .row) → w .out ≡ g .out) (λ _. refl) (λ _. refl)
     (λ h r. absurd (omega arith))
 
-when : (limit : ℕ) (g : Given) → CodeWhen limit g
+when : (limit : ℕ) (g : Arguments) → CodeWhen limit g
 when limit g =
     record {
       payload = λ h. rw (lt-ltb limit (length (g .payload) + 5) h);
@@ -79,13 +79,13 @@ pub room-suffices : RoomSuffices
 room-suffices g h r = code-when .written g h (omega (arith, longest frameLimit g (omega arith)))
 
 -- the contract's equation, taken apart
-gets : (code : ℕ) (after : List ℕ) (w : Write) → returned code after ≡ returnedOf w
+gets : (code : ℕ) (after : List ℕ) (w : Output) → returned code after ≡ returnedOf w
     → (code ≡ codeOf (w .row)) × (after ≡ w .out)
 gets code after w e = (ap (λ (r : Returned). r .code) e, ap (λ (r : Returned). r .out) e)
 
 pub c-gets : CGetsAlways
 c-gets g code after e =
-    let got = gets code after (answered frameLimit g) e in
+    let got = gets code after (outputOf frameLimit g) e in
     record {
       payload = λ h. (
         got .0 ∙ code-when .payload g h,

@@ -5,7 +5,7 @@ use mathlib.Core.List.{List, [], _∷_}
 use lib.ListN.{getD}
 use lib.Dec.{eqb, ltb}
 use Rattle.base.specs.Rows.{Row, row}
-use Rattle.base.specs.Outcomes.{Write}
+use Rattle.base.specs.Outcomes.{Output}
 
 -- "there a refusal is 65,536 plus its number"
 abbrev pub refused : ℕ
@@ -33,5 +33,5 @@ abbrev pub returned : ℕ → List ℕ → Returned
 returned c o = record { code = c; out = o }
 
 -- the same of what the writer answers and leaves
-abbrev pub returnedOf : Write → Returned
+abbrev pub returnedOf : Output → Returned
 returnedOf w = returned (codeOf (w .row)) (w .out)

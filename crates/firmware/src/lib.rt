@@ -1,5 +1,5 @@
 // The frame writer for the box's C firmware, under one exported name.
-use frame::Written;
+use frame::WriteResult;
 ghost use mathlib.Core.Path.{_≡_};
 ghost use Rattle.frame.specs.Wire.{frameLimit};
 ghost use Rattle.frame.specs.Calls.{writeOf};
@@ -23,8 +23,8 @@ pub extern "C" fn trogonreed_write_frame(
 {
     let written = frame::write(command, number, flags, payload, out);
     match written {
-        Written::Wrote { count } => count as u32,
-        Written::Payload => REFUSED + 21,
-        Written::Room => REFUSED + 22,
+        WriteResult::Wrote { count } => count as u32,
+        WriteResult::Payload => REFUSED + 21,
+        WriteResult::Room => REFUSED + 22,
     }
 }

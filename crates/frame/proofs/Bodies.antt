@@ -13,7 +13,7 @@ use borrow.Author.Tests.{eqb-true, eqb-false, eq-eqb, ne-eqb, ltb-true, ltb-fals
 use Rattle.frame.specs.Wire.{lengthOf, Good}
 use Rattle.base.specs.Sums.{total, checksum}
 use Rattle.frame.specs.Frames.{frontBody}
-use Rattle.frame.specs.Lines.{Unfinished}
+use Rattle.frame.specs.Decisions.{Unfinished}
 use Rattle.frame.specs.Rules.{grownOf, endedOf, completedOf, bodyByteOf, putOf}
 use Rattle.frame.specs.declared.scan.Verdict.{Verdict}
 use Rattle.frame.specs.declared.scan.Verdict.the-variants.{Frame, Short, Long, Stuff, Cut, Sum}
@@ -66,8 +66,8 @@ module _ (limit : ℕ) (b : List ℕ) where
   ends-in : (e : Verdict) → Ends limit b e → ending ≡ e
   ends-in Frame p =
       rw (
-        le-ltb (lengthOf b) 5 (p .least),
-        le-ltb limit (lengthOf b) (p .most),
+        le-ltb (lengthOf b) 5 (p .shortest),
+        le-ltb limit (lengthOf b) (p .longest),
         eq-eqb (sumIn b) (sumDue b) (p .sum-holds),
       )
   ends-in Short p = rw (lt-ltb (lengthOf b) 5 (p .1))
@@ -129,10 +129,10 @@ whole-held body h v k full =
     ap (λ (j : ℕ). take j b) all ∙ stored body h v k
 
 -- the byte v, behind the body bytes b so far
-module _ {limit : ℕ} {b : List ℕ} (s : Scan) (p : Partial limit (s .have) (s .length) (s .sum) b) (v : ℕ)
+module _ {limit : ℕ} {b : List ℕ} (s : Scan) (p : Partial limit (s .filled) (s .length) (s .sum) b) (v : ℕ)
     (first : getD (b ++ v ∷ []) 0 0 ≢ 255) where
   abbrev h : ℕ
-  h = s .have
+  h = s .filled
 
   abbrev grown : List ℕ
   grown = b ++ v ∷ []
@@ -151,7 +151,7 @@ module _ {limit : ℕ} {b : List ℕ} (s : Scan) (p : Partial limit (s .have) (s
       omega (arith, p .high e)
 
   module _ (P : Step → Type 0)
-      (goes-on : (k : ℕ) → h ≤ limit → Partial limit (h + 1) k ((s .sum + v) % 2 ^ 8) grown → P (grownOf s k v))
+      (continues : (k : ℕ) → h ≤ limit → Partial limit (h + 1) k ((s .sum + v) % 2 ^ 8) grown → P (grownOf s k v))
       (ends : (e : Verdict) → Ends limit grown e → P (endedOf s v e)) where
     completed : h ≡ lengthOf b + 1 → 2 ≤ h → P (completedOf s v)
     completed e two =
@@ -161,18 +161,18 @@ module _ {limit : ℕ} {b : List ℕ} (s : Scan) (p : Partial limit (s .have) (s
         let due : sumDue grown ≡ s .sum =
         ap checksum (take-at b (v ∷ []) (lengthOf grown + 1) (omega (arith, p .count))) ∙ sym (p .summed) in
         let five : 5 ≤ lengthOf grown = omega (arith, p .bounds two .0) in
-        let most : lengthOf grown ≤ limit = omega (arith, p .bounds two .1) in
+        let longest : lengthOf grown ≤ limit = omega (arith, p .bounds two .1) in
         by-test P (eqb v (s .sum))
         (λ q. ends Frame (record
-        { true-length = full; least = five; most = most; sum-holds = last ∙ eqb-true v (s .sum) q ∙ sym due }))
-        (λ q. ends Sum (full, five, most, (λ k. eqb-false v (s .sum) q (sym last ∙ k ∙ due))))
+        { true-length = full; shortest = five; longest = longest; sum-holds = last ∙ eqb-true v (s .sum) q ∙ sym due }))
+        (λ q. ends Sum (full, five, longest, (λ k. eqb-false v (s .sum) q (sym last ∙ k ∙ due))))
 
     pub body-cases : P (bodyByteOf limit s v)
     body-cases =
         by-test P (eqb h 0)
         (λ a.
         let h0 : h ≡ 0 = eqb-true h 0 a in
-        goes-on v (omega arith) (record {
+        continues v (omega arith) (record {
           count = size p v;
           summed = sum-on;
           high = λ k. sym (getD-at b v [] 0 0 (p .count ∙ h0));
@@ -195,7 +195,7 @@ module _ {limit : ℕ} {b : List ℕ} (s : Scan) (p : Partial limit (s .have) (s
         (λ f. ends Long (two, first, low, (rw e at (ltb-true limit l f))))
         (λ f.
         let top : lengthOf grown ≤ limit = rw e at (ltb-false limit l f) in
-        goes-on l (omega arith) (record {
+        continues l (omega arith) (record {
           count = size p v;
           summed = sum-on;
           high = λ k. absurd (omega arith);
@@ -214,7 +214,7 @@ module _ {limit : ℕ} {b : List ℕ} (s : Scan) (p : Partial limit (s .have) (s
         let goes : h ≤ s .length = ltb-false (s .length) h d in
         by-test P (ltb limit h)
         (λ f. absurd (omega (arith, ltb-true limit h f, p .bounds two .1)))
-        (λ f. goes-on (s .length) (ltb-false limit h f) (record {
+        (λ f. continues (s .length) (ltb-false limit h f) (record {
           count = size p v;
           summed = sum-on;
           high = λ k. absurd (omega arith);

@@ -10,9 +10,9 @@ use lib.Dec.{leb}
 use borrow.Author.Tests.{le-leb, leb-true}
 use Rattle.base.specs.Keys.{among}
 use Rattle.frame.specs.Table.{codeOf, countOf, eventRow}
-use Rattle.frame.specs.Logs.{givenNumbers}
-use Rattle.frame.specs.Rules.{advanceOf, decidesOf, inRangeOf, mostTaken}
-use Rattle.base.specs.Outcomes.{Reply}
+use Rattle.frame.specs.Logs.{feedNumbers}
+use Rattle.frame.specs.Rules.{advanceOf, decidesOf, inRangeOf, maxConsumed}
+use Rattle.base.specs.Outcomes.{Outcome}
 use Rattle.frame.specs.Calls.{nextOf, runOf}
 use Rattle.frame.specs.declared.scan.Event.{Event}
 use Rattle.frame.specs.declared.scan.Event.the-variants.{Quiet, Decided}
@@ -28,20 +28,20 @@ count-event (Decided v) n s p = refl
 
 -- a verdict's line: FRAME or a refused frame
 pub record Numbered (d : ℕ) : Type 0 where
-  pub is-given : among d givenNumbers ≡ true
+  pub is-feed : among d feedNumbers ≡ true
   pub low : 1 ≤ d
   pub high : d < 17
 
 pub numbered : (v : Verdict) → Numbered (codeOf v)
 unfolding among
-numbered Frame = record { is-given = refl; low = omega arith; high = omega arith }
-numbered Short = record { is-given = refl; low = omega arith; high = omega arith }
-numbered Long = record { is-given = refl; low = omega arith; high = omega arith }
-numbered Stuff = record { is-given = refl; low = omega arith; high = omega arith }
-numbered Cut = record { is-given = refl; low = omega arith; high = omega arith }
-numbered Sum = record { is-given = refl; low = omega arith; high = omega arith }
+numbered Frame = record { is-feed = refl; low = omega arith; high = omega arith }
+numbered Short = record { is-feed = refl; low = omega arith; high = omega arith }
+numbered Long = record { is-feed = refl; low = omega arith; high = omega arith }
+numbered Stuff = record { is-feed = refl; low = omega arith; high = omega arith }
+numbered Cut = record { is-feed = refl; low = omega arith; high = omega arith }
+numbered Sum = record { is-feed = refl; low = omega arith; high = omega arith }
 
-abbrev Counts : ℕ → ℕ → Reply State → Type 0
+abbrev Counts : ℕ → ℕ → Outcome State → Type 0
 Counts low high y = (low ≤ countOf (y .row)) × (countOf (y .row) ≤ high)
 
 run-counts : (limit : ℕ) (bs : List ℕ) (n : ℕ) (r : State) → Counts n (n + length bs) (runOf limit bs n r)
@@ -49,7 +49,7 @@ unfolding runOf
 run-counts limit [] n r = (omega arith, omega arith)
 run-counts limit (x ∷ xs) n r =
     let e : Event = advanceOf limit (r .scan) x .event in
-    let c = count-event e (n + 1) (r .scan .start) (nextOf limit r x .scan .taken) in
+    let c = count-event e (n + 1) (r .scan .start) (nextOf limit r x .scan .consumed) in
     let rest = run-counts limit xs (n + 1) (nextOf limit r x) in
     by-test (Counts n (n + length (x ∷ xs))) (decidesOf e) (λ d. (omega (arith, c), omega (arith, c)))
     (λ d. (omega (arith, rest .0), omega (arith, rest .1)))
@@ -57,8 +57,8 @@ run-counts limit (x ∷ xs) n r =
 pub within : Within
 within limit r bs =
     let run = run-counts limit bs 0 r in
-    by-test (λ (y : Reply State). countOf (y .row) ≤ length bs) (inRangeOf limit (r .scan))
-    (λ a. by-test (λ (y : Reply State). countOf (y .row) ≤ length bs) (leb (r .scan .taken + length bs) (2 ^ 62))
+    by-test (λ (y : Outcome State). countOf (y .row) ≤ length bs) (inRangeOf limit (r .scan))
+    (λ a. by-test (λ (y : Outcome State). countOf (y .row) ≤ length bs) (leb (r .scan .consumed + length bs) (2 ^ 62))
     (λ b. omega (arith, run .1)) (λ b. omega arith))
     (λ a. omega arith)
 
@@ -66,17 +66,17 @@ some-run : (limit : ℕ) (x : ℕ) (xs : List ℕ) (r : State) → 1 ≤ countOf
 unfolding runOf
 some-run limit x xs r =
     let e : Event = advanceOf limit (r .scan) x .event in
-    let c = count-event e (0 + 1) (r .scan .start) (nextOf limit r x .scan .taken) in
+    let c = count-event e (0 + 1) (r .scan .start) (nextOf limit r x .scan .consumed) in
     let rest = run-counts limit xs (0 + 1) (nextOf limit r x) in
-    by-test (λ (y : Reply State). 1 ≤ countOf (y .row)) (decidesOf e) (λ d. omega (arith, c))
+    by-test (λ (y : Outcome State). 1 ≤ countOf (y .row)) (decidesOf e) (λ d. omega (arith, c))
     (λ d. omega (arith, rest .0))
 
 pub progress : Progress
 progress limit r [] a b h = absurd (omega arith)
-progress limit r (x ∷ xs) a b h = rw (a, le-leb (r .scan .taken + length (x ∷ xs)) (2 ^ 62) b) (some-run limit x xs r)
+progress limit r (x ∷ xs) a b h = rw (a, le-leb (r .scan .consumed + length (x ∷ xs)) (2 ^ 62) b) (some-run limit x xs r)
 
 pub empty-call : EmptyCall
 unfolding runOf
 empty-call limit r a =
-    let ranges = both (leb (r .scan .taken) mostTaken) a in
-    rw (a, le-leb (r .scan .taken + 0) (2 ^ 62) (omega (arith, leb-true (r .scan .taken) mostTaken (ranges .0))))
+    let ranges = both (leb (r .scan .consumed) maxConsumed) a in
+    rw (a, le-leb (r .scan .consumed + 0) (2 ^ 62) (omega (arith, leb-true (r .scan .consumed) maxConsumed (ranges .0))))

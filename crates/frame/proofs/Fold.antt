@@ -10,11 +10,11 @@ use lib.Dec.{leb}
 use Rattle.base.specs.Rows.{Row}
 use Rattle.frame.specs.Table.{codeOf, eventRow}
 use Rattle.frame.specs.Rules.{advanceOf, decidesOf, inRangeOf}
-use Rattle.base.specs.Outcomes.{Reply, reply}
-use Rattle.frame.specs.Calls.{nextOf, endingRow, runOf}
-use Rattle.frame.specs.Logs.{Call, give, ask, callOf, entryOf, logOf, stateAfter, offered, takenBy, stream}
+use Rattle.base.specs.Outcomes.{Outcome, outcome}
+use Rattle.frame.specs.Calls.{nextOf, finishRowIn, runOf}
+use Rattle.frame.specs.Logs.{Call, feed, finish, callOf, entryOf, logOf, stateAfter, offered, consumedBy, stream}
 use Rattle.frame.specs.Logs.{decided}
-use Rattle.frame.specs.Lines.{Line, lined, linesOf, heldUnder}
+use Rattle.frame.specs.Decisions.{Decision, addDecision, decisionsOf, bodyHeld}
 use Rattle.frame.specs.State.{Phase, Idle, Half, Header, Open, Escape, State}
 use Rattle.frame.specs.declared.scan.Event.{Event}
 use Rattle.frame.specs.declared.scan.Event.the-variants.{Quiet, Decided}
@@ -29,24 +29,24 @@ abbrev pub eventCode : Event → ℕ
 eventCode e = eventRow e 0 0 0 .number
 
 -- the line of the byte x, where it decides
-abbrev pub lineAt : ℕ → State → ℕ → Line
-lineAt limit r x =
+abbrev pub decisionAt : ℕ → State → ℕ → Decision
+decisionAt limit r x =
     record {
       number = eventCode (advanceOf limit (r .scan) x .event);
       start = r .scan .start;
-      end = nextOf limit r x .scan .taken;
-      body = heldUnder (eventCode (advanceOf limit (r .scan) x .event)) (nextOf limit r x .body);
+      end = nextOf limit r x .scan .consumed;
+      body = bodyHeld (eventCode (advanceOf limit (r .scan) x .event)) (nextOf limit r x .body);
     }
 
 unfoldable pub afterAll : ℕ → State → List ℕ → State
 afterAll limit r [] = r
 afterAll limit r (x ∷ xs) = afterAll limit (nextOf limit r x) xs
 
-unfoldable pub saidAll : ℕ → State → List ℕ → List Line
-saidAll limit r [] = []
-saidAll limit r (x ∷ xs) =
-    cond (decidesOf (advanceOf limit (r .scan) x .event)) (lineAt limit r x ∷ saidAll limit (nextOf limit r x) xs)
-    (saidAll limit (nextOf limit r x) xs)
+unfoldable pub decidedAll : ℕ → State → List ℕ → List Decision
+decidedAll limit r [] = []
+decidedAll limit r (x ∷ xs) =
+    cond (decidesOf (advanceOf limit (r .scan) x .event)) (decisionAt limit r x ∷ decidedAll limit (nextOf limit r x) xs)
+    (decidedAll limit (nextOf limit r x) xs)
 
 module _ (limit : ℕ) where
   pub after-append : (a b : List ℕ) (r : State) → afterAll limit r (a ++ b) ≡ afterAll limit (afterAll limit r a) b
@@ -54,101 +54,101 @@ module _ (limit : ℕ) where
   after-append [] b r = refl
   after-append (x ∷ a) b r = after-append a b (nextOf limit r x)
 
-  join : (t : Bool) (d : Line) (u v w : List Line) → u ≡ v ++ w → cond t (d ∷ u) u ≡ cond t (d ∷ v) v ++ w
-  join true d u v w e = ap (λ (l : List Line). d ∷ l) e
+  join : (t : Bool) (d : Decision) (u v w : List Decision) → u ≡ v ++ w → cond t (d ∷ u) u ≡ cond t (d ∷ v) v ++ w
+  join true d u v w e = ap (λ (l : List Decision). d ∷ l) e
   join false d u v w e = e
 
-  pub said-append : (a b : List ℕ) (r : State)
-      → saidAll limit r (a ++ b) ≡ saidAll limit r a ++ saidAll limit (afterAll limit r a) b
-  unfolding afterAll saidAll
-  said-append [] b r = refl
-  said-append (x ∷ a) b r =
-      join (decidesOf (advanceOf limit (r .scan) x .event)) (lineAt limit r x)
-      (saidAll limit (nextOf limit r x) (a ++ b)) (saidAll limit (nextOf limit r x) a)
-      (saidAll limit (afterAll limit (nextOf limit r x) a) b) (said-append a b (nextOf limit r x))
+  pub decided-append : (a b : List ℕ) (r : State)
+      → decidedAll limit r (a ++ b) ≡ decidedAll limit r a ++ decidedAll limit (afterAll limit r a) b
+  unfolding afterAll decidedAll
+  decided-append [] b r = refl
+  decided-append (x ∷ a) b r =
+      join (decidesOf (advanceOf limit (r .scan) x .event)) (decisionAt limit r x)
+      (decidedAll limit (nextOf limit r x) (a ++ b)) (decidedAll limit (nextOf limit r x) a)
+      (decidedAll limit (afterAll limit (nextOf limit r x) a) b) (decided-append a b (nextOf limit r x))
 
   -- ---- calls, of any reader
 
   -- a call c took k of the bytes bs, after n others
-  record Took (c : Call) (r : State) (n : ℕ) (bs : List ℕ) (y : Reply State) : Type 0 where
+  record Took (c : Call) (r : State) (n : ℕ) (bs : List ℕ) (y : Outcome State) : Type 0 where
     k : ℕ
-    counts : takenBy c (y .row) ≡ n + k
+    counts : consumedBy c (y .row) ≡ n + k
     reader : y .state ≡ afterAll limit r (take k bs)
-    said : (ls : List Line) → lined (entryOf r c y) ls ≡ saidAll limit r (take k bs) ++ ls
+    decisions : (ls : List Decision) → addDecision (entryOf r c y) ls ≡ decidedAll limit r (take k bs) ++ ls
 
   -- a verdict is a line
-  decided-line : (v : Verdict) → decided (codeOf v) ≡ true
-  decided-line Frame = refl
-  decided-line Short = refl
-  decided-line Long = refl
-  decided-line Stuff = refl
-  decided-line Cut = refl
-  decided-line Sum = refl
+  decided-decision : (v : Verdict) → decided (codeOf v) ≡ true
+  decided-decision Frame = refl
+  decided-decision Short = refl
+  decided-decision Long = refl
+  decided-decision Stuff = refl
+  decided-decision Cut = refl
+  decided-decision Sum = refl
 
-  lined-event : (c : Call) (e : Event) (n s p : ℕ) (r q : State) (ls : List Line) → decidesOf e ≡ true
-      → lined (entryOf r c (reply (eventRow e n s p) q)) ls
-      ≡ record { number = eventCode e; start = s; end = p; body = heldUnder (eventCode e) (q .body) } ∷ ls
-  lined-event c Quiet n s p r q ls d = absurd (true≢false (sym d))
-  lined-event c (Decided v) n s p r q ls d = rw (decided-line v)
+  added-event : (c : Call) (e : Event) (n s p : ℕ) (r q : State) (ls : List Decision) → decidesOf e ≡ true
+      → addDecision (entryOf r c (outcome (eventRow e n s p) q)) ls
+      ≡ record { number = eventCode e; start = s; end = p; body = bodyHeld (eventCode e) (q .body) } ∷ ls
+  added-event c Quiet n s p r q ls d = absurd (true≢false (sym d))
+  added-event c (Decided v) n s p r q ls d = rw (decided-decision v)
 
-  took : (all bs : List ℕ) (n : ℕ) (r : State) → Took (give all) r n bs (runOf limit bs n r)
-  unfolding runOf afterAll saidAll
-  took all [] n r = record { k = 0; counts = omega arith; reader = refl; said = λ ls. refl }
+  took : (all bs : List ℕ) (n : ℕ) (r : State) → Took (feed all) r n bs (runOf limit bs n r)
+  unfolding runOf afterAll decidedAll
+  took all [] n r = record { k = 0; counts = omega arith; reader = refl; decisions = λ ls. refl }
   took all (x ∷ xs) n r =
       let e : Event = advanceOf limit (r .scan) x .event in
       let q : State = nextOf limit r x in
-      by-test (Took (give all) r n (x ∷ xs)) (decidesOf e)
+      by-test (Took (feed all) r n (x ∷ xs)) (decidesOf e)
       (λ d. record {
         k = 1;
-        counts = count-event e (n + 1) (r .scan .start) (q .scan .taken);
+        counts = count-event e (n + 1) (r .scan .start) (q .scan .consumed);
         reader = refl;
-        said = λ ls. rw d (lined-event (give all) e (n + 1) (r .scan .start) (q .scan .taken) r q ls d);
+        decisions = λ ls. rw d (added-event (feed all) e (n + 1) (r .scan .start) (q .scan .consumed) r q ls d);
       })
       (λ d.
-      let w : Took (give all) q (n + 1) xs (runOf limit xs (n + 1) q) = took all xs (n + 1) q in
-      record { k = suc (w .k); counts = omega (arith, w .counts); reader = w .reader; said = λ ls. rw d (w .said ls) })
+      let w : Took (feed all) q (n + 1) xs (runOf limit xs (n + 1) q) = took all xs (n + 1) q in
+      record { k = suc (w .k); counts = omega (arith, w .counts); reader = w .reader; decisions = λ ls. rw d (w .decisions ls) })
 
   -- a call that takes nothing and decides nothing
   took-none : (c : Call) (r : State) (bs : List ℕ) (a : Row)
-      → takenBy c a ≡ 0 → ((ls : List Line) → lined (entryOf r c (reply a r)) ls ≡ ls)
-      → Took c r 0 bs (reply a r)
-  unfolding afterAll saidAll
-  took-none c r bs a none s = record { k = 0; counts = omega arith; reader = refl; said = s }
+      → consumedBy c a ≡ 0 → ((ls : List Decision) → addDecision (entryOf r c (outcome a r)) ls ≡ ls)
+      → Took c r 0 bs (outcome a r)
+  unfolding afterAll decidedAll
+  took-none c r bs a none s = record { k = 0; counts = omega arith; reader = refl; decisions = s }
 
-  took-end : (r : State) (f : Phase) → Took ask r 0 [] (reply (endingRow f (r .scan)) r)
-  took-end r Idle = took-none ask r [] (endingRow Idle (r .scan)) refl (λ ls. refl)
-  took-end r Half = took-none ask r [] (endingRow Half (r .scan)) refl (λ ls. refl)
-  took-end r Header = took-none ask r [] (endingRow Header (r .scan)) refl (λ ls. refl)
-  took-end r Open = took-none ask r [] (endingRow Open (r .scan)) refl (λ ls. refl)
-  took-end r Escape = took-none ask r [] (endingRow Escape (r .scan)) refl (λ ls. refl)
+  took-end : (r : State) (f : Phase) → Took finish r 0 [] (outcome (finishRowIn f (r .scan)) r)
+  took-end r Idle = took-none finish r [] (finishRowIn Idle (r .scan)) refl (λ ls. refl)
+  took-end r Half = took-none finish r [] (finishRowIn Half (r .scan)) refl (λ ls. refl)
+  took-end r Header = took-none finish r [] (finishRowIn Header (r .scan)) refl (λ ls. refl)
+  took-end r Open = took-none finish r [] (finishRowIn Open (r .scan)) refl (λ ls. refl)
+  took-end r Escape = took-none finish r [] (finishRowIn Escape (r .scan)) refl (λ ls. refl)
 
   took-call : (r : State) (c : Call) → Took c r 0 (offered c) (callOf limit r c)
-  took-call r (give bs) =
-      by-test (Took (give bs) r 0 bs) (inRangeOf limit (r .scan))
-      (λ a. by-test (Took (give bs) r 0 bs) (leb (r .scan .taken + length bs) (2 ^ 62)) (λ b. took bs bs 0 r)
-      (λ b. took-none (give bs) r bs _ refl (λ ls. refl)))
-      (λ a. took-none (give bs) r bs _ refl (λ ls. refl))
-  took-call r ask =
-      by-test (Took ask r 0 []) (inRangeOf limit (r .scan)) (λ a. took-end r (r .scan .phase))
-      (λ a. took-none ask r [] _ refl (λ ls. refl))
+  took-call r (feed bs) =
+      by-test (Took (feed bs) r 0 bs) (inRangeOf limit (r .scan))
+      (λ a. by-test (Took (feed bs) r 0 bs) (leb (r .scan .consumed + length bs) (2 ^ 62)) (λ b. took bs bs 0 r)
+      (λ b. took-none (feed bs) r bs _ refl (λ ls. refl)))
+      (λ a. took-none (feed bs) r bs _ refl (λ ls. refl))
+  took-call r finish =
+      by-test (Took finish r 0 []) (inRangeOf limit (r .scan)) (λ a. took-end r (r .scan .phase))
+      (λ a. took-none finish r [] _ refl (λ ls. refl))
 
   -- what the calls say and leave
   pub record Folded (r : State) (cs : List Call) : Type 0 where
-    pub lines : linesOf (logOf limit r cs) ≡ saidAll limit r (stream (logOf limit r cs))
+    pub lines : decisionsOf (logOf limit r cs) ≡ decidedAll limit r (stream (logOf limit r cs))
     pub reader : stateAfter limit r cs ≡ afterAll limit r (stream (logOf limit r cs))
 
   pub folded : (cs : List Call) (r : State) → Folded r cs
-  unfolding logOf stateAfter stream linesOf afterAll saidAll
+  unfolding logOf stateAfter stream decisionsOf afterAll decidedAll
   folded [] r = record { lines = refl; reader = refl }
   folded (c ∷ cs) r =
-      let y : Reply State = callOf limit r c in
+      let y : Outcome State = callOf limit r c in
       let w : Took c r 0 (offered c) y = took-call r c in
       let rest : Folded (y .state) cs = folded cs (y .state) in
       let s : List ℕ = stream (logOf limit (y .state) cs) in
-      let count : takenBy c (y .row) ≡ w .k = omega (arith, w .counts) in
+      let count : consumedBy c (y .row) ≡ w .k = omega (arith, w .counts) in
       record {
-        lines = w .said (linesOf (logOf limit (y .state) cs))
-            ∙ rw (count, said-append (take (w .k) (offered c)) s r, ← w .reader, rest .lines);
+        lines = w .decisions (decisionsOf (logOf limit (y .state) cs))
+            ∙ rw (count, decided-append (take (w .k) (offered c)) s r, ← w .reader, rest .lines);
         reader = rest .reader ∙ rw (count, after-append (take (w .k) (offered c)) s r, ← w .reader);
       }
 
@@ -156,7 +156,7 @@ module _ (limit : ℕ) where
 
 pub record Kept (limit : ℕ) (r q : State) (xs : List ℕ) : Type 0 where
   pub holds : Inv limit q
-  pub place : q .scan .taken ≡ r .scan .taken + length xs
+  pub place : q .scan .consumed ≡ r .scan .consumed + length xs
 
 pub kept : (limit : ℕ) → limit ≤ 65279 → (xs : List ℕ) (r : State) → Inv limit r → Kept limit r (afterAll limit r xs) xs
 unfolding afterAll

@@ -13,17 +13,17 @@ use borrow.Author.Tests.{ne-eqb}
 use Rattle.frame.specs.Rules.{bodyByteOf, onFFIn, onOtherIn, advanceOf, decidesOf}
 use Rattle.frame.specs.Calls.{nextOf, freshOf}
 use Rattle.frame.specs.Logs.{logOf, stream}
-use Rattle.frame.specs.Lines.{Line, IsOpen}
+use Rattle.frame.specs.Decisions.{Decision, IsOpen}
 use Rattle.frame.specs.Claims.{NoHeaderLost}
 use Rattle.frame.specs.State.{Phase, Idle, Half, Header, Open, Escape, Scan, Step, State}
 use Rattle.base.proofs.Tests.{by-test}
 use Rattle.frame.proofs.Bodies.{Partial, partial-none, first-on, body-cases}
 use Rattle.frame.proofs.Moves.{held, pending, originIn, Inv, InvIn, moves}
-use Rattle.frame.proofs.Fold.{lineAt, afterAll, saidAll, after-append, said-append, folded, kept}
-use Rattle.frame.proofs.Demand3.{fresh-holds}
-use Rattle.frame.proofs.Lined.{Lined}
+use Rattle.frame.proofs.Fold.{decisionAt, afterAll, decidedAll, after-append, decided-append, folded, kept}
+use Rattle.frame.proofs.StreamCorrect.{fresh-holds}
+use Rattle.frame.proofs.Deciding.{Deciding}
 use Rattle.frame.proofs.Reading.{Between, At, read-header}
-use Rattle.frame.proofs.Lines.{from-fresh, Opened, pending-opens}
+use Rattle.frame.proofs.Decisions.{from-fresh, Opened, pending-opens}
 
 -- the phases of a frame with a body byte
 abbrev Inside : Phase → Type 0
@@ -45,7 +45,7 @@ module _ (limit : ℕ) (r : State) where
   abbrev On : Step → Type 0
   On = Follows (r .scan .start)
 
-  body-follows : (v : ℕ) → Partial limit (r .scan .have) (r .scan .length) (r .scan .sum) b
+  body-follows : (v : ℕ) → Partial limit (r .scan .filled) (r .scan .length) (r .scan .sum) b
       → getD (b ++ v ∷ []) 0 0 ≢ 255
       → On (bodyByteOf limit (r .scan) v)
   body-follows v p first = body-cases (r .scan) p v first On (λ k low q. inr (tt, refl)) (λ e q. inl refl)
@@ -71,7 +71,7 @@ module _ (limit : ℕ) (r : State) where
 -- a line that starts at st is said, or the frame is open still
 abbrev Kept : ℕ → ℕ → State → List ℕ → Type 0
 Kept limit st r xs =
-    ((a : Line) × (a .start ≡ st) × List·Memᴰ a (saidAll limit r xs))
+    ((a : Decision) × (a .start ≡ st) × List·Memᴰ a (decidedAll limit r xs))
     ⊎ (Inside (afterAll limit r xs .scan .phase) × (afterAll limit r xs .scan .start ≡ st))
 
 module _ (limit : ℕ) where
@@ -79,7 +79,7 @@ module _ (limit : ℕ) where
   step-on : (x : ℕ) (xs : List ℕ) (r : State)
       → (Inside (nextOf limit r x .scan .phase) → Kept limit (nextOf limit r x .scan .start) (nextOf limit r x) xs)
       → Follows (r .scan .start) (advanceOf limit (r .scan) x) → Kept limit (r .scan .start) r (x ∷ xs)
-  unfolding saidAll afterAll
+  unfolding decidedAll afterAll
   step-on x xs r rest f = go (decidesOf (advanceOf limit (r .scan) x .event)) refl f
     where
       on : decidesOf (advanceOf limit (r .scan) x .event) ≡ false → nextOf limit r x .scan .start ≡ r .scan .start
@@ -89,13 +89,13 @@ module _ (limit : ℕ) where
 
       go : (u : Bool) → decidesOf (advanceOf limit (r .scan) x .event) ≡ u
           → Follows (r .scan .start) (advanceOf limit (r .scan) x) → Kept limit (r .scan .start) r (x ∷ xs)
-      go true d f = inl (lineAt limit r x, refl, (rw d (List·Memᴰ·head refl)))
+      go true d f = inl (decisionAt limit r x, refl, (rw d (List·Memᴰ·head refl)))
       go false d (inl e) = absurd (true≢false (sym e ∙ d))
       go false d (inr w) = on d (w .1) (rest (w .0))
 
   module _ (small : limit ≤ 65279) where
     follows : (xs : List ℕ) (r : State) → Inv limit r → Inside (r .scan .phase) → Kept limit (r .scan .start) r xs
-    unfolding saidAll afterAll
+    unfolding decidedAll afterAll
     follows [] r i n = inr (n, refl)
     follows (x ∷ xs) r i n =
         step-on x xs r (λ k. follows xs (nextOf limit r x) (moves limit small r x i .holds) k)
@@ -123,20 +123,20 @@ module _ (limit : ℕ) where
         let q : State = afterAll limit (freshOf limit) before in
         let there = kept limit small before (freshOf limit) (fresh-holds limit) in
         let h : List ℕ = 255 ∷ 255 ∷ [] in
-        let a : At limit (q .scan .taken) [] (afterAll limit q h) = read-header limit small q (there .holds) in
+        let a : At limit (q .scan .consumed) [] (afterAll limit q h) = read-header limit small q (there .holds) in
         let start : afterAll limit q h .scan .start ≡ length before = omega (arith, a .starts, there .place) in
         rw (
           after-append limit before (h ++ x ∷ after) (freshOf limit),
           after-append limit h (x ∷ after) q,
-          said-append limit before (h ++ x ∷ after) (freshOf limit),
-          said-append limit h (x ∷ after) q,
+          decided-append limit before (h ++ x ∷ after) (freshOf limit),
+          decided-append limit h (x ∷ after) q,
           ← start,
         )
-        (wider (saidAll limit (freshOf limit) before) (saidAll limit q h)
+        (wider (decidedAll limit (freshOf limit) before) (decidedAll limit q h)
         (header-kept x after (afterAll limit q h) a k))
       where
-        wider : {A : Type 0} {st : ℕ} (u v : List Line) {w : List Line} → ((a : Line) × (a .start ≡ st) × List·Memᴰ a w)
-            ⊎ A → ((a : Line) × (a .start ≡ st) × List·Memᴰ a (u ++ (v ++ w))) ⊎ A
+        wider : {A : Type 0} {st : ℕ} (u v : List Decision) {w : List Decision} → ((a : Decision) × (a .start ≡ st) × List·Memᴰ a w)
+            ⊎ A → ((a : Decision) × (a .start ≡ st) × List·Memᴰ a (u ++ (v ++ w))) ⊎ A
         wider u v (inl p) = inl (p .0, p .1, Memᴰ·append-right u (Memᴰ·append-right v (p .2)))
         wider u v (inr p) = inr p
 
@@ -148,12 +148,12 @@ inside-opened Open s n = (tt, refl)
 inside-opened Escape s n = (tt, refl)
 
 module _ (limit : ℕ) (small : limit ≤ 65279) where
-  told-or-open : (xs : List ℕ) (st : ℕ) → Kept limit st (freshOf limit) xs
-      → ((a : Line) × (a .start ≡ st) × List·Memᴰ a (saidAll limit (freshOf limit) xs)) ⊎ IsOpen limit xs st
-  told-or-open xs st (inl w) = inl w
-  told-or-open xs st (inr p) =
+  decided-or-open : (xs : List ℕ) (st : ℕ) → Kept limit st (freshOf limit) xs
+      → ((a : Decision) × (a .start ≡ st) × List·Memᴰ a (decidedAll limit (freshOf limit) xs)) ⊎ IsOpen limit xs st
+  decided-or-open xs st (inl w) = inl w
+  decided-or-open xs st (inr p) =
       let q : State = afterAll limit (freshOf limit) xs in
-      let w : Lined limit (freshOf limit) [] xs = from-fresh limit small xs in
+      let w : Deciding limit (freshOf limit) [] xs = from-fresh limit small xs in
       let o = inside-opened (q .scan .phase) (q .scan) (p .0) in
       inr (record {
         before = w .front;
@@ -167,5 +167,5 @@ module _ (limit : ℕ) (small : limit ≤ 65279) where
 pub no-header-lost : NoHeaderLost
 no-header-lost limit small calls before after x e k =
     rw (folded limit calls (freshOf limit) .lines)
-    (told-or-open limit small (stream (logOf limit (freshOf limit) calls)) (length before)
+    (decided-or-open limit small (stream (logOf limit (freshOf limit) calls)) (length before)
     (rw e (from-before limit small before after x k)))

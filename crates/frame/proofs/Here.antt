@@ -39,8 +39,8 @@ unfolding isGood sumHolds
 good-isGood limit b g =
     rw (
       eq-eqb (length b) (lengthOf b + 2) (g .true-length),
-      le-leb 5 (lengthOf b) (g .least),
-      le-leb (lengthOf b) limit (g .most),
+      le-leb 5 (lengthOf b) (g .shortest),
+      le-leb (lengthOf b) limit (g .longest),
     )
     (eq-eqb (getD b (lengthOf b + 1) 0) (checksum (take (lengthOf b + 1) b)) (g .sum-holds))
 
@@ -52,8 +52,8 @@ isGood-good limit b e =
     let h2 = both (leb (lengthOf b) limit) (h1 .1) in
     record {
       true-length = eqb-true (length b) (lengthOf b + 2) (h0 .0);
-      least = leb-true 5 (lengthOf b) (h1 .0);
-      most = leb-true (lengthOf b) limit (h2 .0);
+      shortest = leb-true 5 (lengthOf b) (h1 .0);
+      longest = leb-true (lengthOf b) limit (h2 .0);
       sum-holds = eqb-true (getD b (lengthOf b + 1) 0) (checksum (take (lengthOf b + 1) b)) (h2 .1);
     }
 

@@ -19,14 +19,14 @@ pub mod Moves
 pub mod Accounts
 pub mod Logged
 pub mod Sent
-pub mod Demand3
+pub mod StreamCorrect
 pub mod WrongLogs
 pub mod LogExact
 pub mod Worked
 pub mod Sender
 pub mod Round
 pub mod Fold
-pub mod Lined
+pub mod Deciding
 pub mod Reading
-pub mod Lines
+pub mod Decisions
 pub mod Headers

@@ -11,7 +11,7 @@ use lib.ListN.{length}
 use Rattle.frame.specs.Wire.{Good, wire}
 use Rattle.frame.specs.Frames.{AllFrom, Apart, Lists, Found, here, listed, framesFrom, framesOf}
 use Rattle.frame.proofs.Here.{FrameHere, here-sound, here-some}
-use Rattle.frame.proofs.Skip.{behind-header, good-first}
+use Rattle.frame.proofs.Skip.{after-header, good-first}
 
 -- a frame of t, whose places count from n
 record FrameFrom (limit n : ℕ) (t : List ℕ) (f : Found) : Type 0 where
@@ -107,7 +107,7 @@ apart limit small n (x ∷ xs) = go (here limit (x ∷ xs)) refl (apart limit sm
         let h : FrameHere limit (x ∷ xs) b = here-sound limit (x ∷ xs) b e in
         let q : framesFrom limit (suc n) xs ≡ framesFrom limit (n + length (wire b)) (h .rest)
         = ap (λ (l : List ℕ). framesFrom limit (suc n) l) (tail-eq-of-cons-eq (h .bytes))
-        ∙ behind-header limit b (h .rest) n (omega (arith, h .good .true-length))
+        ∙ after-header limit b (h .rest) n (omega (arith, h .good .true-length))
         (good-first limit b small (h .good)) in
         (omega arith, (rw q (all-from limit (n + length (wire b)) (h .rest))), a)
 

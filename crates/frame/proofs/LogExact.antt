@@ -5,14 +5,14 @@ use mathlib.Core.List.{List, [], _∷_, map, head-eq-of-cons-eq, List·Memᴰ, L
 use mathlib.Core.Logic.{_⊎_, inl, inr}
 use native.Mathlib.Omega.{arith}
 use Rattle.frame.specs.State.{State}
-use Rattle.frame.specs.Logs.{Call, give, ask, callOf, Entry, entryOf, logOf, stateAfter, stream, OffersFront}
+use Rattle.frame.specs.Logs.{Call, feed, finish, callOf, Entry, entryOf, logOf, stateAfter, stream, OffersFront}
 use Rattle.frame.specs.Logs.{joined}
 use Rattle.frame.specs.LogExact.{callIn, Answered, lastOf, LogsExact, LogsWorked}
-use Rattle.frame.proofs.Logged.{not-asked, not-given}
+use Rattle.frame.proofs.Logged.{not-finish, not-feed}
 
 answered-first : (limit : ℕ) (r : State) (c : Call) → Answered limit (entryOf r c (callOf limit r c))
-answered-first limit r (give bs) = ((λ bytes e. cc), λ e. not-asked e)
-answered-first limit r ask = ((λ bytes e. not-given e), λ e. refl)
+answered-first limit r (feed bs) = ((λ bytes e. cc), λ e. not-finish e)
+answered-first limit r finish = ((λ bytes e. not-feed e), λ e. refl)
 
 module _ (limit : ℕ) where
   calls-in : (r : State) (cs : List Call) → map callIn (logOf limit r cs) ≡ cs
@@ -49,7 +49,7 @@ unfolding joined stream OffersFront
 worked-logs r =
     record {
       pieces = refl;
-      taken = refl;
+      consumed = refl;
       again = (((3 ∷ 4 ∷ []), refl), (((2 ∷ 3 ∷ 4 ∷ []), refl), (((4 ∷ []), refl), tt)));
       not-again = λ o. let z : _≡_ {A = ℕ} 2 3 = head-eq-of-cons-eq (o .1 .0 .1) in omega arith;
     }

@@ -34,7 +34,7 @@ use Rattle.frame.proofs.Skip.{none-end, none-lone, none-broken, none-sh
 
 -- the body bytes so far
 abbrev pub held : State → List ℕ
-held r = take (r .scan .have) (r .body)
+held r = take (r .scan .filled) (r .body)
 
 abbrev pub pendingIn : Phase → List ℕ → List ℕ
 pendingIn Idle b = []
@@ -48,8 +48,8 @@ pending r = pendingIn (r .scan .phase) (held r)
 
 -- the place of the first pending byte
 abbrev pub originIn : Phase → Scan → ℕ
-originIn Idle s = s .taken
-originIn Half s = s .taken - 1
+originIn Idle s = s .consumed
+originIn Half s = s .consumed - 1
 originIn Header s = s .start
 originIn Open s = s .start
 originIn Escape s = s .start
@@ -60,13 +60,13 @@ origin r = originIn (r .scan .phase) (r .scan)
 -- an open frame of which n raw bytes are there
 pub record Begun (limit : ℕ) (s : Scan) (b : List ℕ) (n : ℕ) : Type 0 where
   pub some-byte : 1 ≤ length b
-  pub place : s .taken ≡ s .start + n
-  pub part : Partial limit (s .have) (s .length) (s .sum) b
+  pub place : s .consumed ≡ s .start + n
+  pub part : Partial limit (s .filled) (s .length) (s .sum) b
 
 abbrev pub InvIn : ℕ → Phase → Scan → List ℕ → Type 0
 InvIn limit Idle s b = Unit {0}
-InvIn limit Half s b = 1 ≤ s .taken
-InvIn limit Header s b = (s .taken ≡ s .start + 2) × (s .have ≡ 0) × (s .sum ≡ 0)
+InvIn limit Half s b = 1 ≤ s .consumed
+InvIn limit Header s b = (s .consumed ≡ s .start + 2) × (s .filled ≡ 0) × (s .sum ≡ 0)
 InvIn limit Open s b = Begun limit s b (length (wire b))
 InvIn limit Escape s b = Begun limit s b (suc (length (wire b)))
 
@@ -74,26 +74,26 @@ InvIn limit Escape s b = Begun limit s b (suc (length (wire b)))
 pub record Inv (limit : ℕ) (r : State) : Type 0 where
   pub phase : InvIn limit (r .scan .phase) (r .scan) (held r)
   pub room : length (r .body) ≡ limit + 2
-  pub inside : r .scan .have ≤ limit + 1
+  pub inside : r .scan .filled ≤ limit + 1
 
 -- the frame that an event hands out, before others
-abbrev pub handedBy : Event → Found → List Found → List Found
-handedBy Quiet f l = l
-handedBy (Decided v) f l = cond (eqb (codeOf v) 1) (f ∷ l) l
+abbrev pub deliveredBy : Event → Found → List Found → List Found
+deliveredBy Quiet f l = l
+deliveredBy (Decided v) f l = cond (eqb (codeOf v) 1) (f ∷ l) l
 
 -- the reader after a step, and the frame that the step completes
 abbrev pub after : State → Step → State
-after r s = record { scan = s .scan; body = putOf (s .put) (r .body) (r .scan .have) (s .byte) }
+after r s = record { scan = s .scan; body = putOf (s .put) (r .body) (r .scan .filled) (s .byte) }
 
 abbrev pub foundBy : State → Step → Found
-foundBy r s = record { start = r .scan .start; end = s .scan .taken; body = frontBody (after r s .body) }
+foundBy r s = record { start = r .scan .start; end = s .scan .consumed; body = frontBody (after r s .body) }
 
 -- a step from the pending bytes p at place o, with any rest
 pub record Moved (limit o : ℕ) (p : List ℕ → List ℕ) (r : State) (s : Step) : Type 0 where
-  pub one : s .scan .taken ≡ suc (r .scan .taken)
+  pub one : s .scan .consumed ≡ suc (r .scan .consumed)
   pub holds : Inv limit (after r s)
   pub frames : (t : List ℕ) → framesFrom limit o (p t)
-      ≡ handedBy (s .event) (foundBy r s) (framesFrom limit (origin (after r s)) (pending (after r s) ++ t))
+      ≡ deliveredBy (s .event) (foundBy r s) (framesFrom limit (origin (after r s)) (pending (after r s) ++ t))
 
 pub at-place : (limit : ℕ) (t : List ℕ) {m n : ℕ} → m ≡ n → framesFrom limit m t ≡ framesFrom limit n t
 at-place limit t e = ap (λ (k : ℕ). framesFrom limit k t) e
@@ -131,12 +131,12 @@ wire-none e = rw e refl
 -- ---- a body byte
 
 -- the next body byte v of the state r, whatever its phase, stands in the stream
-module _ (limit : ℕ) (r : State) (room : length (r .body) ≡ limit + 2) (inside : r .scan .have ≤ limit + 1)
-    (p : Partial limit (r .scan .have) (r .scan .length) (r .scan .sum) (held r)) (v : ℕ)
+module _ (limit : ℕ) (r : State) (room : length (r .body) ≡ limit + 2) (inside : r .scan .filled ≤ limit + 1)
+    (p : Partial limit (r .scan .filled) (r .scan .length) (r .scan .sum) (held r)) (v : ℕ)
     (first : getD (held r ++ v ∷ []) 0 0 ≢ 255)
-    (place : suc (r .scan .taken) ≡ r .scan .start + length (wire (held r ++ v ∷ []))) where
+    (place : suc (r .scan .consumed) ≡ r .scan .start + length (wire (held r ++ v ∷ []))) where
   abbrev h : ℕ
-  h = r .scan .have
+  h = r .scan .filled
 
   abbrev st : ℕ
   st = r .scan .start
@@ -150,12 +150,12 @@ module _ (limit : ℕ) (r : State) (room : length (r .body) ≡ limit + 2) (insi
   some : 1 ≤ length grown
   some = omega (arith, size p v)
 
-  goes-on : (k : ℕ) → h ≤ limit → Partial limit (h + 1) k ((r .scan .sum + v) % 2 ^ 8) grown
+  continues : (k : ℕ) → h ≤ limit → Partial limit (h + 1) k ((r .scan .sum + v) % 2 ^ 8) grown
       → Moves (grownOf (r .scan) k v)
-  goes-on k low q =
+  continues k low q =
       let in-place : take (h + 1) (putOf true (r .body) h v) ≡ grown = stored (r .body) h v (omega arith) in
       record {
-        one = add-one (r .scan .taken);
+        one = add-one (r .scan .consumed);
         holds = record {
           phase = rw in-place (record { some-byte = some; place = omega arith; part = q });
           room = put-length true (r .body) h v ∙ room;
@@ -166,11 +166,11 @@ module _ (limit : ℕ) (r : State) (room : length (r .body) ≡ limit + 2) (insi
 
   -- the frame ends
   ended : (e : Verdict) → ((t : List ℕ) → framesFrom limit st (wire grown ++ t)
-      ≡ handedBy (Decided e) (foundBy r (endedOf (r .scan) v e)) (framesFrom limit (r .scan .taken + 1) t))
+      ≡ deliveredBy (Decided e) (foundBy r (endedOf (r .scan) v e)) (framesFrom limit (r .scan .consumed + 1) t))
       → Moves (endedOf (r .scan) v e)
   ended e f =
       record {
-        one = add-one (r .scan .taken);
+        one = add-one (r .scan .consumed);
         holds = record { phase = tt; room = put-length true (r .body) h v ∙ room; inside = omega arith };
         frames = f;
       }
@@ -180,7 +180,7 @@ module _ (limit : ℕ) (r : State) (room : length (r .body) ≡ limit + 2) (insi
       → eqb (codeOf e) 1 ≡ false → ((t : List ℕ) → here limit (wire grown ++ t) ≡ none) → Moves (endedOf (r .scan) v e)
   refused e other none-here =
       ended e (λ t. pass-wire limit grown t st some first (none-here t)
-      ∙ at-place limit t {n = r .scan .taken + 1} (omega arith) ∙ rw other)
+      ∙ at-place limit t {n = r .scan .consumed + 1} (omega arith) ∙ rw other)
 
   completes : Good limit grown → Moves (endedOf (r .scan) v Frame)
   completes g =
@@ -188,7 +188,7 @@ module _ (limit : ℕ) (r : State) (room : length (r .body) ≡ limit + 2) (insi
       take-wire limit grown t st some first g
       ∙ ap (λ (l : List Found). record { start = st; end = st + length (wire grown); body = grown } ∷ l)
       (at-place limit t (omega arith))
-      ∙ ap (λ (f : Found). f ∷ framesFrom limit (r .scan .taken + 1) t)
+      ∙ ap (λ (f : Found). f ∷ framesFrom limit (r .scan .consumed + 1) t)
       (found-path refl (omega arith) (sym (whole-held (r .body) h v (omega arith) (g .true-length)))))
 
   ended-moves : (e : Verdict) → Ends limit grown e → Moves (endedOf (r .scan) v e)
@@ -208,12 +208,12 @@ module _ (limit : ℕ) (r : State) (room : length (r .body) ≡ limit + 2) (insi
       (ne-eqb (sumIn grown) (sumDue grown) (q .3))))
 
   pub body-moves : Moves (bodyByteOf limit (r .scan) v)
-  body-moves = body-cases (r .scan) p v first Moves goes-on ended-moves
+  body-moves = body-cases (r .scan) p v first Moves continues ended-moves
 
 -- ---- a raw byte, by phase
 
 module _ (limit : ℕ) (small : limit ≤ 65279) (r : State) (room : length (r .body) ≡ limit + 2)
-    (inside : r .scan .have ≤ limit + 1) where
+    (inside : r .scan .filled ≤ limit + 1) where
   abbrev b : List ℕ
   b = held r
 
@@ -226,13 +226,13 @@ module _ (limit : ℕ) (small : limit ≤ 65279) (r : State) (room : length (r .
   abbrev MovesFrom : Phase → ℕ → Step → Type 0
   MovesFrom f x s = Moved limit (originIn f (r .scan)) (λ t. pendingIn f b ++ x ∷ t) r s
 
-  one : r .scan .taken + 1 ≡ suc (r .scan .taken)
-  one = add-one (r .scan .taken)
+  one : r .scan .consumed + 1 ≡ suc (r .scan .consumed)
+  one = add-one (r .scan .consumed)
 
   -- raw bytes that are the wire form with one body byte more
   on-body : (f : Phase) (x v : ℕ)
-      → Partial limit (r .scan .have) (r .scan .length) (r .scan .sum) b → getD (b ++ v ∷ []) 0 0 ≢ 255
-      → suc (r .scan .taken) ≡ at + length (wire (b ++ v ∷ [])) → originIn f (r .scan) ≡ at
+      → Partial limit (r .scan .filled) (r .scan .length) (r .scan .sum) b → getD (b ++ v ∷ []) 0 0 ≢ 255
+      → suc (r .scan .consumed) ≡ at + length (wire (b ++ v ∷ [])) → originIn f (r .scan) ≡ at
       → ((t : List ℕ) → pendingIn f b ++ x ∷ t ≡ wire (b ++ v ∷ []) ++ t) → MovesFrom f x (bodyByteOf limit (r .scan) v)
   on-body f x v p first place o same =
       let m = body-moves limit r room inside p v first place in
@@ -293,10 +293,10 @@ module _ (limit : ℕ) (small : limit ≤ 65279) (r : State) (room : length (r .
       record {
         one = one;
         holds = record { phase = tt; room = room; inside = omega arith };
-        frames = λ t. pass-other limit (r .scan .taken) x t k ∙ at-place limit t (omega arith);
+        frames = λ t. pass-other limit (r .scan .consumed) x t k ∙ at-place limit t (omega arith);
       }
   other-moves x k Half i =
-      let o : ℕ = r .scan .taken - 1 in
+      let o : ℕ = r .scan .consumed - 1 in
       record {
         one = one;
         holds = record { phase = tt; room = room; inside = omega arith };
@@ -346,7 +346,7 @@ module _ (limit : ℕ) where
       go : (f : Phase) (s : Scan) (b : List ℕ)
           → InvIn limit f s b → framesFrom limit (originIn f s) (pendingIn f b ++ []) ≡ []
       go Idle s b h = refl
-      go Half s b h = pass-lone limit (s .taken - 1) 255
+      go Half s b h = pass-lone limit (s .consumed - 1) 255
       go Header s b h =
           pass limit (s .start) 255 (255 ∷ []) (none-end limit [] (omega arith)) ∙ pass-lone limit (suc (s .start)) 255
       go Open s b h =
@@ -360,13 +360,13 @@ module _ (limit : ℕ) where
 
   -- a header that follows ends whatever is pending
   pub settles : limit ≤ 65279 → (r : State) → Inv limit r → (t : List ℕ)
-      → framesFrom limit (origin r) (pending r ++ 255 ∷ 255 ∷ t) ≡ framesFrom limit (r .scan .taken) (255 ∷ 255 ∷ t)
+      → framesFrom limit (origin r) (pending r ++ 255 ∷ 255 ∷ t) ≡ framesFrom limit (r .scan .consumed) (255 ∷ 255 ∷ t)
   settles small r i t = go (r .scan .phase) (r .scan) (held r) (i .phase)
     where
       go : (f : Phase) (s : Scan) (b : List ℕ) → InvIn limit f s b → framesFrom limit (originIn f s) (pendingIn f b
-          ++ 255 ∷ 255 ∷ t) ≡ framesFrom limit (s .taken) (255 ∷ 255 ∷ t)
+          ++ 255 ∷ 255 ∷ t) ≡ framesFrom limit (s .consumed) (255 ∷ 255 ∷ t)
       go Idle s b h = refl
-      go Half s b h = pass-triple limit small (s .taken - 1) t ∙ at-place limit (255 ∷ 255 ∷ t) (omega arith)
+      go Half s b h = pass-triple limit small (s .consumed - 1) t ∙ at-place limit (255 ∷ 255 ∷ t) (omega arith)
       go Header s b h =
           pass-triple limit small (s .start) (255 ∷ t) ∙ pass-triple limit small (suc (s .start)) t
           ∙ at-place limit (255 ∷ 255 ∷ t) (omega (arith, h .0))

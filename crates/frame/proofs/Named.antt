@@ -1,8 +1,8 @@
 -- Each variant and field by its name, by computation. Assumes nothing.
 use mathlib.Core.Path.{refl, ap}
-use Rattle.base.specs.Outcomes.{Write, Reply}
+use Rattle.base.specs.Outcomes.{Output, Outcome}
 use Rattle.frame.specs.State.{State}
-use Rattle.frame.specs.Named.{NamedRows, NamedStates, ContractsWhole}
+use Rattle.frame.specs.Named.{NamedRows, NamedStates, ContractsComplete}
 
 pub named-rows : NamedRows
 named-rows =
@@ -24,7 +24,7 @@ named-rows =
       room = refl;
       quiet = λ c s e. refl;
       decides = λ c s e. refl;
-      quiet-goes-on = refl;
+      quiet-continues = refl;
       decided-stops = λ v. refl;
       count = λ k c v. refl;
     }
@@ -41,10 +41,10 @@ named-states =
       reader = refl;
     }
 
-pub contracts-whole : ContractsWhole
-contracts-whole =
+pub contracts-complete : ContractsComplete
+contracts-complete =
     record {
-      fed = λ f y e. (ap (λ (z : Reply State). z .row) e, ap (λ (z : Reply State). z .state) e);
-      finished = λ f y e. (ap (λ (z : Reply State). z .row) e, ap (λ (z : Reply State). z .state) e);
-      written = λ r after w e. (ap (λ (z : Write). z .row) e, ap (λ (z : Write). z .out) e);
+      fed = λ f y e. (ap (λ (z : Outcome State). z .row) e, ap (λ (z : Outcome State). z .state) e);
+      finished = λ f y e. (ap (λ (z : Outcome State). z .row) e, ap (λ (z : Outcome State). z .state) e);
+      written = λ r after w e. (ap (λ (z : Output). z .row) e, ap (λ (z : Output). z .out) e);
     }

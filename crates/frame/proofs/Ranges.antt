@@ -8,13 +8,13 @@ use native.Mathlib.Omega.{arith}
 use borrow.Author.Tests.{le-leb, lt-leb, leb-false}
 use lib.ListN.{length}
 use lib.Dec.{leb}
-use Rattle.base.specs.Outcomes.{Reply}
+use Rattle.base.specs.Outcomes.{Outcome}
 use Rattle.base.proofs.Tests.{by-test, either-way}
 use Rattle.frame.specs.Wire.{frameLimit}
 use Rattle.frame.specs.State.{Phase, Idle, Half, Header, Open, Escape, Scan, State}
-use Rattle.frame.specs.Rules.{inRangeOf, mostTaken, mostHave, advanceOf, decidesOf}
+use Rattle.frame.specs.Rules.{inRangeOf, maxConsumed, maxFilled, advanceOf, decidesOf}
 use Rattle.frame.specs.Table.{eventRow}
-use Rattle.frame.specs.Calls.{zeros, endingRow, nextOf, runOf}
+use Rattle.frame.specs.Calls.{zeros, finishRowIn, nextOf, runOf}
 use Rattle.frame.specs.Ranges.{OutOfRange, ReaderRangesAll, UsedAlways, FreshReader}
 use Rattle.frame.specs.declared.scan.Event.{Event}
 use Rattle.frame.specs.declared.scan.Event.the-variants.{Quiet, Decided}
@@ -23,17 +23,17 @@ use Rattle.frame.proofs.Counts.{numbered}
 -- ---- the test
 
 outside : (r : State) → OutOfRange r → inRangeOf frameLimit (r .scan) ≡ false
-outside r (inl h) = rw (lt-leb (r .scan .taken) mostTaken h)
+outside r (inl h) = rw (lt-leb (r .scan .consumed) maxConsumed h)
 outside r (inr h) =
-    either-way (leb (r .scan .taken) mostTaken)
-    (λ t. rw (t, lt-leb (r .scan .have) (mostHave frameLimit) h))
+    either-way (leb (r .scan .consumed) maxConsumed)
+    (λ t. rw (t, lt-leb (r .scan .filled) (maxFilled frameLimit) h))
     (λ t. rw t)
 
 inside-not : (r : State) → inRangeOf frameLimit (r .scan) ≡ false → OutOfRange r
 inside-not r e =
-    either-way (leb (r .scan .taken) mostTaken)
-    (λ t. inr (leb-false (r .scan .have) (mostHave frameLimit) (rw t at e)))
-    (λ t. inl (leb-false (r .scan .taken) mostTaken t))
+    either-way (leb (r .scan .consumed) maxConsumed)
+    (λ t. inr (leb-false (r .scan .filled) (maxFilled frameLimit) (rw t at e)))
+    (λ t. inl (leb-false (r .scan .consumed) maxConsumed t))
 
 -- ---- what a run and an end are answered stands below STATE and USED
 
@@ -41,7 +41,7 @@ event-below : (e : Event) (n s p : ℕ) → eventRow e n s p .number < 17
 event-below Quiet n s p = omega arith
 event-below (Decided v) n s p = numbered v .high
 
-abbrev Below : Reply State → Type 0
+abbrev Below : Outcome State → Type 0
 Below y = y .row .number < 17
 
 run-below : (limit : ℕ) (bs : List ℕ) (n : ℕ) (r : State) → Below (runOf limit bs n r)
@@ -49,10 +49,10 @@ unfolding runOf
 run-below limit [] n r = omega arith
 run-below limit (x ∷ bs) n r =
     by-test Below (decidesOf (advanceOf limit (r .scan) x .event))
-    (λ t. event-below (advanceOf limit (r .scan) x .event) (n + 1) (r .scan .start) (nextOf limit r x .scan .taken))
+    (λ t. event-below (advanceOf limit (r .scan) x .event) (n + 1) (r .scan .start) (nextOf limit r x .scan .consumed))
     (λ t. run-below limit bs (n + 1) (nextOf limit r x))
 
-ending-below : (f : Phase) (s : Scan) → endingRow f s .number < 17
+ending-below : (f : Phase) (s : Scan) → finishRowIn f s .number < 17
 ending-below Idle s = omega arith
 ending-below Half s = omega arith
 ending-below Header s = omega arith
@@ -61,27 +61,27 @@ ending-below Escape s = omega arith
 
 pub reader-ranges : ReaderRangesAll
 reader-ranges r bytes =
-    let Only : Reply State → Type 0 = λ (y : Reply State). y .row .number ≡ 17 → OutOfRange r in
+    let Only : Outcome State → Type 0 = λ (y : Outcome State). y .row .number ≡ 17 → OutOfRange r in
     record {
       fed = λ h. rw (outside r h);
       fed-only = by-test Only (inRangeOf frameLimit (r .scan))
-          (λ t. by-test Only (leb (r .scan .taken + length bytes) (2 ^ 62))
+          (λ t. by-test Only (leb (r .scan .consumed + length bytes) (2 ^ 62))
           (λ u h. absurd (omega (arith, run-below frameLimit bytes 0 r))) (λ u h. absurd (omega arith)))
           (λ t h. inside-not r t);
-      asked = λ h. rw (outside r h);
-      asked-only = by-test Only (inRangeOf frameLimit (r .scan))
+      finished = λ h. rw (outside r h);
+      finished-only = by-test Only (inRangeOf frameLimit (r .scan))
           (λ t h. absurd (omega (arith, ending-below (r .scan .phase) (r .scan)))) (λ t h. inside-not r t);
     }
 
 pub used-exactly : UsedAlways
 used-exactly r bytes =
-    let all : ℕ = r .scan .taken + length bytes in
-    let Only : Reply State → Type 0 = λ (y : Reply State). y .row .number ≡ 18 → 2 ^ 62 < all in
+    let all : ℕ = r .scan .consumed + length bytes in
+    let Only : Outcome State → Type 0 = λ (y : Outcome State). y .row .number ≡ 18 → 2 ^ 62 < all in
     record {
       fed = λ t h over.
           rw (
-            le-leb (r .scan .taken) mostTaken t,
-            le-leb (r .scan .have) (mostHave frameLimit) h,
+            le-leb (r .scan .consumed) maxConsumed t,
+            le-leb (r .scan .filled) (maxFilled frameLimit) h,
             lt-leb all (2 ^ 62) over,
           );
       fed-only = by-test Only (inRangeOf frameLimit (r .scan))

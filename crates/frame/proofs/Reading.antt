@@ -11,7 +11,7 @@ use lib.Seq.{getD-at}
 use lib.Dec.{eqb, ltb}
 use borrow.Author.Tests.{eqb-true, ne-eqb, ltb-true, ltb-false}
 use Rattle.frame.specs.Wire.{stuff, wire, lengthOf}
-use Rattle.frame.specs.Lines.{Unfinished, Decides, is-frame, is-short, is-long, is-stuff, is-cut, is-sum, Line}
+use Rattle.frame.specs.Decisions.{Unfinished, Decides, is-frame, is-short, is-long, is-stuff, is-cut, is-sum, Decision}
 use Rattle.frame.specs.Rules.{escapeOf, bodyByteOf, advanceOf, decidesOf}
 use Rattle.frame.specs.Calls.{nextOf}
 use Rattle.frame.specs.State.{Phase, Idle, Half, Header, Open, Escape, Scan, Step, State}
@@ -26,7 +26,7 @@ use Rattle.frame.proofs.Bodies.{Partial, partial-none, Ends, never-both
 use Rattle.frame.proofs.Puts.{stored}
 use Rattle.frame.proofs.Bodies.{body-cases}
 use Rattle.frame.specs.Table.{codeOf}
-use Rattle.frame.proofs.Fold.{eventCode, lineAt, afterAll, saidAll, after-append, said-append, kept}
+use Rattle.frame.proofs.Fold.{eventCode, decisionAt, afterAll, decidedAll, after-append, decided-append, kept}
 
 -- ---- fronts of bodies
 
@@ -67,8 +67,8 @@ ends-front limit small a v e p = go e p (length-append a (v ∷ [])) (ends-first
     go : (e : Verdict) → Ends limit (a ++ v ∷ []) e → length (a ++ v ∷ []) ≡ length a + 1
         → getD (a ++ v ∷ []) 0 0 ≢ 255 → Unfinished limit a
     go Frame p n f =
-        front-of limit a (v ∷ []) (omega (arith, p .true-length, p .least)) f (omega (arith, p .true-length))
-        (λ k. (p .least, p .most))
+        front-of limit a (v ∷ []) (omega (arith, p .true-length, p .shortest)) f (omega (arith, p .true-length))
+        (λ k. (p .shortest, p .longest))
     go Short p n f =
         front-of limit a (v ∷ []) (omega (arith, p .0)) f (omega (arith, p .0)) (λ k. absurd (omega (arith, p .0)))
     go Long p n f =
@@ -113,7 +113,7 @@ record Due (limit : ℕ) (r : State) (v : ℕ) : Type 0 where
   q : State
   runs : afterAll limit r pre ≡ q
   room : length (q .body) ≡ limit + 2
-  part : Partial limit (q .scan .have) (q .scan .length) (q .scan .sum) (held q)
+  part : Partial limit (q .scan .filled) (q .scan .length) (q .scan .sum) (held q)
   same : held q ≡ held r
   starts : q .scan .start ≡ r .scan .start
   step : advanceOf limit (q .scan) last ≡ bodyByteOf limit (q .scan) v
@@ -124,7 +124,7 @@ module _ (limit : ℕ) (r : State) (room : length (r .body) ≡ limit + 2) where
   b = held r
 
   -- before a body byte of one raw byte
-  due-alone : (v : ℕ) → eqb v 255 ≡ false → Partial limit (r .scan .have) (r .scan .length) (r .scan .sum) b
+  due-alone : (v : ℕ) → eqb v 255 ≡ false → Partial limit (r .scan .filled) (r .scan .length) (r .scan .sum) b
       → advanceOf limit (r .scan) v ≡ bodyByteOf limit (r .scan) v → Due limit r v
   unfolding afterAll stuff
   due-alone v other p e =
@@ -160,7 +160,7 @@ module _ (limit : ℕ) (r : State) (room : length (r .body) ≡ limit + 2) where
             pre = 255 ∷ [];
             last = 85;
             split = rw ff;
-            q = record { scan = escapeOf (r .scan) (r .scan .taken + 1); body = r .body };
+            q = record { scan = escapeOf (r .scan) (r .scan .consumed + 1); body = r .body };
             runs = rw is;
             room = room;
             part = i .part;
@@ -173,7 +173,7 @@ module _ (limit : ℕ) (r : State) (room : length (r .body) ≡ limit + 2) where
 
   -- two FF make a header
   abbrev HeaderMade : State → Type 0
-  HeaderMade q = (Between (q .scan .phase)) × (held q ≡ []) × (q .scan .start ≡ r .scan .taken)
+  HeaderMade q = (Between (q .scan .phase)) × (held q ≡ []) × (q .scan .start ≡ r .scan .consumed)
 
   header-in : (f : Phase) → r .scan .phase ≡ f → HeaderMade (afterAll limit r (255 ∷ 255 ∷ []))
   unfolding afterAll
@@ -203,14 +203,14 @@ pub record Ready (limit : ℕ) (r : State) (raw : List ℕ) (st : ℕ) (e : Verd
   pub starts : afterAll limit r pre .scan .start ≡ st
   pub event : advanceOf limit (afterAll limit r pre .scan) last .event ≡ Decided e
 
-pub line-path : {a a′ b b′ c c′ : ℕ} {d d′ : List ℕ} → a ≡ a′ → b ≡ b′ → c ≡ c′ → d ≡ d′
-    → _≡_ {A = Line} (record { number = a; start = b; end = c; body = d })
+pub decision-path : {a a′ b b′ c c′ : ℕ} {d d′ : List ℕ} → a ≡ a′ → b ≡ b′ → c ≡ c′ → d ≡ d′
+    → _≡_ {A = Decision} (record { number = a; start = b; end = c; body = d })
     (record { number = a′; start = b′; end = c′; body = d′ })
-line-path p q w v = λ j. record { number = p j; start = q j; end = w j; body = v j }
+decision-path p q w v = λ j. record { number = p j; start = q j; end = w j; body = v j }
 
-ready-behind : {limit : ℕ} {r : State} {raw : List ℕ} {st : ℕ} {e : Verdict} (c : List ℕ)
+ready-after : {limit : ℕ} {r : State} {raw : List ℕ} {st : ℕ} {e : Verdict} (c : List ℕ)
     → Ready limit (afterAll limit r c) raw st e → Ready limit r (c ++ raw) st e
-ready-behind {limit} {r} c w =
+ready-after {limit} {r} c w =
     let there : afterAll limit r (c ++ w .pre) ≡ afterAll limit (afterAll limit r c) (w .pre) =
     after-append limit c (w .pre) r in
     record {
@@ -240,7 +240,7 @@ module _ (limit : ℕ) (small : limit ≤ 65279) where
       (body-cases (q .scan) (d .part) v (rw b-is (u .first)) Goes
       (λ k low p. (
         tt,
-        stored (q .body) (q .scan .have) v (omega (
+        stored (q .body) (q .scan .filled) v (omega (
           arith,
           d .room,
         )) ∙ ap (λ (j : List ℕ). j ++ v ∷ []) b-is,
@@ -292,7 +292,7 @@ module _ (limit : ℕ) (small : limit ≤ 65279) where
 
   module _ (r : State) (i : Inv limit r) where
     abbrev st : ℕ
-    st = r .scan .taken
+    st = r .scan .consumed
 
     pub read-header : At limit st [] (afterAll limit r (255 ∷ 255 ∷ []))
     read-header =
@@ -333,7 +333,7 @@ module _ (limit : ℕ) (small : limit ≤ 65279) where
             let ends : Ends limit (a ++ v ∷ []) e = rw (s .parts) at p in
             let w : Ready limit (afterAll limit r (wire a)) (stuff (v ∷ [])) st e =
             step-end (read-body a (ends-front limit small a v e ends)) v e ends in
-            rw (s .parts, stuff-append a (v ∷ [])) (ready-behind (wire a) w)
+            rw (s .parts, stuff-append a (v ∷ [])) (ready-after (wire a) w)
 
     -- CUT and STUFF: the byte x behind an FF that waits
     ff-ready : (b : List ℕ) (x : ℕ) (e : Verdict) → Unfinished limit b → ((s : Scan) → s .phase ≡ Escape
@@ -349,29 +349,29 @@ module _ (limit : ℕ) (small : limit ≤ 65279) where
         }
 
     -- the byte's line is among those that are said, with some body
-    abbrev Told : List ℕ → ℕ → Type 0
-    Told raw n = (b : List ℕ)
-        × List·Memᴰ (record { number = n; start = st; end = st + length raw; body = b }) (saidAll limit r raw)
+    abbrev Shown : List ℕ → ℕ → Type 0
+    Shown raw n = (b : List ℕ)
+        × List·Memᴰ (record { number = n; start = st; end = st + length raw; body = b }) (decidedAll limit r raw)
 
-    says : {raw : List ℕ} {n : ℕ} (e : Verdict) → n ≡ codeOf e → Ready limit r raw st e → Told raw n
-    unfolding saidAll afterAll
+    says : {raw : List ℕ} {n : ℕ} (e : Verdict) → n ≡ codeOf e → Ready limit r raw st e → Shown raw n
+    unfolding decidedAll afterAll
     says {raw} {n} e code w =
         let q : State = afterAll limit r (w .pre) in
         let ev : advanceOf limit (q .scan) (w .last) .event ≡ Decided e = w .event in
         let yes : decidesOf (advanceOf limit (q .scan) (w .last) .event) ≡ true = ap decidesOf ev in
         let all : List ℕ = w .pre ++ w .last ∷ [] in
-        let end : nextOf limit q (w .last) .scan .taken ≡ st + length all
-        = ap (λ (z : State). z .scan .taken) (sym (after-append limit (w .pre) (w .last ∷ []) r))
+        let end : nextOf limit q (w .last) .scan .consumed ≡ st + length all
+        = ap (λ (z : State). z .scan .consumed) (sym (after-append limit (w .pre) (w .last ∷ []) r))
         ∙ kept limit small all r i .place in
-        let b : List ℕ = lineAt limit q (w .last) .body in
+        let b : List ℕ = decisionAt limit q (w .last) .body in
         let here : List·Memᴰ (record { number = n; start = st; end = st + length all; body = b })
-        (saidAll limit q (w .last ∷ []))
-        = rw yes (List·Memᴰ·head (line-path (code ∙ sym (ap eventCode ev)) (sym (w .starts)) (sym end) refl)) in (
+        (decidedAll limit q (w .last ∷ []))
+        = rw yes (List·Memᴰ·head (decision-path (code ∙ sym (ap eventCode ev)) (sym (w .starts)) (sym end) refl)) in (
           b,
           (rw (
             w .parts,
-            said-append limit (w .pre) (w .last ∷ []) r,
-          ) (Memᴰ·append-right (saidAll limit r (w .pre)) here)),
+            decided-append limit (w .pre) (w .last ∷ []) r,
+          ) (Memᴰ·append-right (decidedAll limit r (w .pre)) here)),
         )
 
     cut-at : (s : Scan) → s .phase ≡ Escape → advanceOf limit s 255 .event ≡ Decided Cut
@@ -380,7 +380,7 @@ module _ (limit : ℕ) (small : limit ≤ 65279) where
     stuff-at : (x : ℕ) → x ≢ 85 → x ≢ 255 → (s : Scan) → s .phase ≡ Escape → advanceOf limit s x .event ≡ Decided Stuff
     stuff-at x k n s e = rw (ne-eqb x 255 n, e, ne-eqb x 85 k)
 
-    pub reads : {raw : List ℕ} {n : ℕ} {body : List ℕ} → Decides limit raw n body → Told raw n
+    pub reads : {raw : List ℕ} {n : ℕ} {body : List ℕ} → Decides limit raw n body → Shown raw n
     reads (is-frame b n h e g) = says Frame n (rw e (body-ready b Frame g))
     reads (is-short b n h e l k) = says Short n (rw e (body-ready b Short (l, k)))
     reads (is-long b n h e l f five k) = says Long n (rw e (body-ready b Long (l, f, five, k)))

@@ -18,7 +18,7 @@ use Rattle.base.specs.Sums.{checksum}
 use Rattle.frame.specs.Frames.{Found, frontBody, framesFrom}
 use Rattle.base.specs.Rows.{row}
 use Rattle.frame.specs.Calls.{freshOf}
-use Rattle.frame.specs.Logs.{Entry, takenIn, logOf, stateAfter, offered, stream, handedOut, decided, Account}
+use Rattle.frame.specs.Logs.{Entry, consumedIn, logOf, stateAfter, offered, stream, delivered, decided, Account}
 use Rattle.frame.specs.Logs.{Accounts}
 use Rattle.frame.specs.Claims.{MadeGood, ReadBack, RoundTrip, ReadAnywhere}
 use Rattle.frame.specs.State.{State}
@@ -26,7 +26,7 @@ use Rattle.frame.proofs.Skip.{good-first, take-wire}
 use Rattle.frame.proofs.Moves.{Inv, origin, pending, settles}
 use Rattle.frame.proofs.Logged.{Logged, logged, reached}
 use Rattle.frame.proofs.Accounts.{frame-takes}
-use Rattle.frame.proofs.Demand3.{fresh-holds, demand-3}
+use Rattle.frame.proofs.StreamCorrect.{fresh-holds, stream-correct}
 use Rattle.base.proofs.Lists.{no-bytes}
 
 -- ---- a body made of its parts
@@ -47,8 +47,8 @@ module _ (command number flags : ℕ) (payload : List ℕ) where
       let n : length u ≡ lengthOf made + 1 = omega arith in
       record {
         true-length = omega (arith, length-append u (checksum u ∷ []));
-        least = omega arith;
-        most = omega arith;
+        shortest = omega arith;
+        longest = omega arith;
         sum-holds = getD-at u (checksum u) [] 0 (lengthOf made + 1) n
             ∙ ap checksum (sym (take-at u (checksum u ∷ []) (lengthOf made + 1) n));
       }
@@ -113,13 +113,13 @@ record Single (log : List Entry) (f : Found) : Type 0 where
   number : last .row .number ≡ 1
   found : foundIn last ≡ f
 
-single : (log : List Entry) (f : Found) → handedOut log ≡ f ∷ [] → Single log f
-unfolding handedOut
+single : (log : List Entry) (f : Found) → delivered log ≡ f ∷ [] → Single log f
+unfolding delivered
 single [] f e = absurd (cons≢nil (sym e))
 single (a ∷ l) f e = go (eqb (a .row .number) 1) refl e (λ k. single l f k)
   where
-    go : (t : Bool) → eqb (a .row .number) 1 ≡ t → cond t (foundIn a ∷ handedOut l) (handedOut l) ≡ f ∷ []
-        → (handedOut l ≡ f ∷ [] → Single l f) → Single (a ∷ l) f
+    go : (t : Bool) → eqb (a .row .number) 1 ≡ t → cond t (foundIn a ∷ delivered l) (delivered l) ≡ f ∷ []
+        → (delivered l ≡ f ∷ [] → Single l f) → Single (a ∷ l) f
     go true q e ih =
         record {
           early = [];
@@ -143,27 +143,27 @@ single (a ∷ l) f e = go (eqb (a .row .number) 1) refl e (λ k. single l f k)
 -- what a log's parts owe to the counts
 record Split (n : ℕ) (early : List Entry) (last : Entry) (late : List Entry) : Type 0 where
   account : Account (n + length (stream early)) last
-  size : length (stream (early ++ last ∷ late)) ≡ length (stream early) + (takenIn last + length (stream late))
+  size : length (stream (early ++ last ∷ late)) ≡ length (stream early) + (consumedIn last + length (stream late))
   member : List·Memᴰ last (early ++ last ∷ late)
 
 split : (early : List Entry) (last : Entry) (late : List Entry) (n : ℕ)
     → Accounts n (early ++ last ∷ late) → Split n early last late
 unfolding Accounts stream
 split [] last late n a =
-    let taken : length (take (takenIn last) (offered (last .call))) ≡ takenIn last =
-    length-take-le (takenIn last) (offered (last .call)) (a .0 .within) in
+    let consumed : length (take (consumedIn last) (offered (last .call))) ≡ consumedIn last =
+    length-take-le (consumedIn last) (offered (last .call)) (a .0 .within) in
     record {
       account = rw add-zero (a .0);
-      size = omega (arith, length-append (take (takenIn last) (offered (last .call))) (stream late));
+      size = omega (arith, length-append (take (consumedIn last) (offered (last .call))) (stream late));
       member = List·Memᴰ·head refl;
     }
 split (e ∷ early) last late n a =
-    let s : Split (n + takenIn e) early last late = split early last late (n + takenIn e) (a .1) in
-    let c : ℕ = takenIn e in
+    let s : Split (n + consumedIn e) early last late = split early last late (n + consumedIn e) (a .1) in
+    let c : ℕ = consumedIn e in
     let f : List ℕ = take c (offered (e .call)) in
-    let taken : length f ≡ c = length-take-le c (offered (e .call)) (a .0 .within) in
+    let consumed : length f ≡ c = length-take-le c (offered (e .call)) (a .0 .within) in
     let all : length (f ++ stream early) ≡ c + length (stream early) =
-    length-append f (stream early) ∙ ap (λ (k : ℕ). k + length (stream early)) taken in
+    length-append f (stream early) ∙ ap (λ (k : ℕ). k + length (stream early)) consumed in
     let place : n + c + length (stream early) ≡ n + length (f ++ stream early) = omega arith in
     record {
       account = rw place at (s .account);
@@ -185,29 +185,29 @@ module _ (limit : ℕ) (small : limit ≤ 65279) (command number flags : ℕ) (p
   whole n = record { start = n; end = n + length (wire body); body = body }
 
   one-frame : (r : State)
-      → Inv limit r → framesFrom limit (origin r) (pending r ++ wire body) ≡ whole (r .scan .taken) ∷ []
+      → Inv limit r → framesFrom limit (origin r) (pending r ++ wire body) ≡ whole (r .scan .consumed) ∷ []
   unfolding framesFrom
   one-frame r i =
       let g : Good limit body = good-made command number flags payload limit fits in
-      let n : ℕ = r .scan .taken in
+      let n : ℕ = r .scan .consumed in
       settles limit small r i (stuff body) ∙ ap (λ (l : List ℕ). framesFrom limit n l) (sym (append-nil (wire body)))
       ∙ take-wire limit body [] n (omega (arith, g .true-length)) (good-first limit body small g) g
 
-  read-back : (r : State) (log : List Entry) (n : ℕ) → r .scan .taken ≡ n → Inv limit r → Logged limit r log
+  read-back : (r : State) (log : List Entry) (n : ℕ) → r .scan .consumed ≡ n → Inv limit r → Logged limit r log
       → stream log ≡ wire body → ReadBack n command number flags payload log
   read-back r log n at-n i ok all =
       let g : Good limit body = good-made command number flags payload limit fits in
-      let s : Single log (whole (r .scan .taken)) = single log (whole (r .scan .taken))
+      let s : Single log (whole (r .scan .consumed)) = single log (whole (r .scan .consumed))
       (ok .frames ∙ ap (λ (l : List ℕ). framesFrom limit (origin r) (pending r ++ l)) all ∙ one-frame r i) in
       let e : Entry = s .last in
-      let w : Split (r .scan .taken) (s .early) e (s .late) =
-      split (s .early) e (s .late) (r .scan .taken) (rw (s .parts) at (ok .accounts)) in
-      let start : getD (e .row .values) 1 0 ≡ r .scan .taken = ap (λ (f : Found). f .start) (s .found) in
-      let end : getD (e .row .values) 2 0 ≡ r .scan .taken + length (wire body) =
+      let w : Split (r .scan .consumed) (s .early) e (s .late) =
+      split (s .early) e (s .late) (r .scan .consumed) (rw (s .parts) at (ok .accounts)) in
+      let start : getD (e .row .values) 1 0 ≡ r .scan .consumed = ap (λ (f : Found). f .start) (s .found) in
+      let end : getD (e .row .values) 2 0 ≡ r .scan .consumed + length (wire body) =
       ap (λ (f : Found). f .end) (s .found) in
       let held : frontBody (e .after .body) ≡ body = ap (λ (f : Found). f .body) (s .found) in
       let is-decided : decided (e .row .number) ≡ true = rw (s .number) in
-      let size : length (wire body) ≡ length (stream (s .early)) + (takenIn e + length (stream (s .late))) =
+      let size : length (wire body) ≡ length (stream (s .early)) + (consumedIn e + length (stream (s .late))) =
       sym (ap length all) ∙ ap (λ (l : List Entry). length (stream l)) (s .parts) ∙ w .size in
       let five : lengthOf body ≡ length payload + 5 = length-made command number flags payload in
       let same : lengthOf (e .after .body) ≡ lengthOf body = same-length (e .after .body) body held in
@@ -219,7 +219,7 @@ module _ (limit : ℕ) (small : limit ≤ 65279) (command number flags : ℕ) (p
         late = s .late;
         parts = s .parts;
         nothing-later = no-bytes (stream (s .late)) (omega (arith, w .account .ends is-decided));
-        some-taken = frame-takes (w .account) (s .number);
+        some-consumed = frame-takes (w .account) (s .number);
         frame = ok .shapes e (member-of (s .parts) (w .member)) (s .number)
             ∙ frame-row (start ∙ at-n) (end ∙ ap (λ (k : ℕ). k + length (wire body)) at-n);
         body = held;
@@ -244,11 +244,11 @@ round-trip limit small command number flags payload fits earlier later all =
     let q : State = stateAfter limit (freshOf limit) earlier in
     read-back limit small command number flags payload fits q (logOf limit q later)
     (length (stream (logOf limit (freshOf limit) earlier))) (omega (arith, r .place)) (r .holds)
-    (logged limit small later q (r .holds) (r .most)) all
+    (logged limit small later q (r .holds) (r .longest)) all
 
 pub read-anywhere : ReadAnywhere
 read-anywhere limit small command number flags payload fits calls before after e =
-    demand-3 limit small calls .lists .complete _
+    stream-correct limit small calls .lists .complete _
     (record {
       before = before;
       after = after;

@@ -3,25 +3,25 @@
 use Prim.Native.Nat.{ℕ}
 use mathlib.Core.Path.{_≡_, refl}
 use Rattle.base.specs.Rows.{Row}
-use Rattle.base.proofs.Rows.{told-apart, under, value}
-use Rattle.frame.specs.Table.{rowOf, endRowOf, writtenRowOf}
+use Rattle.base.proofs.Rows.{injective-by, under, value}
+use Rattle.frame.specs.Table.{rowOf, finishRowOf, writeRowOf}
 use Rattle.frame.specs.State.{Phase, Idle, Half, Header, Open, Escape, State, phaseOf, stateOf}
-use Rattle.frame.specs.Claims.{RowsTell, StatesTold, AskedKeeps}
+use Rattle.frame.specs.Claims.{RowsInjective, StatesInjective, FinishKeeps}
 use Rattle.frame.specs.Rules.{inRangeOf}
 use Rattle.base.proofs.Tests.{by-test}
-use Rattle.base.specs.Outcomes.{Reply}
+use Rattle.base.specs.Outcomes.{Outcome}
 use Rattle.frame.specs.declared.place.WirePlace.{WirePlace}
 use Rattle.frame.specs.declared.scan.Phase.{Phase as CodePhase}
 use Rattle.frame.specs.declared.scan.Phase.the-variants as phase
 use Rattle.frame.specs.declared.scan.Verdict.{Verdict}
 use Rattle.frame.specs.declared.scan.Verdict.the-variants.{Frame, Short, Long, Stuff, Cut, Sum}
 use Rattle.frame.specs.declared.reader.Reader.{Reader}
-use Rattle.frame.specs.declared.reader.Answer.{Answer}
-use Rattle.frame.specs.declared.reader.Answer.the-variants as answer
-use Rattle.frame.specs.declared.reader.Ending.{Ending}
-use Rattle.frame.specs.declared.reader.Ending.the-variants as ending
-use Rattle.frame.specs.declared.writer.Written.{Written}
-use Rattle.frame.specs.declared.writer.Written.the-variants as written
+use Rattle.frame.specs.declared.reader.FeedResult.{FeedResult}
+use Rattle.frame.specs.declared.reader.FeedResult.the-variants as answer
+use Rattle.frame.specs.declared.reader.FinishResult.{FinishResult}
+use Rattle.frame.specs.declared.reader.FinishResult.the-variants as ending
+use Rattle.frame.specs.declared.writer.WriteResult.{WriteResult}
+use Rattle.frame.specs.declared.writer.WriteResult.the-variants as written
 
 -- a place on the wire
 abbrev wirePlace : ℕ → WirePlace
@@ -30,12 +30,12 @@ wirePlace n = record { 0 = n }
 abbrev verdictFrom : Row → Verdict
 verdictFrom r = under r 1 Frame (under r 11 Short (under r 12 Long (under r 13 Stuff (under r 14 Cut Sum))))
 
-abbrev answerFrom : Row → Answer
+abbrev answerFrom : Row → FeedResult
 answerFrom r =
     under r 0 (answer.More (value r 0)) (under r 17 answer.State (under r 18 answer.Used
     (answer.Decided (value r 0) (wirePlace (value r 1)) (wirePlace (value r 2)) (verdictFrom r))))
 
-answer-back : (a : Answer) → answerFrom (rowOf a) ≡ a
+answer-back : (a : FeedResult) → answerFrom (rowOf a) ≡ a
 answer-back (answer.More c) = refl
 answer-back (answer.Decided c s e Frame) = refl
 answer-back (answer.Decided c s e Short) = refl
@@ -46,30 +46,30 @@ answer-back (answer.Decided c s e Sum) = refl
 answer-back answer.State = refl
 answer-back answer.Used = refl
 
-abbrev endingFrom : Row → Ending
+abbrev endingFrom : Row → FinishResult
 endingFrom r =
     under r 2 (ending.Clean (wirePlace (value r 0)))
     (under r 16 (ending.Open (wirePlace (value r 0)) (wirePlace (value r 1))) ending.State)
 
-ending-back : (a : Ending) → endingFrom (endRowOf a) ≡ a
+ending-back : (a : FinishResult) → endingFrom (finishRowOf a) ≡ a
 ending-back (ending.Clean t) = refl
 ending-back (ending.Open t s) = refl
 ending-back ending.State = refl
 
-abbrev writtenFrom : Row → Written
+abbrev writtenFrom : Row → WriteResult
 writtenFrom r = under r 0 (written.Wrote (value r 0)) (under r 21 written.Payload written.Room)
 
-written-back : (a : Written) → writtenFrom (writtenRowOf a) ≡ a
+written-back : (a : WriteResult) → writtenFrom (writeRowOf a) ≡ a
 written-back (written.Wrote c) = refl
 written-back written.Payload = refl
 written-back written.Room = refl
 
-pub rows-tell : RowsTell
-rows-tell =
+pub rows-injective : RowsInjective
+rows-injective =
     record {
-      answers = told-apart rowOf answerFrom answer-back;
-      endings = told-apart endRowOf endingFrom ending-back;
-      writings = told-apart writtenRowOf writtenFrom written-back;
+      answers = injective-by rowOf answerFrom answer-back;
+      finishes = injective-by finishRowOf endingFrom ending-back;
+      writings = injective-by writeRowOf writtenFrom written-back;
     }
 
 -- ---- a reader
@@ -93,9 +93,9 @@ readerFrom s =
     record {
       scan = record {
         phase = phaseFrom (s .scan .phase);
-        taken = wirePlace (s .scan .taken);
+        consumed = wirePlace (s .scan .consumed);
         start = wirePlace (s .scan .start);
-        have = record { 0 = s .scan .have };
+        filled = record { 0 = s .scan .filled };
         length = s .scan .length;
         sum = s .scan .sum;
       };
@@ -105,8 +105,8 @@ readerFrom s =
 reader-back : (r : Reader) → readerFrom (stateOf r) ≡ r
 reader-back r = rw (phase-back (r .scan .phase))
 
-pub states-told : StatesTold
-states-told = told-apart stateOf readerFrom reader-back
+pub states-injective : StatesInjective
+states-injective = injective-by stateOf readerFrom reader-back
 
-pub asked-keeps : AskedKeeps
-asked-keeps limit r = by-test (λ (y : Reply State). y .state ≡ r) (inRangeOf limit (r .scan)) (λ e. refl) (λ e. refl)
+pub finish-keeps : FinishKeeps
+finish-keeps limit r = by-test (λ (y : Outcome State). y .state ≡ r) (inRangeOf limit (r .scan)) (λ e. refl) (λ e. refl)

@@ -5,23 +5,23 @@ use mathlib.Core.List.{List, [], _∷_, _++_, append-assoc}
 use native.Mathlib.Omega.{arith}
 use lib.ListN.{length, take, drop, take-append-drop, length-append, length-drop}
 use Rattle.frame.specs.Table.{countOf}
-use Rattle.base.specs.Outcomes.{Reply}
+use Rattle.base.specs.Outcomes.{Outcome}
 use Rattle.frame.specs.Calls.{freshOf, feedOf}
-use Rattle.frame.specs.Logs.{Call, give, callOf, Entry, entryOf, takenIn, logOf, stateAfter, offered, stream}
+use Rattle.frame.specs.Logs.{Call, feed, callOf, Entry, entryOf, consumedIn, logOf, stateAfter, offered, stream}
 use Rattle.frame.specs.Logs.{offer, send, joined}
 use Rattle.frame.specs.Claims.{SentWhole}
 use Rattle.frame.specs.State.{State}
 use Rattle.frame.proofs.Counts.{within, progress}
 use Rattle.frame.proofs.Moves.{Inv}
 use Rattle.frame.proofs.Logged.{Called, called, in-range, Reached, reached}
-use Rattle.frame.proofs.Demand3.{fresh-holds}
+use Rattle.frame.proofs.StreamCorrect.{fresh-holds}
 use Rattle.base.proofs.Lists.{no-bytes}
 
 stream-append : (a b : List Entry) → stream (a ++ b) ≡ stream a ++ stream b
 unfolding stream
 stream-append [] b = refl
 stream-append (e ∷ a) b =
-    let f : List ℕ = take (takenIn e) (offered (e .call)) in
+    let f : List ℕ = take (consumedIn e) (offered (e .call)) in
     ap (λ (l : List ℕ). f ++ l) (stream-append a b) ∙ sym (append-assoc f (stream a) (stream b))
 
 log-append : (limit : ℕ) (a b : List Call) (r : State)
@@ -37,23 +37,23 @@ fewer n c [] some few = let none : List ℕ = [] in omega (arith, length-drop c 
 fewer n c (x ∷ xs) some few = omega (arith, length-drop c (x ∷ xs), some (omega arith))
 
 module _ (limit : ℕ) (small : limit ≤ 65279) where
-  offered-whole : (n : ℕ) (bs : List ℕ) (r : State) → Inv limit r → r .scan .taken + length bs ≤ 2 ^ 62 → length bs ≤ n
+  offered-whole : (n : ℕ) (bs : List ℕ) (r : State) → Inv limit r → r .scan .consumed + length bs ≤ 2 ^ 62 → length bs ≤ n
       → stream (logOf limit r (offer limit n r bs)) ≡ bs
   unfolding logOf stream offer
   offered-whole zero bs r i room few = sym (no-bytes bs (omega arith))
   offered-whole (suc n) bs r i room few =
-      let most : r .scan .taken ≤ 2 ^ 62 = omega arith in
-      let y : Reply State = feedOf limit r bs in
+      let longest : r .scan .consumed ≤ 2 ^ 62 = omega arith in
+      let y : Outcome State = feedOf limit r bs in
       let c : ℕ = countOf (y .row) in
-      let ok : Called limit r (give bs) y = called limit small r i most (give bs) in
+      let ok : Called limit r (feed bs) y = called limit small r i longest (feed bs) in
       let left : length (drop c bs) ≤ n =
-      fewer n c bs (λ h. progress limit r bs (in-range limit small r i most) room h) few in
-      let fits : y .state .scan .taken + length (drop c bs) ≤ 2 ^ 62 =
+      fewer n c bs (λ h. progress limit r bs (in-range limit small r i longest) room h) few in
+      let fits : y .state .scan .consumed + length (drop c bs) ≤ 2 ^ 62 =
       omega (arith, ok .place, length-drop c bs, within limit r bs) in
       ap (λ (l : List ℕ). take c bs ++ l) (offered-whole n (drop c bs) (y .state) (ok .holds) fits left)
       ∙ take-append-drop c bs
 
-  sent-pieces : (ps : List (List ℕ)) (r : State) → Inv limit r → r .scan .taken + length (joined ps) ≤ 2 ^ 62
+  sent-pieces : (ps : List (List ℕ)) (r : State) → Inv limit r → r .scan .consumed + length (joined ps) ≤ 2 ^ 62
       → stream (logOf limit r (send limit r ps)) ≡ joined ps
   unfolding logOf stream send joined
   sent-pieces [] r i room = refl

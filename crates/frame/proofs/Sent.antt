@@ -6,7 +6,7 @@ use mathlib.Core.List.{List, [], _∷_, _++_, append-assoc, append-nil}
 use native.Mathlib.Omega.{arith}
 use lib.ListN.{length, take, drop, take-append-drop, length-append}
 use lib.Seq.{take-append-le}
-use Rattle.frame.specs.Logs.{Entry, takenIn, offered, stream, Accounts, OffersFront}
+use Rattle.frame.specs.Logs.{Entry, consumedIn, offered, stream, Accounts, OffersFront}
 use Rattle.frame.specs.Claims.{Front}
 use Rattle.base.proofs.Lists.{no-bytes}
 
@@ -15,7 +15,7 @@ front : (n : ℕ) (log : List Entry) (sent : List ℕ)
 unfolding OffersFront Accounts stream
 front n [] sent a f = (sent, refl)
 front n (e ∷ es) sent a f =
-    let c : ℕ = takenIn e in
+    let c : ℕ = consumedIn e in
     let ih = front (n + c) es (drop c sent) (a .1) (f .1) in
     let t : take c sent ≡ take c (offered (e .call)) =
     ap (λ (l : List ℕ). take c l) (f .0 .1) ∙ take-append-le c (offered (e .call)) (f .0 .0) (a .0 .within) in (

@@ -10,7 +10,7 @@ use native.Mathlib.Omega.{arith}
 use lib.ListN.{length, getD, length-append}
 use lib.Dec.{eqb}
 use borrow.Author.Tests.{eqb-false}
-use Rattle.frame.specs.Wire.{behind, stuff, wire, unstuff, lengthOf, Good}
+use Rattle.frame.specs.Wire.{stuffAfter, stuff, wire, unstuff, lengthOf, Good}
 use Rattle.frame.specs.Frames.{isGood, here, framesFrom}
 use Rattle.frame.specs.Claims.{WhyWidest}
 use Rattle.frame.proofs.Stuffing.{unstuff-stuff, compare-bodies, Longer}
@@ -35,7 +35,7 @@ module _ (limit : ℕ) where
 
   -- a body that begins with FF is too long
   pub good-first : (b : List ℕ) → limit ≤ 65279 → Good limit b → getD b 0 0 ≢ 255
-  good-first b small g e = omega (arith, g .most)
+  good-first b small g e = omega (arith, g .longest)
 
   first-of : (b rest : List ℕ) (x : ℕ) (t : List ℕ) → 1 ≤ length b → stuff b ++ rest ≡ x ∷ t → getD b 0 0 ≡ x
   unfolding stuff
@@ -59,8 +59,8 @@ module _ (limit : ℕ) where
     where
       go : (t : Bool) → eqb x 255 ≡ t
           → ((m : ℕ) → framesFrom limit m (stuff xs ++ rest) ≡ framesFrom limit (m + length (stuff xs)) rest)
-          → framesFrom limit n (x ∷ behind t (stuff xs) ++ rest)
-          ≡ framesFrom limit (n + suc (length (behind t (stuff xs)))) rest
+          → framesFrom limit n (x ∷ stuffAfter t (stuff xs) ++ rest)
+          ≡ framesFrom limit (n + suc (length (stuffAfter t (stuff xs)))) rest
       go true e ih =
           pass-pair n x 85 (stuff xs ++ rest) (omega arith)
           ∙ pass-other (suc n) 85 (stuff xs ++ rest) (omega arith) ∙ ih (suc (suc n))
@@ -69,17 +69,17 @@ module _ (limit : ℕ) where
           pass-other n x (stuff xs ++ rest) (eqb-false x 255 e) ∙ ih (suc n)
           ∙ ap (λ (k : ℕ). framesFrom limit k rest) (omega arith)
 
-  pub behind-header : (b rest : List ℕ) (n : ℕ) → 1 ≤ length b → getD b 0 0 ≢ 255
+  pub after-header : (b rest : List ℕ) (n : ℕ) → 1 ≤ length b → getD b 0 0 ≢ 255
       → framesFrom limit (suc n) (255 ∷ stuff b ++ rest) ≡ framesFrom limit (n + length (wire b)) rest
   unfolding stuff
-  behind-header [] rest n h k = absurd (omega arith)
-  behind-header (x ∷ xs) rest n h k =
-      pass-pair (suc n) 255 x (behind (eqb x 255) (stuff xs) ++ rest) k ∙ pass-body (x ∷ xs) rest (suc (suc n))
+  after-header [] rest n h k = absurd (omega arith)
+  after-header (x ∷ xs) rest n h k =
+      pass-pair (suc n) 255 x (stuffAfter (eqb x 255) (stuff xs) ++ rest) k ∙ pass-body (x ∷ xs) rest (suc (suc n))
       ∙ ap (λ (k : ℕ). framesFrom limit k rest) (omega arith)
 
   pub pass-wire : (b rest : List ℕ) (n : ℕ) → 1 ≤ length b → getD b 0 0 ≢ 255 → here limit (wire b ++ rest) ≡ none
       → framesFrom limit n (wire b ++ rest) ≡ framesFrom limit (n + length (wire b)) rest
-  pass-wire b rest n h k e = pass n 255 (255 ∷ stuff b ++ rest) e ∙ behind-header b rest n h k
+  pass-wire b rest n h k e = pass n 255 (255 ∷ stuff b ++ rest) e ∙ after-header b rest n h k
 
   pub take-wire : (b rest : List ℕ) (n : ℕ) → 1 ≤ length b → getD b 0 0 ≢ 255 → Good limit b
       → framesFrom limit n (wire b ++ rest) ≡ record { start = n; end = n + length (wire b); body = b }
@@ -88,7 +88,7 @@ module _ (limit : ℕ) where
   take-wire b rest n h k g =
       rw (
         here-some limit (wire b ++ rest) b (record { rest = rest; bytes = refl; good = g }),
-        behind-header b rest n h k,
+        after-header b rest n h k,
       )
 
   -- ---- a body that is not whole, or is refused
@@ -154,10 +154,10 @@ module _ (limit : ℕ) where
       ∙ ap (λ (t : List ℕ). lengthOf t) u ∙ lengthOf-append b (unstuff false z) h
 
   pub none-short : (b z : List ℕ) → 2 ≤ length b → lengthOf b < 5 → here limit (wire b ++ z) ≡ none
-  none-short b z h k = here-none limit (wire b ++ z) (λ b′ f. omega (arith, same-length b z b′ h f, f .good .least))
+  none-short b z h k = here-none limit (wire b ++ z) (λ b′ f. omega (arith, same-length b z b′ h f, f .good .shortest))
 
   pub none-long : (b z : List ℕ) → 2 ≤ length b → limit < lengthOf b → here limit (wire b ++ z) ≡ none
-  none-long b z h k = here-none limit (wire b ++ z) (λ b′ f. omega (arith, same-length b z b′ h f, f .good .most))
+  none-long b z h k = here-none limit (wire b ++ z) (λ b′ f. omega (arith, same-length b z b′ h f, f .good .longest))
 
   pub none-sum : (b z : List ℕ) → length b ≡ lengthOf b + 2 → isGood limit b ≡ false → here limit (wire b ++ z) ≡ none
   unfolding here

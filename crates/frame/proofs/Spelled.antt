@@ -8,7 +8,7 @@ use lib.ListN.{length, length-append}
 use lib.Seq.{getD-at, take-at, take-all}
 use Rattle.base.specs.Sums.{total, checksum}
 use Rattle.frame.specs.Wire.{stuff, lengthOf, Good}
-use Rattle.frame.specs.Spelled.{BodyLayouts, StuffsEach, AllPartsJoined}
+use Rattle.frame.specs.Spelled.{BodyLayouts, StuffsEach, AllChunksJoined}
 
 module _ (b0 b1 b2 b3 b4 b5 s : ℕ) (p : List ℕ) where
   abbrev head : List ℕ
@@ -29,8 +29,8 @@ module _ (b0 b1 b2 b3 b4 b5 s : ℕ) (p : List ℕ) where
   good limit e fits holds =
       record {
         true-length = omega (arith, length-append head (s ∷ []));
-        least = omega arith;
-        most = omega arith;
+        shortest = omega arith;
+        longest = omega arith;
         sum-holds = getD-at head s [] 0 (lengthOf body + 1) (size e) ∙ holds
             ∙ ap checksum (sym (take-at head (s ∷ []) (lengthOf body + 1) (size e)));
       }
@@ -40,7 +40,7 @@ module _ (b0 b1 b2 b3 b4 b5 s : ℕ) (p : List ℕ) where
   good-parts limit g =
       let e : b0 * 256 + b1 ≡ length p + 5 = omega (arith, g .true-length, length-append head (s ∷ [])) in (
         e,
-        omega (arith, g .most),
+        omega (arith, g .longest),
         sym (getD-at head s [] 0 (lengthOf body + 1) (size e)) ∙ g .sum-holds
             ∙ ap checksum (take-at head (s ∷ []) (lengthOf body + 1) (size e)),
       )
@@ -69,5 +69,5 @@ pub stuffing : StuffsEach
 unfolding stuff
 stuffing x xs = record { none = refl; ff = refl; other = λ n. rw (ne-eqb x 255 n); header = refl }
 
-pub parts-joined : AllPartsJoined
-parts-joined a b c = record { worked = refl; in-order = sym (append-assoc a b c) }
+pub chunks-joined : AllChunksJoined
+chunks-joined a b c = record { worked = refl; in-order = sym (append-assoc a b c) }

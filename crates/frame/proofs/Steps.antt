@@ -11,9 +11,9 @@ use lib.Seq.{drop-cons, drop-length}
 use lib.Dec.{ltb, leb, eqb}
 use Rattle.base.specs.Rows.{row}
 use Rattle.frame.specs.Rules.{Ready, inRangeOf, completedOf, bodyByteOf, onFFIn, onOtherIn, advanceOf, decidesOf}
-use Rattle.frame.specs.Rules.{mostTaken, mostHave, putOf}
+use Rattle.frame.specs.Rules.{maxConsumed, maxFilled, putOf}
 use Rattle.frame.specs.Table.{eventRow}
-use Rattle.base.specs.Outcomes.{reply}
+use Rattle.base.specs.Outcomes.{outcome}
 use Rattle.frame.specs.Calls.{runOf}
 use Rattle.frame.specs.State.{Phase, Idle, Half, Header, Open, Escape, Scan, Step, State}
 use Rattle.base.proofs.Tests.{by-test, both}
@@ -30,13 +30,13 @@ module _ {limit : ℕ} {s : Scan} (n : ℕ) (h : Ready limit s (n + 1)) where
   -- a fact that `omega` reads is named
   kept-body : (v : ℕ) → Kept (bodyByteOf limit s v)
   kept-body v =
-      by-test Kept (eqb (s .have) 0) (λ none. omega (arith, eqb-true))
-      λ _. by-test Kept (eqb (s .have) 1)
+      by-test Kept (eqb (s .filled) 0) (λ none. omega (arith, eqb-true))
+      λ _. by-test Kept (eqb (s .filled) 1)
       (λ one. by-test Kept (ltb (s .length * 256 + v) 5) (λ _. omega arith)
-      λ least. by-test Kept (ltb limit (s .length * 256 + v)) (λ _. omega arith)
-      λ most. omega (arith, eqb-true, ltb-false))
-      λ _. by-test Kept (ltb (s .length) (s .have)) (λ _. kept-completed v)
-      λ _. by-test Kept (ltb limit (s .have)) (λ _. kept-completed v) λ within. omega (arith, ltb-false)
+      λ shortest. by-test Kept (ltb limit (s .length * 256 + v)) (λ _. omega arith)
+      λ longest. omega (arith, eqb-true, ltb-false))
+      λ _. by-test Kept (ltb (s .length) (s .filled)) (λ _. kept-completed v)
+      λ _. by-test Kept (ltb limit (s .filled)) (λ _. kept-completed v) λ within. omega (arith, ltb-false)
 
   kept-ff : (p : Phase) → Kept (onFFIn p s)
   kept-ff Idle = omega arith
@@ -70,12 +70,12 @@ next-byte bytes i h = rw (add-one, drop-cons bytes i 0)
 
 module _ {limit : ℕ} {bytes : List ℕ} {r₀ r : State} {i : ℕ} (at : At limit bytes r₀ i r) where
   -- all bytes are taken: the answer is MORE
-  pub run-end : i ≡ length bytes → runOf limit bytes 0 r₀ ≡ reply (row 0 (i ∷ [])) r
+  pub run-end : i ≡ length bytes → runOf limit bytes 0 r₀ ≡ outcome (row 0 (i ∷ [])) r
   unfolding runOf
   run-end e = at .same ∙ rw (e, drop-length)
 
   module _ (h : i < length bytes) {step : Step} {body : List ℕ} (e : step ≡ advanceOf limit (r .scan) (getD bytes i 0))
-      (f : body ≡ putOf (step .put) (r .body) (r .scan .have) (step .byte)) where
+      (f : body ≡ putOf (step .put) (r .body) (r .scan .filled) (step .byte)) where
     abbrev after : State
     after = record { scan = step .scan; body = body }
 
@@ -92,16 +92,16 @@ module _ {limit : ℕ} {bytes : List ℕ} {r₀ r : State} {i : ℕ} (at : At li
 
     -- the next byte decides: the run stops behind it
     pub run-stop : decidesOf (step .event) ≡ true
-        → runOf limit bytes 0 r₀ ≡ reply (eventRow (step .event) (i + 1) (r .scan .start) (step .scan .taken)) after
+        → runOf limit bytes 0 r₀ ≡ outcome (eventRow (step .event) (i + 1) (r .scan .start) (step .scan .consumed)) after
     unfolding runOf
     run-stop q = at .same ∙ rw (next-byte bytes i h) (simp (← e, q, f))
 
 -- ---- a state in range
 
 -- a state in range, with room for what may still be taken
-pub in-range : (limit : ℕ) (s : Scan) → limit ≤ 65279 → inRangeOf limit s ≡ true → Ready limit s (2 ^ 62 - s .taken)
+pub in-range : (limit : ℕ) (s : Scan) → limit ≤ 65279 → inRangeOf limit s ≡ true → Ready limit s (2 ^ 62 - s .consumed)
 in-range limit s l e =
-    let ranges = both (leb (s .taken) mostTaken) e in
-    let taken : s .taken ≤ mostTaken = leb-true _ _ (ranges .0) in
-    let have : s .have ≤ mostHave limit = leb-true _ _ (ranges .1) in
+    let ranges = both (leb (s .consumed) maxConsumed) e in
+    let consumed : s .consumed ≤ maxConsumed = leb-true _ _ (ranges .0) in
+    let filled : s .filled ≤ maxFilled limit = leb-true _ _ (ranges .1) in
     record { room = omega arith; inside = omega arith; small = l }

@@ -9,11 +9,11 @@ use native.Mathlib.Omega.{arith}
 use borrow.Author.Tests.{ne-eqb, le-leb}
 use lib.ListN.{length, getD, length-append}
 use lib.Dec.{eqb, ltb, leb}
-use Rattle.base.specs.Outcomes.{Reply, reply}
+use Rattle.base.specs.Outcomes.{Outcome, outcome}
 use Rattle.base.proofs.Tests.{by-test, either-way}
 use Rattle.frame.specs.State.{Phase, Idle, Half, Header, Open, Escape, Step, State}
 use Rattle.frame.specs.Table.{eventRow}
-use Rattle.frame.specs.Rules.{Ready, mostTaken, mostHave, inRangeOf, completedOf, bodyByteOf, onFFIn, advanceOf}
+use Rattle.frame.specs.Rules.{Ready, maxConsumed, maxFilled, inRangeOf, completedOf, bodyByteOf, onFFIn, advanceOf}
 use Rattle.frame.specs.Rules.{decidesOf, putOf}
 use Rattle.frame.specs.Calls.{nextOf, runOf, feedOf}
 use Rattle.frame.specs.Stored.{BytesStored, TakesOne, StoresAt, later, AllInPieces}
@@ -30,16 +30,16 @@ one-byte : (limit : ℕ) (r : State) (x : ℕ) (P : State → Type 0)
     → P r → P (nextOf limit r x) → P (feedOf limit r (x ∷ []) .state)
 unfolding runOf
 one-byte limit r x P same next =
-    let Q : Reply State → Type 0 = λ (y : Reply State). P (y .state) in
+    let Q : Outcome State → Type 0 = λ (y : Outcome State). P (y .state) in
     by-test Q (inRangeOf limit (r .scan))
-    (λ a. by-test Q (leb (r .scan .taken + length (x ∷ [])) (2 ^ 62))
+    (λ a. by-test Q (leb (r .scan .consumed + length (x ∷ [])) (2 ^ 62))
     (λ b. by-test Q (decidesOf (advanceOf limit (r .scan) x .event)) (λ c. next) (λ c. next)) (λ b. same))
     (λ a. same)
 
 module _ (limit : ℕ) (r : State) where
   -- the body after a step
   abbrev left : Step → List ℕ
-  left s = putOf (s .put) (r .body) (r .scan .have) (s .byte)
+  left s = putOf (s .put) (r .body) (r .scan .filled) (s .byte)
 
   abbrev Same : Step → Type 0
   Same s = left s ≡ r .body
@@ -64,20 +64,20 @@ byte-stored limit r x =
     let Kept : State → Type 0 = λ (q : State). q .body ≡ r .body in
     record {
       others-kept = λ i n. one-byte limit r x (λ (q : State). getD (q .body) i 0 ≡ getD (r .body) i 0) refl
-          (put-other (s .put) (r .body) (r .scan .have) (s .byte) i n);
+          (put-other (s .put) (r .body) (r .scan .filled) (s .byte) i n);
       same-length = one-byte limit r x (λ (q : State). length (q .body) ≡ length (r .body)) refl
-          (put-length (s .put) (r .body) (r .scan .have) (s .byte));
+          (put-length (s .put) (r .body) (r .scan .filled) (s .byte));
       outside = λ h. one-byte limit r x Kept refl (same-outside limit r x h);
       ff = one-byte limit r 255 Kept refl (same-ff limit r (r .scan .phase));
       broken = λ h n. one-byte limit r x Kept refl (same-broken limit r x h n);
     }
 
-module _ (limit : ℕ) (r : State) (room : r .scan .have < length (r .body)) where
+module _ (limit : ℕ) (r : State) (room : r .scan .filled < length (r .body)) where
   abbrev Stores : ℕ → Step → Type 0
-  Stores v s = getD (left limit r s) (r .scan .have) 0 ≡ v
+  Stores v s = getD (left limit r s) (r .scan .filled) 0 ≡ v
 
-  put : (v : ℕ) → getD (putOf true (r .body) (r .scan .have) v) (r .scan .have) 0 ≡ v
-  put v = put-same (r .body) (r .scan .have) v room
+  put : (v : ℕ) → getD (putOf true (r .body) (r .scan .filled) v) (r .scan .filled) 0 ≡ v
+  put v = put-same (r .body) (r .scan .filled) v room
 
   stores-last : (v : ℕ) → Stores v (completedOf (r .scan) v)
   stores-last v = by-test (Stores v) (eqb v (r .scan .sum)) (λ t. put v) (λ t. put v)
@@ -85,11 +85,11 @@ module _ (limit : ℕ) (r : State) (room : r .scan .have < length (r .body)) whe
   stores-body : (v : ℕ) → Stores v (bodyByteOf limit (r .scan) v)
   stores-body v =
       let l : ℕ = r .scan .length * 256 + v in
-      by-test (Stores v) (eqb (r .scan .have) 0) (λ a. put v)
-      (λ a. by-test (Stores v) (eqb (r .scan .have) 1)
+      by-test (Stores v) (eqb (r .scan .filled) 0) (λ a. put v)
+      (λ a. by-test (Stores v) (eqb (r .scan .filled) 1)
       (λ b. by-test (Stores v) (ltb l 5) (λ c. put v) (λ c. by-test (Stores v) (ltb limit l) (λ d. put v) (λ d. put v)))
-      (λ b. by-test (Stores v) (ltb (r .scan .length) (r .scan .have)) (λ c. stores-last v)
-      (λ c. by-test (Stores v) (ltb limit (r .scan .have)) (λ d. stores-last v) (λ d. put v))))
+      (λ b. by-test (Stores v) (ltb (r .scan .length) (r .scan .filled)) (λ c. stores-last v)
+      (λ c. by-test (Stores v) (ltb limit (r .scan .filled)) (λ d. stores-last v) (λ d. put v))))
 
   stores-plain : (x : ℕ) → (r .scan .phase ≡ Header) ⊎ (r .scan .phase ≡ Open) → x ≢ 255
       → Stores x (advanceOf limit (r .scan) x)
@@ -103,27 +103,27 @@ module _ (limit : ℕ) (r : State) (room : r .scan .have < length (r .body)) whe
 
 -- a reader in range runs
 feed-run : (limit : ℕ) (r : State) (bs : List ℕ)
-    → r .scan .have ≤ limit + 1 → r .scan .taken + length bs ≤ 2 ^ 62 → feedOf limit r bs ≡ runOf limit bs 0 r
+    → r .scan .filled ≤ limit + 1 → r .scan .consumed + length bs ≤ 2 ^ 62 → feedOf limit r bs ≡ runOf limit bs 0 r
 feed-run limit r bs inside room =
     rw (
-      le-leb (r .scan .taken) mostTaken (omega arith),
-      le-leb (r .scan .have) (mostHave limit) (omega arith),
-      le-leb (r .scan .taken + length bs) (2 ^ 62) room,
+      le-leb (r .scan .consumed) maxConsumed (omega arith),
+      le-leb (r .scan .filled) (maxFilled limit) (omega arith),
+      le-leb (r .scan .consumed + length bs) (2 ^ 62) room,
     )
 
 one-next : (limit : ℕ) (r : State) (x : ℕ) → TakesOne limit r → feedOf limit r (x ∷ []) .state ≡ nextOf limit r x
 unfolding runOf
 one-next limit r x h =
-    ap (λ (y : Reply State). y .state) (feed-run limit r (x ∷ []) (h .1) (omega (arith, h .0)))
-    ∙ by-test (λ (y : Reply State). y .state ≡ nextOf limit r x) (decidesOf (advanceOf limit (r .scan) x .event))
+    ap (λ (y : Outcome State). y .state) (feed-run limit r (x ∷ []) (h .1) (omega (arith, h .0)))
+    ∙ by-test (λ (y : Outcome State). y .state ≡ nextOf limit r x) (decidesOf (advanceOf limit (r .scan) x .event))
     (λ t. refl) (λ t. refl)
 
 pub stored-at : StoresAt
 stored-at limit r x h room =
     record {
-      plain = λ f n. ap (λ (q : State). getD (q .body) (r .scan .have) 0) (one-next limit r x h)
+      plain = λ f n. ap (λ (q : State). getD (q .body) (r .scan .filled) 0) (one-next limit r x h)
           ∙ stores-plain limit r room x f n;
-      stuffed = λ f. ap (λ (q : State). getD (q .body) (r .scan .have) 0) (one-next limit r 85 h)
+      stuffed = λ f. ap (λ (q : State). getD (q .body) (r .scan .filled) 0) (one-next limit r 85 h)
           ∙ stores-stuffed limit r room f;
     }
 
@@ -143,7 +143,7 @@ module _ (limit : ℕ) where
   first-quiet x a n r h =
       let e : Event = advanceOf limit (r .scan) x .event in
       either-way (decidesOf e)
-      (λ t. absurd (decides-some e (n + 1) (r .scan .start) (nextOf limit r x .scan .taken) t (rw t at h)))
+      (λ t. absurd (decides-some e (n + 1) (r .scan .start) (nextOf limit r x .scan .consumed) t (rw t at h)))
       (λ t. t)
 
   run-on : (a b : List ℕ) (n : ℕ) (r : State) → Quiets a n r
@@ -172,7 +172,7 @@ module _ (limit : ℕ) where
       rw t (run-ready a (n + 1) m (nextOf limit r x) (rw t at h) (kept (length a + m) more x))
 
   later-event : (e : Event) (n k s p : ℕ) (q : State)
-      → reply (eventRow e (n + k) s p) q ≡ later n (reply (eventRow e k s p) q)
+      → outcome (eventRow e (n + k) s p) q ≡ later n (outcome (eventRow e k s p) q)
   later-event Quiet n k s p q = refl
   later-event (Decided v) n k s p q = refl
 
@@ -183,7 +183,7 @@ module _ (limit : ℕ) where
       let e : Event = advanceOf limit (r .scan) x .event in
       let q : State = nextOf limit r x in
       either-way (decidesOf e)
-      (λ t. rw (t, add-assoc n k 1) (later-event e n (k + 1) (r .scan .start) (q .scan .taken) q))
+      (λ t. rw (t, add-assoc n k 1) (later-event e n (k + 1) (r .scan .start) (q .scan .consumed) q))
       (λ t. rw (t, add-assoc n k 1) (run-later b n (k + 1) q))
 
 pub in-pieces : AllInPieces
@@ -192,7 +192,7 @@ in-pieces limit small r a b inside room =
     let whole : feedOf limit r (a ++ b) ≡ runOf limit (a ++ b) 0 r = feed-run limit r (a ++ b) inside room in
     let front : feedOf limit r a ≡ runOf limit a 0 r = feed-run limit r a inside (omega arith) in
     record {
-      goes-on = λ h.
+      continues = λ h.
           let quiet : Quiets limit a 0 r = rw front at h in
           let q : State = runOf limit a 0 r .state in
           let ready : Ready limit (q .scan) (length b) = run-ready limit a 0 (length b) r quiet
@@ -202,6 +202,6 @@ in-pieces limit small r a b inside room =
           ∙ ap (λ (n : ℕ). runOf limit b n q) (zero-add (length a) ∙ sym (add-zero (length a)))
           ∙ run-later limit b (length a) 0 q
           ∙ ap (later (length a)) (sym rest)
-          ∙ ap (λ (y : Reply State). later (length a) (feedOf limit (y .state) b)) (sym front);
+          ∙ ap (λ (y : Outcome State). later (length a) (feedOf limit (y .state) b)) (sym front);
       stops = λ h. whole ∙ run-stop limit a b 0 r (rw front at h) ∙ sym front;
     }

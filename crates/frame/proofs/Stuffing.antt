@@ -8,7 +8,7 @@ use native.Mathlib.Omega.{arith}
 use lib.ListN.{length}
 use lib.Dec.{eqb}
 use Rattle.frame.specs.Claims.{StuffedForms}
-use Rattle.frame.specs.Wire.{behind, stuff, unstuff}
+use Rattle.frame.specs.Wire.{stuffAfter, stuff, unstuff}
 
 -- stuff over ++
 pub stuff-append : (a b : List ℕ) → stuff (a ++ b) ≡ stuff a ++ stuff b
@@ -17,7 +17,7 @@ stuff-append [] b = refl
 stuff-append (x ∷ xs) b = go (eqb x 255) (stuff-append xs b)
   where
     go : (t : Bool) → stuff (xs ++ b) ≡ stuff xs ++ stuff b
-        → x ∷ behind t (stuff (xs ++ b)) ≡ x ∷ behind t (stuff xs) ++ stuff b
+        → x ∷ stuffAfter t (stuff (xs ++ b)) ≡ x ∷ stuffAfter t (stuff xs) ++ stuff b
     go true h = rw h
     go false h = rw h
 
@@ -27,7 +27,7 @@ unstuff-stuff [] r = refl
 unstuff-stuff (x ∷ xs) r = go (eqb x 255) (unstuff-stuff xs r)
   where
     go : (t : Bool) → unstuff false (stuff xs ++ r) ≡ xs ++ unstuff false r
-        → x ∷ unstuff t (behind t (stuff xs) ++ r) ≡ x ∷ (xs ++ unstuff false r)
+        → x ∷ unstuff t (stuffAfter t (stuff xs) ++ r) ≡ x ∷ (xs ++ unstuff false r)
     go true h = rw h
     go false h = rw h
 
@@ -59,7 +59,7 @@ compare-bodies (y ∷ ys) (x ∷ xs) rest z e =
     finish (inr r) = inr (record { first = r .first; more = r .more; whole = cc (same, r .whole); left = r .left })
 
     go : (stuff ys ++ rest ≡ stuff xs ++ z → ((c : List ℕ) × (xs ≡ ys ++ c)) ⊎ Longer xs ys rest z)
-        → (t : Bool) → behind t (stuff ys) ++ rest ≡ behind t (stuff xs) ++ z → Out
+        → (t : Bool) → stuffAfter t (stuff ys) ++ rest ≡ stuffAfter t (stuff xs) ++ z → Out
     go k true h = finish (k (tail-eq-of-cons-eq h))
     go k false h = finish (k h)
 
@@ -71,7 +71,7 @@ escaped [] (y ∷ ys) r e = absurd (cons≢nil (sym e))
 escaped (x ∷ xs) [] r e = (stuff xs, sym (tail-eq-of-cons-eq (rw (head-eq-of-cons-eq e) at e)))
 escaped (x ∷ xs) (y ∷ ys) r e = go (eqb x 255) ys (tail-eq-of-cons-eq e) (λ zs f. escaped xs zs r f)
   where
-    go : (t : Bool) (ys : List ℕ) → behind t (stuff xs) ≡ ys ++ 255 ∷ r
+    go : (t : Bool) (ys : List ℕ) → stuffAfter t (stuff xs) ≡ ys ++ 255 ∷ r
         → ((zs : List ℕ) → stuff xs ≡ zs ++ 255 ∷ r → (r′ : List ℕ) × (r ≡ 85 ∷ r′)) → (r′ : List ℕ) × (r ≡ 85 ∷ r′)
     go true [] f k = let z : _≡_ {A = ℕ} 85 255 = head-eq-of-cons-eq f in absurd (omega arith)
     go true (z ∷ zs) f k = k zs (tail-eq-of-cons-eq f)
@@ -82,7 +82,7 @@ unfolding stuff
 stuff-bound [] = omega arith
 stuff-bound (x ∷ xs) = go (eqb x 255) (stuff-bound xs)
   where
-    go : (t : Bool) → length (stuff xs) ≤ 2 * length xs → suc (length (behind t (stuff xs))) ≤ 2 * suc (length xs)
+    go : (t : Bool) → length (stuff xs) ≤ 2 * length xs → suc (length (stuffAfter t (stuff xs))) ≤ 2 * suc (length xs)
     go true h = omega arith
     go false h = omega arith
 

@@ -1,11 +1,11 @@
--- `Lists` and `Answers` say all: a stream has one such list of frames, and one of lines.
+-- `Lists` and `ListsDecisions` say all: a stream has one such list of frames, and one of lines.
 use Prim.Native.Nat.{ℕ, _+_}
 use mathlib.Core.Path.{_≡_}
 use mathlib.Core.List.{List, [], _∷_}
 use native.Mathlib.Omega.{arith}
 use Rattle.frame.specs.Frames.{AllFrom, Apart, Lists, Found, framesOf}
-use Rattle.frame.specs.Lines.{Line, LinesFrom}
-use Rattle.frame.specs.Claims.{OneList, OneAnswers}
+use Rattle.frame.specs.Decisions.{Decision, DecisionsFrom}
+use Rattle.frame.specs.Claims.{OneList, OneDecisions}
 use Rattle.base.proofs.Rising.{RisingFrom, rising-earlier, same-members}
 use Rattle.frame.proofs.Listed.{framesOf-lists}
 
@@ -35,15 +35,15 @@ one-list limit small t =
     (framesOf-lists limit small t, (λ l a. lists-unique limit t l (framesOf limit t) a (framesOf-lists limit small t)))
 
 -- where a line starts
-abbrev lineStart : Line → ℕ
-lineStart l = l .start
+abbrev decisionStart : Decision → ℕ
+decisionStart l = l .start
 
 -- lines rise, in the words of the law
-lines-rise : (m : ℕ) (ls : List Line) → LinesFrom m ls → RisingFrom lineStart m ls
-lines-rise m [] h = tt
-lines-rise m (l ∷ ls) h = (h .0, lines-rise (l .start + 1) ls (h .1))
+decisions-rise : (m : ℕ) (ls : List Decision) → DecisionsFrom m ls → RisingFrom decisionStart m ls
+decisions-rise m [] h = tt
+decisions-rise m (l ∷ ls) h = (h .0, decisions-rise (l .start + 1) ls (h .1))
 
-pub one-answers : OneAnswers
-one-answers limit t a b p q =
-    same-members lineStart 0 0 a b (lines-rise 0 a (p .rising)) (lines-rise 0 b (q .rising))
+pub one-decisions : OneDecisions
+one-decisions limit t a b p q =
+    same-members decisionStart 0 0 a b (decisions-rise 0 a (p .rising)) (decisions-rise 0 b (q .rising))
     (λ l k. q .complete l (p .sound l k)) (λ l k. p .complete l (q .sound l k))

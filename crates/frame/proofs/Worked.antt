@@ -9,17 +9,17 @@ unfolding zeros runOf
 worked-reader =
     record {
       frame = refl;
-      behind-noise = refl;
+      after-noise = refl;
       stuffed-sum = refl;
       sum-waits = refl;
       short = refl;
-      least = refl;
-      most = refl;
+      shortest = refl;
+      longest = refl;
       long = refl;
       moved-start = refl;
       broken = refl;
       cut = refl;
-      behind-cut = refl;
+      after-cut = refl;
       sum = refl;
       sum-holds-body = refl;
       end-none = refl;

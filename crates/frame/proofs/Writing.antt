@@ -7,7 +7,7 @@ use native.Mathlib.Omega.{arith}
 use borrow.Author.Tests.{eq-eqb, ne-eqb}
 use lib.ListN.{length, getD, drop, set, length-append, drop-of-length-le}
 use lib.Seq.{drop-cons, sets}
-use Rattle.frame.specs.Wire.{stuff, wire, joinedParts, framed}
+use Rattle.frame.specs.Wire.{stuff, wire, joinedChunks, framed}
 use Rattle.base.specs.Stores.{PutAt}
 use Rattle.base.proofs.Stores.{put-join}
 use Rattle.frame.proofs.Stuffing.{stuff-append}
@@ -51,12 +51,12 @@ put-framed out body e = (omega arith, e .1)
 
 -- ---- lengths: of a payload's three parts, and of a frame from its parts
 
-pub parts-length : (first second third : List ℕ)
-    → length (joinedParts first second third) ≡ length first + (length second + length third)
-parts-length first second third = simp length-append
+pub chunks-length : (first second third : List ℕ)
+    → length (joinedChunks first second third) ≡ length first + (length second + length third)
+chunks-length first second third = simp length-append
 
 pub stuffed-length : (first second third : List ℕ)
-    → length (stuff (joinedParts first second third)) ≡ length (stuff first)
+    → length (stuff (joinedChunks first second third)) ≡ length (stuff first)
     + (length (stuff second) + length (stuff third))
 stuffed-length first second third = simp (stuff-append, length-append)
 

@@ -7,7 +7,7 @@ use borrow.Author.Tests.{ltb-true, ltb-false}
 use lib.ListN.{length, getD, take}
 use lib.Dec.{ltb}
 use Rattle.base.specs.Sums.{total}
-use Rattle.base.specs.Outcomes.{Write, placed}
+use Rattle.base.specs.Outcomes.{Output, placed}
 use Rattle.base.proofs.Tests.{by-test}
 use Rattle.base.proofs.Claims.{placed-whole-or-not}
 use Rattle.frame.specs.Wire.{stuff, wire, bodyOf, frameLimit}
@@ -29,7 +29,7 @@ form-is command number flags payload =
 placed-writes : (limit l : ℕ) (form out : List ℕ) → l ≤ limit → WritesExactly limit l form out (placed form out)
 placed-writes limit l form out h =
     let p = placed-whole-or-not form out in
-    by-test (λ (w : Write). placed form out ≡ w → WritesExactly limit l form out w) (ltb (length out) (length form))
+    by-test (λ (w : Output). placed form out ≡ w → WritesExactly limit l form out w) (ltb (length out) (length form))
     (λ t e.
     let small = ltb-true (length out) (length form) t in
     record {
@@ -41,7 +41,7 @@ placed-writes limit l form out h =
       fits-only = λ e. absurd (omega arith);
       refused-kept = λ n. refl;
       front = λ e. absurd (omega arith);
-      behind-kept = λ e i k. refl;
+      rest-kept = λ e i k. refl;
       same-length = refl;
     })
     (λ t e.
@@ -54,9 +54,9 @@ placed-writes limit l form out h =
       fits = λ g k. refl;
       fits-only = λ e. (h, room);
       refused-kept = λ n. absurd (n refl);
-      front = λ q. ap (λ (w : Write). take (length form) (w .out)) (sym e) ∙ p .front room;
-      behind-kept = λ q i k. ap (λ (w : Write). getD (w .out) i 0) (sym e) ∙ p .stays i k;
-      same-length = ap (λ (w : Write). length (w .out)) (sym e) ∙ p .same-length;
+      front = λ q. ap (λ (w : Output). take (length form) (w .out)) (sym e) ∙ p .front room;
+      rest-kept = λ q i k. ap (λ (w : Output). getD (w .out) i 0) (sym e) ∙ p .stays i k;
+      same-length = ap (λ (w : Output). length (w .out)) (sym e) ∙ p .same-length;
     })
     refl
 
@@ -76,7 +76,7 @@ writer-exact limit command number flags payload out =
       fits-only = λ e. absurd (omega arith);
       refused-kept = λ n. refl;
       front = λ e. absurd (omega arith);
-      behind-kept = λ e i k. refl;
+      rest-kept = λ e i k. refl;
       same-length = refl;
     })
     (λ t. subst (λ (w : List ℕ). WritesExactly limit l form out (placed w out))

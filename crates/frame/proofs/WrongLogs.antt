@@ -10,12 +10,12 @@ use Rattle.base.specs.Sums.{total}
 use Rattle.frame.specs.Wire.{frameLimit, stuff, unstuff}
 use Rattle.frame.specs.Frames.{Found, found, framesOf, frontBody, startsWith, candidate, sumHolds, isGood, here}
 use Rattle.frame.specs.Frames.{framesFrom}
-use Rattle.frame.specs.Logs.{Entry, stream, handedOut, Account, Accounts, Chains}
-use Rattle.frame.specs.Claims.{Demand3}
+use Rattle.frame.specs.Logs.{Entry, stream, delivered, Account, Accounts, Chains}
+use Rattle.frame.specs.Claims.{StreamCorrect}
 use Rattle.frame.specs.WrongLogs.{heartbeat, WrongLogsRefused}
 
 -- the account of a list's first call
-first : {limit : ℕ} {e : Entry} {es : List Entry} → Demand3 limit (e ∷ es) → Account 0 e
+first : {limit : ℕ} {e : Entry} {es : List Entry} → StreamCorrect limit (e ∷ es) → Account 0 e
 unfolding Accounts
 first d = d .accounts .0
 
@@ -30,18 +30,18 @@ unfolding total stuff unstuff startsWith candidate sumHolds isGood here framesFr
 none = refl
 
 pub wrong-logs : WrongLogsRefused
-unfolding among stream handedOut Accounts Chains
+unfolding among stream delivered Accounts Chains
 wrong-logs limit r q =
     record {
-      given-clean = λ d. true≢false (sym (first d .given-row _ refl));
-      given-open = λ d. true≢false (sym (first d .given-row _ refl));
-      given-state = λ d. true≢false (sym (first d .given-row _ refl));
-      given-other = λ bytes v k h d. true≢false (sym (first d .given-row bytes refl) ∙ h);
-      asked-more = λ d. true≢false (sym (first d .asked-row refl));
-      asked-frame = λ d. true≢false (sym (first d .asked-row refl));
-      asked-state = λ d. true≢false (sym (first d .asked-row refl));
-      asked-99 = λ d. true≢false (sym (first d .asked-row refl));
-      asked-other = λ v k h d. true≢false (sym (first d .asked-row refl) ∙ h);
+      feed-clean = λ d. true≢false (sym (first d .feed-row _ refl));
+      feed-open = λ d. true≢false (sym (first d .feed-row _ refl));
+      feed-state = λ d. true≢false (sym (first d .feed-row _ refl));
+      feed-other = λ bytes v k h d. true≢false (sym (first d .feed-row bytes refl) ∙ h);
+      finish-more = λ d. true≢false (sym (first d .finish-row refl));
+      finish-frame = λ d. true≢false (sym (first d .finish-row refl));
+      finish-state = λ d. true≢false (sym (first d .finish-row refl));
+      finish-99 = λ d. true≢false (sym (first d .finish-row refl));
+      finish-other = λ v k h d. true≢false (sym (first d .finish-row refl) ∙ h);
       too-many = λ d. omega (arith, first d .within);
       more-one = λ d. omega (arith, first d .all refl);
       more-none = λ d. omega (arith, first d .all refl);
@@ -53,11 +53,11 @@ wrong-logs limit r q =
       used-not = λ bytes h d. omega (arith, first d .unused (λ e. omega arith));
       used-takes = λ bytes d. omega (arith, first d .used-none refl);
       used-changes = λ bytes n d. n (first d .used-kept refl);
-      asked-length = λ d. omega (arith, first d .asked refl);
-      asked-changes = λ n d. n (first d .asked-kept refl);
+      finish-length = λ d. omega (arith, first d .finished refl);
+      finish-changes = λ n d. n (first d .finish-kept refl);
       not-fresh = λ n d. n (d .chains .0);
       not-chained = λ n d. n (d .chains .1 .0);
-      counts-anew = λ d. omega (arith, d .accounts .1 .0 .asked refl);
+      counts-anew = λ d. omega (arith, d .accounts .1 .0 .finished refl);
       no-frame = λ d. cons≢nil (d .frames ∙ none);
       passed-over = λ d. cons≢nil (sym (d .frames ∙ one-frame));
       other-start = λ d.

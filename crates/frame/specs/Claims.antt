@@ -9,17 +9,17 @@ use Rattle.frame.specs.Wire.{stuff, unstuff, wire, commandOf, numberOf, 
 use Rattle.frame.specs.Frames.{Found, Lists, framesOf, frontBody}
 use Rattle.base.specs.Rows.{row}
 use Rattle.frame.specs.State.{State, stateOf}
-use Rattle.frame.specs.Table.{rowOf, endRowOf, writtenRowOf, countOf}
+use Rattle.frame.specs.Table.{rowOf, finishRowOf, writeRowOf, countOf}
 use Rattle.frame.specs.Rules.{inRangeOf}
-use Rattle.base.specs.Outcomes.{reply}
+use Rattle.base.specs.Outcomes.{outcome}
 use Rattle.frame.specs.Calls.{freshOf, feedOf, finishOf}
-use Rattle.frame.specs.Lines.{Line, Answers, linesOf, IsOpen}
-use Rattle.frame.specs.Logs.{Call, Entry, logOf, stateAfter, takenIn, stream, handedOut, Accounts, OffersFront}
+use Rattle.frame.specs.Decisions.{Decision, ListsDecisions, decisionsOf, IsOpen}
+use Rattle.frame.specs.Logs.{Call, Entry, logOf, stateAfter, consumedIn, stream, delivered, Accounts, OffersFront}
 use Rattle.frame.specs.Logs.{send, joined, Chains}
-use Rattle.frame.specs.declared.reader.Answer.{Answer}
-use Rattle.frame.specs.declared.reader.Ending.{Ending}
+use Rattle.frame.specs.declared.reader.FeedResult.{FeedResult}
+use Rattle.frame.specs.declared.reader.FinishResult.{FinishResult}
 use Rattle.frame.specs.declared.reader.Reader.{Reader}
-use Rattle.frame.specs.declared.writer.Written.{Written}
+use Rattle.frame.specs.declared.writer.WriteResult.{WriteResult}
 
 -- ---- stuffed-form: "No two neighbouring bytes of a stuffed body are both FF, and it never ends in FF.
 -- It is at most twice as long as the body."
@@ -60,45 +60,45 @@ pub record Front (sent : List ℕ) (log : List Entry) : Type 0 where
   pub front : sent ≡ stream log ++ rest
   pub whole : length (stream log) ≡ length sent → stream log ≡ sent
 
--- ---- demand-3: "a single claim about the whole list of calls". What each line of it refuses is `wrong-logs`
-pub record Demand3 (limit : ℕ) (log : List Entry) : Type 0 where
-  pub frames : handedOut log ≡ framesOf limit (stream log)
-  pub lists : Lists limit (stream log) (handedOut log)
+-- ---- stream-correct: "a single claim about the whole list of calls". What each line of it refuses is `wrong-logs`
+pub record StreamCorrect (limit : ℕ) (log : List Entry) : Type 0 where
+  pub frames : delivered log ≡ framesOf limit (stream log)
+  pub lists : Lists limit (stream log) (delivered log)
   pub accounts : Accounts 0 log
   pub chains : Chains (freshOf limit) log
   pub again : (sent : List ℕ) → OffersFront sent log → Front sent log  -- "where they always come again first"
 
 -- of every list of calls of a fresh reader
-abbrev pub Demand3s : Type 0
-Demand3s = (limit : ℕ) → limit ≤ widest → (calls : List Call) → Demand3 limit (logOf limit (freshOf limit) calls)
+abbrev pub StreamsCorrect : Type 0
+StreamsCorrect = (limit : ℕ) → limit ≤ widest → (calls : List Call) → StreamCorrect limit (logOf limit (freshOf limit) calls)
 
--- ---- each-line: "Given exactly when": FRAME and the refused frames are the table's lines over the stream,
+-- ---- each-decision: "Given exactly when": FRAME and the refused frames are the table's lines over the stream,
 -- whatever calls took it
-abbrev pub EachLine : Type 0
-EachLine =
+abbrev pub EachDecision : Type 0
+EachDecision =
     (limit : ℕ) → limit ≤ widest → (calls : List Call)
-    → Answers limit (stream (logOf limit (freshOf limit) calls)) (linesOf (logOf limit (freshOf limit) calls))
+    → ListsDecisions limit (stream (logOf limit (freshOf limit) calls)) (decisionsOf (logOf limit (freshOf limit) calls))
 
 -- ---- no-header-lost: each header that no FF follows has its line, or its frame is still open
 abbrev pub NoHeaderLost : Type 0
 NoHeaderLost =
     (limit : ℕ) → limit ≤ widest → (calls : List Call) (before after : List ℕ) (x : ℕ)
     → stream (logOf limit (freshOf limit) calls) ≡ before ++ 255 ∷ 255 ∷ x ∷ after → x ≢ 255
-    → ((l : Line) × (l .start ≡ length before) × List·Memᴰ l (linesOf (logOf limit (freshOf limit) calls)))
+    → ((l : Decision) × (l .start ≡ length before) × List·Memᴰ l (decisionsOf (logOf limit (freshOf limit) calls)))
     ⊎ IsOpen limit (stream (logOf limit (freshOf limit) calls)) (length before)
 
--- ---- end-told: an end asked after any calls is OPEN with the start of the frame that is open in the stream,
+-- ---- finish-correct: an end asked after any calls is OPEN with the start of the frame that is open in the stream,
 -- or CLEAN where none is
-pub record EndTold (limit : ℕ) (taken : List ℕ) (r : State) : Type 0 where
+pub record FinishCorrect (limit : ℕ) (consumed : List ℕ) (r : State) : Type 0 where
   pub left-open : (start : ℕ)
-      → IsOpen limit taken start → finishOf limit r ≡ reply (row 16 (length taken ∷ start ∷ [])) r
-  pub left-clean : ((start : ℕ) → IsOpen limit taken start → ⊥) → finishOf limit r ≡ reply (row 2 (length taken ∷ [])) r
+      → IsOpen limit consumed start → finishOf limit r ≡ outcome (row 16 (length consumed ∷ start ∷ [])) r
+  pub left-clean : ((start : ℕ) → IsOpen limit consumed start → ⊥) → finishOf limit r ≡ outcome (row 2 (length consumed ∷ [])) r
 
 -- after every list of calls of a fresh reader
-abbrev pub EndsTold : Type 0
-EndsTold =
+abbrev pub FinishesCorrect : Type 0
+FinishesCorrect =
     (limit : ℕ) → limit ≤ widest → (calls : List Call)
-    → EndTold limit (stream (logOf limit (freshOf limit) calls)) (stateAfter limit (freshOf limit) calls)
+    → FinishCorrect limit (stream (logOf limit (freshOf limit) calls)) (stateAfter limit (freshOf limit) calls)
 
 -- ---- one-list: `Lists` and the equation with `framesOf` say the same, since a stream has one such list
 abbrev pub OneList : Type 0
@@ -114,24 +114,24 @@ Within = (limit : ℕ) (r : State) (bytes : List ℕ) → countOf (feedOf limit 
 abbrev pub Progress : Type 0
 Progress =
     (limit : ℕ) (r : State) (bytes : List ℕ)
-    → inRangeOf limit (r .scan) ≡ true → r .scan .taken + length bytes ≤ 2 ^ 62 → 1 ≤ length bytes
+    → inRangeOf limit (r .scan) ≡ true → r .scan .consumed + length bytes ≤ 2 ^ 62 → 1 ≤ length bytes
     → 1 ≤ countOf (feedOf limit r bytes .row)
 
 -- ---- empty-call: "An empty call gives MORE and changes nothing."
 abbrev pub EmptyCall : Type 0
-EmptyCall = (limit : ℕ) (r : State) → inRangeOf limit (r .scan) ≡ true → feedOf limit r [] ≡ reply (row 0 (0 ∷ [])) r
+EmptyCall = (limit : ℕ) (r : State) → inRangeOf limit (r .scan) ≡ true → feedOf limit r [] ≡ outcome (row 0 (0 ∷ [])) r
 
--- ---- rows-tell: two answers of one enum never have the same number and
+-- ---- rows-injective: two answers of one enum never have the same number and
 -- values, so an equation of rows fixes the answer
-pub record RowsTell : Type 0 where
-  pub answers : (a b : Answer) → rowOf a ≡ rowOf b → a ≡ b
-  pub endings : (a b : Ending) → endRowOf a ≡ endRowOf b → a ≡ b
-  pub writings : (a b : Written) → writtenRowOf a ≡ writtenRowOf b → a ≡ b
+pub record RowsInjective : Type 0 where
+  pub answers : (a b : FeedResult) → rowOf a ≡ rowOf b → a ≡ b
+  pub finishes : (a b : FinishResult) → finishRowOf a ≡ finishRowOf b → a ≡ b
+  pub writings : (a b : WriteResult) → writeRowOf a ≡ writeRowOf b → a ≡ b
 
--- ---- states-told: two readers never have the same state,
+-- ---- states-injective: two readers never have the same state,
 -- so an equation of states fixes every field and byte of the reader
-abbrev pub StatesTold : Type 0
-StatesTold = (a b : Reader) → stateOf a ≡ stateOf b → a ≡ b
+abbrev pub StatesInjective : Type 0
+StatesInjective = (a b : Reader) → stateOf a ≡ stateOf b → a ≡ b
 
 -- ---- never-state: "no state reached from a fresh one gets it"
 abbrev pub NeverState : Type 0
@@ -166,10 +166,10 @@ pub record ReadBack (start command number flags : ℕ) (payload : List ℕ) (log
   pub late : List Entry
   pub parts : log ≡ early ++ last ∷ late
   pub nothing-later : stream late ≡ []
-  pub some-taken : 1 ≤ takenIn last
+  pub some-consumed : 1 ≤ consumedIn last
   pub frame :
       last .row
-      ≡ row 1 (takenIn last ∷ start ∷ (start + length (wire (bodyOf command number flags payload))) ∷ [])
+      ≡ row 1 (consumedIn last ∷ start ∷ (start + length (wire (bodyOf command number flags payload))) ∷ [])
   pub body : frontBody (last .after .body) ≡ bodyOf command number flags payload
   pub command-is : commandOf (last .after .body) ≡ command
   pub number-is : numberOf (last .after .body) ≡ number
@@ -198,7 +198,7 @@ ReadAnywhere =
       end = length before + length (wire (bodyOf command number flags payload));
       body = bodyOf command number flags payload;
     })
-    (handedOut (logOf limit (freshOf limit) calls))
+    (delivered (logOf limit (freshOf limit) calls))
 
 -- ---- log-chains: the state before a call is the one that the call before it left, and the first is the reader's own
 abbrev pub LogChains : Type 0
@@ -208,12 +208,12 @@ LogChains = (limit : ℕ) (r : State) (calls : List Call) → Chains r (logOf li
 abbrev pub StateKept : Type 0
 StateKept =
     (limit : ℕ) (r : State) (bytes : List ℕ) → inRangeOf limit (r .scan) ≡ false
-    → (feedOf limit r bytes ≡ reply (row 17 (0 ∷ [])) r) × (finishOf limit r ≡ reply (row 17 (0 ∷ [])) r)
+    → (feedOf limit r bytes ≡ outcome (row 17 (0 ∷ [])) r) × (finishOf limit r ≡ outcome (row 17 (0 ∷ [])) r)
 
--- ---- asked-keeps: an end asked leaves every reader as it was
-abbrev pub AskedKeeps : Type 0
-AskedKeeps = (limit : ℕ) (r : State) → finishOf limit r .state ≡ r
+-- ---- finish-keeps: an end asked leaves every reader as it was
+abbrev pub FinishKeeps : Type 0
+FinishKeeps = (limit : ℕ) (r : State) → finishOf limit r .state ≡ r
 
--- ---- one-answers: a stream has one list of lines, so `Answers` leaves none out, doubles none and orders them
-abbrev pub OneAnswers : Type 0
-OneAnswers = (limit : ℕ) (t : List ℕ) (a b : List Line) → Answers limit t a → Answers limit t b → a ≡ b
+-- ---- one-decisions: a stream has one list of lines, so `ListsDecisions` leaves none out, doubles none and orders them
+abbrev pub OneDecisions : Type 0
+OneDecisions = (limit : ℕ) (t : List ℕ) (a b : List Decision) → ListsDecisions limit t a → ListsDecisions limit t b → a ≡ b

@@ -6,7 +6,7 @@ pub mod Table
 pub mod Rules
 pub mod Calls
 pub mod Logs
-pub mod Lines
+pub mod Decisions
 pub mod Claims
 pub mod Named
 pub mod Ranges

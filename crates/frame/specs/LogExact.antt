@@ -3,10 +3,10 @@ use Prim.Native.Nat.{ℕ}
 use mathlib.Core.Path.{_≡_}
 use mathlib.Core.List.{List, [], _∷_, map, List·Memᴰ}
 use Rattle.base.specs.Rows.{row}
-use Rattle.base.specs.Outcomes.{reply}
+use Rattle.base.specs.Outcomes.{outcome}
 use Rattle.frame.specs.State.{State}
 use Rattle.frame.specs.Calls.{feedOf, finishOf}
-use Rattle.frame.specs.Logs.{Call, give, ask, Entry, logOf, stateAfter, stream, OffersFront, joined}
+use Rattle.frame.specs.Logs.{Call, feed, finish, Entry, logOf, stateAfter, stream, OffersFront, joined}
 use Rattle.frame.specs.WrongLogs.{entry}
 
 -- the call of an entry
@@ -16,8 +16,8 @@ callIn e = e .call
 -- what an entry says the call was answered, and left
 abbrev pub Answered : ℕ → Entry → Type 0
 Answered limit e =
-    ((bytes : List ℕ) → e .call ≡ give bytes → reply (e .row) (e .after) ≡ feedOf limit (e .before) bytes)
-    × (e .call ≡ ask → reply (e .row) (e .after) ≡ finishOf limit (e .before))
+    ((bytes : List ℕ) → e .call ≡ feed bytes → outcome (e .row) (e .after) ≡ feedOf limit (e .before) bytes)
+    × (e .call ≡ finish → outcome (e .row) (e .after) ≡ finishOf limit (e .before))
 
 -- the reader that the last entry leaves, or the first one where there is no entry
 unfoldable pub lastOf : State → List Entry → State
@@ -39,15 +39,15 @@ LogsExact = (limit : ℕ) (r : State) (calls : List Call) → LogExact limit r c
 -- what is offered again, and what is not
 pub record WorkedLogs (r : State) : Type 0 where
   pub pieces : joined ((1 ∷ 2 ∷ []) ∷ [] ∷ (3 ∷ []) ∷ []) ≡ 1 ∷ 2 ∷ 3 ∷ []
-  pub taken : stream
-      (entry (give (1 ∷ 2 ∷ [])) (row 11 (1 ∷ 0 ∷ 1 ∷ [])) r r ∷ entry ask (row 2 (1 ∷ [])) r r
-      ∷ entry (give (2 ∷ 3 ∷ [])) (row 0 (2 ∷ [])) r r ∷ [])
+  pub consumed : stream
+      (entry (feed (1 ∷ 2 ∷ [])) (row 11 (1 ∷ 0 ∷ 1 ∷ [])) r r ∷ entry finish (row 2 (1 ∷ [])) r r
+      ∷ entry (feed (2 ∷ 3 ∷ [])) (row 0 (2 ∷ [])) r r ∷ [])
       ≡ 1 ∷ 2 ∷ 3 ∷ []
   pub again : OffersFront (1 ∷ 2 ∷ 3 ∷ 4 ∷ [])
-      (entry (give (1 ∷ 2 ∷ [])) (row 11 (1 ∷ 0 ∷ 1 ∷ [])) r r ∷ entry ask (row 2 (1 ∷ [])) r r
-      ∷ entry (give (2 ∷ 3 ∷ [])) (row 0 (2 ∷ [])) r r ∷ [])
+      (entry (feed (1 ∷ 2 ∷ [])) (row 11 (1 ∷ 0 ∷ 1 ∷ [])) r r ∷ entry finish (row 2 (1 ∷ [])) r r
+      ∷ entry (feed (2 ∷ 3 ∷ [])) (row 0 (2 ∷ [])) r r ∷ [])
   pub not-again : OffersFront (1 ∷ 2 ∷ 3 ∷ [])
-      (entry (give (1 ∷ 2 ∷ [])) (row 11 (1 ∷ 0 ∷ 1 ∷ [])) r r ∷ entry (give (3 ∷ [])) (row 0 (1 ∷ [])) r r ∷ [])
+      (entry (feed (1 ∷ 2 ∷ [])) (row 11 (1 ∷ 0 ∷ 1 ∷ [])) r r ∷ entry (feed (3 ∷ [])) (row 0 (1 ∷ [])) r r ∷ [])
       → ⊥
 
 -- of any state

@@ -5,11 +5,11 @@ use mathlib.Core.Path.{_≡_}
 use mathlib.Core.Bool.{true, false}
 use mathlib.Core.List.{List, [], _∷_}
 use Rattle.base.specs.Rows.{row}
-use Rattle.base.specs.Outcomes.{Write, Reply}
+use Rattle.base.specs.Outcomes.{Output, Outcome}
 use Rattle.frame.specs.State.{Idle, Half, Header, Open, Escape, State, phaseOf, stateOf}
-use Rattle.frame.specs.Table.{eventRow, rowOf, endRowOf, writtenRowOf, countOf}
+use Rattle.frame.specs.Table.{eventRow, rowOf, finishRowOf, writeRowOf, countOf}
 use Rattle.frame.specs.Rules.{decidesOf}
-use Rattle.frame.specs.Calls.{replyOf, endingOf, Writes}
+use Rattle.frame.specs.Calls.{fedOf, finishedOf, Writes}
 use Rattle.frame.specs.declared.place.WirePlace.{WirePlace}
 use Rattle.frame.specs.declared.scan.Phase.the-variants as phase
 use Rattle.frame.specs.declared.scan.Verdict.{Verdict}
@@ -18,10 +18,10 @@ use Rattle.frame.specs.declared.scan.Event.the-variants as event
 use Rattle.frame.specs.declared.reader.Reader.{Reader}
 use Rattle.frame.specs.declared.reader.Fed.{Fed}
 use Rattle.frame.specs.declared.reader.Finished.{Finished}
-use Rattle.frame.specs.declared.reader.Answer.the-variants as answer
-use Rattle.frame.specs.declared.reader.Ending.the-variants as ending
-use Rattle.frame.specs.declared.writer.Written.{Written}
-use Rattle.frame.specs.declared.writer.Written.the-variants as written
+use Rattle.frame.specs.declared.reader.FeedResult.the-variants as answer
+use Rattle.frame.specs.declared.reader.FinishResult.the-variants as ending
+use Rattle.frame.specs.declared.writer.WriteResult.{WriteResult}
+use Rattle.frame.specs.declared.writer.WriteResult.the-variants as written
 
 -- a place on the wire
 abbrev pub wirePlace : ℕ → WirePlace
@@ -38,16 +38,16 @@ pub record NamedRows : Type 0 where
   pub sum : (c s e : ℕ) → rowOf (answer.Decided c (wirePlace s) (wirePlace e) verdict.Sum) ≡ row 15 (c ∷ s ∷ e ∷ [])
   pub state : rowOf answer.State ≡ row 17 (0 ∷ [])
   pub used : rowOf answer.Used ≡ row 18 (0 ∷ [])
-  pub clean : (n : ℕ) → endRowOf (ending.Clean (wirePlace n)) ≡ row 2 (n ∷ [])
-  pub left-open : (n s : ℕ) → endRowOf (ending.Open (wirePlace n) (wirePlace s)) ≡ row 16 (n ∷ s ∷ [])
-  pub end-state : endRowOf ending.State ≡ row 17 (0 ∷ [])
-  pub wrote : (c : ℕ) → writtenRowOf (written.Wrote c) ≡ row 0 (c ∷ [])
-  pub payload : writtenRowOf written.Payload ≡ row 21 (0 ∷ [])
-  pub room : writtenRowOf written.Room ≡ row 22 (0 ∷ [])
+  pub clean : (n : ℕ) → finishRowOf (ending.Clean (wirePlace n)) ≡ row 2 (n ∷ [])
+  pub left-open : (n s : ℕ) → finishRowOf (ending.Open (wirePlace n) (wirePlace s)) ≡ row 16 (n ∷ s ∷ [])
+  pub end-state : finishRowOf ending.State ≡ row 17 (0 ∷ [])
+  pub wrote : (c : ℕ) → writeRowOf (written.Wrote c) ≡ row 0 (c ∷ [])
+  pub payload : writeRowOf written.Payload ≡ row 21 (0 ∷ [])
+  pub room : writeRowOf written.Room ≡ row 22 (0 ∷ [])
   -- a raw byte that decides nothing, and one that decides
   pub quiet : (c s e : ℕ) → eventRow event.Quiet c s e ≡ row 0 (c ∷ [])
   pub decides : (c s e : ℕ) → eventRow (event.Decided verdict.Short) c s e ≡ row 11 (c ∷ s ∷ e ∷ [])
-  pub quiet-goes-on : decidesOf event.Quiet ≡ false
+  pub quiet-continues : decidesOf event.Quiet ≡ false
   pub decided-stops : (v : Verdict) → decidesOf (event.Decided v) ≡ true
   -- the count is the first value
   pub count : (k c : ℕ) (v : List ℕ) → countOf (row k (c ∷ v)) ≡ c
@@ -58,9 +58,9 @@ someReader =
     record {
       scan = record {
         phase = phase.Open;
-        taken = record { 0 = 9 };
+        consumed = record { 0 = 9 };
         start = record { 0 = 4 };
-        have = record { 0 = 3 };
+        filled = record { 0 = 3 };
         length = 5;
         sum = 12;
       };
@@ -75,20 +75,20 @@ pub record NamedStates : Type 0 where
   pub open-frame : phaseOf phase.Open ≡ Open
   pub escape : phaseOf phase.Escape ≡ Escape
   pub any-reader : (r : Reader) → (stateOf r .scan .phase ≡ phaseOf (r .scan .phase))
-      × (stateOf r .scan .taken ≡ r .scan .taken .0) × (stateOf r .scan .start ≡ r .scan .start .0)
-      × (stateOf r .scan .have ≡ r .scan .have .0) × (stateOf r .scan .length ≡ r .scan .length)
+      × (stateOf r .scan .consumed ≡ r .scan .consumed .0) × (stateOf r .scan .start ≡ r .scan .start .0)
+      × (stateOf r .scan .filled ≡ r .scan .filled .0) × (stateOf r .scan .length ≡ r .scan .length)
       × (stateOf r .scan .sum ≡ r .scan .sum) × (stateOf r .body ≡ r .body)
   pub reader : stateOf someReader
       ≡ record {
-        scan = record { phase = Open; taken = 9; start = 4; have = 3; length = 5; sum = 12 };
+        scan = record { phase = Open; consumed = 9; start = 4; filled = 3; length = 5; sum = 12 };
         body = 0 ∷ 5 ∷ 7 ∷ [];
       }
 
--- ---- contracts-whole: the contracts' equations fix the answer and all that is left, each by itself
-pub record ContractsWhole : Type 0 where
-  pub fed : (f : Fed) (y : Reply State)
-      → replyOf f ≡ y → (rowOf (f .answer) ≡ y .row) × (stateOf (f .reader) ≡ y .state)
-  pub finished : (f : Finished) (y : Reply State)
-      → endingOf f ≡ y → (endRowOf (f .answer) ≡ y .row) × (stateOf (f .reader) ≡ y .state)
-  pub written : (r : Written) (after : List ℕ) (w : Write)
-      → Writes r after w → (writtenRowOf r ≡ w .row) × (after ≡ w .out)
+-- ---- contracts-complete: the contracts' equations fix the answer and all that is left, each by itself
+pub record ContractsComplete : Type 0 where
+  pub fed : (f : Fed) (y : Outcome State)
+      → fedOf f ≡ y → (rowOf (f .answer) ≡ y .row) × (stateOf (f .reader) ≡ y .state)
+  pub finished : (f : Finished) (y : Outcome State)
+      → finishedOf f ≡ y → (finishRowOf (f .answer) ≡ y .row) × (stateOf (f .reader) ≡ y .state)
+  pub written : (r : WriteResult) (after : List ℕ) (w : Output)
+      → Writes r after w → (writeRowOf r ≡ w .row) × (after ≡ w .out)

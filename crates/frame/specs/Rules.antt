@@ -14,39 +14,39 @@ use Rattle.frame.specs.State.{Phase, Idle, Half, Header, Open, Escape, S
 -- ---- states
 
 -- the most bytes that may be taken in all
-abbrev pub mostTaken : ℕ
-mostTaken = 2 ^ 62
+abbrev pub maxConsumed : ℕ
+maxConsumed = 2 ^ 62
 
 -- the most bytes of a body that may be there
-abbrev pub mostHave : ℕ → ℕ
-mostHave limit = limit + 1
+abbrev pub maxFilled : ℕ → ℕ
+maxFilled limit = limit + 1
 
 -- row 17: the ranges of docs/STATES.md
 abbrev pub inRangeOf : ℕ → Scan → Bool
-inRangeOf limit s = leb (s .taken) mostTaken && leb (s .have) (mostHave limit)
+inRangeOf limit s = leb (s .consumed) maxConsumed && leb (s .filled) (maxFilled limit)
 
 -- what the byte rules ask of their caller: the state and the limit are in range, and n bytes more may be taken
 pub record Ready (limit : ℕ) (s : Scan) (n : ℕ) : Type 0 where
-  pub room : s .taken + n ≤ 2 ^ 62
-  pub inside : s .have ≤ limit + 1
+  pub room : s .consumed + n ≤ 2 ^ 62
+  pub inside : s .filled ≤ limit + 1
   pub small : limit ≤ widest
 
 -- no frame is open, and the last raw byte is no FF
 abbrev pub closedOf : ℕ → Scan
-closedOf taken = record { phase = Idle; taken = taken; start = 0; have = 0; length = 0; sum = 0 }
+closedOf consumed = record { phase = Idle; consumed = consumed; start = 0; filled = 0; length = 0; sum = 0 }
 
 -- the same, and the last raw byte is FF
 abbrev pub halfOf : ℕ → Scan
-halfOf taken = record { phase = Half; taken = taken; start = 0; have = 0; length = 0; sum = 0 }
+halfOf consumed = record { phase = Half; consumed = consumed; start = 0; filled = 0; length = 0; sum = 0 }
 
 -- "the frame's start is the first of the two": the one before the FF at place last
 abbrev pub headerOf : ℕ → ℕ → Scan
-headerOf last taken = record { phase = Header; taken = taken; start = last - 1; have = 0; length = 0; sum = 0 }
+headerOf last consumed = record { phase = Header; consumed = consumed; start = last - 1; filled = 0; length = 0; sum = 0 }
 
 -- "an FF other than the header's waits for its successor"
 abbrev pub escapeOf : Scan → ℕ → Scan
-escapeOf s taken =
-    record { phase = Escape; taken = taken; start = s .start; have = s .have; length = s .length; sum = s .sum }
+escapeOf s consumed =
+    record { phase = Escape; consumed = consumed; start = s .start; filled = s .filled; length = s .length; sum = s .sum }
 
 -- ---- one raw byte
 
@@ -56,7 +56,7 @@ silentOf s e = record { scan = s; put = false; byte = 0; event = e }
 
 -- "except after CUT, where the new one is": the header that refuses an open frame opens the next
 abbrev pub cutOf : ℕ → ℕ → Step
-cutOf last taken = silentOf (headerOf last taken) (Decided Cut)
+cutOf last consumed = silentOf (headerOf last consumed) (Decided Cut)
 
 -- the byte v goes to the body
 abbrev pub storedOf : Scan → ℕ → Event → Step
@@ -68,9 +68,9 @@ grownOf s l v =
     storedOf
     (record {
       phase = Open;
-      taken = s .taken + 1;
+      consumed = s .consumed + 1;
       start = s .start;
-      have = s .have + 1;
+      filled = s .filled + 1;
       length = l;
       sum = (s .sum + v) % 2 ^ 8;
     })
@@ -78,7 +78,7 @@ grownOf s l v =
 
 -- "After FRAME or a refused frame no frame is open": here with the body byte v
 abbrev pub endedOf : Scan → ℕ → Verdict → Step
-endedOf s v w = storedOf (closedOf (s .taken + 1)) v (Decided w)
+endedOf s v w = storedOf (closedOf (s .consumed + 1)) v (Decided w)
 
 -- FRAME or SUM: the body is complete with v
 abbrev pub completedOf : Scan → ℕ → Step
@@ -92,19 +92,19 @@ measuredOf limit s l v = cond (ltb l 5) (endedOf s v Short) (cond (ltb limit l) 
 -- names a length above the limit, the sum comes behind limit + 1 bytes; no state reached from a fresh one is there.
 abbrev pub bodyByteOf : ℕ → Scan → ℕ → Step
 bodyByteOf limit s v =
-    cond (eqb (s .have) 0) (grownOf s v v)
-    (cond (eqb (s .have) 1) (measuredOf limit s (s .length * 256 + v) v)
-    (cond (ltb (s .length) (s .have)) (completedOf s v)
-    (cond (ltb limit (s .have)) (completedOf s v) (grownOf s (s .length) v))))
+    cond (eqb (s .filled) 0) (grownOf s v v)
+    (cond (eqb (s .filled) 1) (measuredOf limit s (s .length * 256 + v) v)
+    (cond (ltb (s .length) (s .filled)) (completedOf s v)
+    (cond (ltb limit (s .filled)) (completedOf s v) (grownOf s (s .length) v))))
 
 -- "A raw FF directly behind a raw FF makes a header, always, in each phase".
 -- In an open frame, behind an FF that waits, that is CUT.
 abbrev pub onFFIn : Phase → Scan → Step
-onFFIn Idle s = silentOf (halfOf (s .taken + 1)) Quiet
-onFFIn Half s = silentOf (headerOf (s .taken) (s .taken + 1)) Quiet
-onFFIn Header s = silentOf (headerOf (s .taken) (s .taken + 1)) Quiet
-onFFIn Open s = silentOf (escapeOf s (s .taken + 1)) Quiet
-onFFIn Escape s = cutOf (s .taken) (s .taken + 1)
+onFFIn Idle s = silentOf (halfOf (s .consumed + 1)) Quiet
+onFFIn Half s = silentOf (headerOf (s .consumed) (s .consumed + 1)) Quiet
+onFFIn Header s = silentOf (headerOf (s .consumed) (s .consumed + 1)) Quiet
+onFFIn Open s = silentOf (escapeOf s (s .consumed + 1)) Quiet
+onFFIn Escape s = cutOf (s .consumed) (s .consumed + 1)
 
 -- a raw FF
 abbrev pub onFFOf : Scan → Step
@@ -116,12 +116,12 @@ outsideOf last e = silentOf (closedOf (last + 1)) e
 
 -- Behind an FF that waits, "55 gives one body byte FF", "another byte breaks the stuffing".
 abbrev pub onEscapedOf : ℕ → Scan → ℕ → Step
-onEscapedOf limit s x = cond (eqb x 85) (bodyByteOf limit s 255) (outsideOf (s .taken) (Decided Stuff))
+onEscapedOf limit s x = cond (eqb x 85) (bodyByteOf limit s 255) (outsideOf (s .consumed) (Decided Stuff))
 
 -- a raw byte other than FF, by phase. "With no frame open, other bytes are passed over in silence."
 abbrev pub onOtherIn : Phase → ℕ → Scan → ℕ → Step
-onOtherIn Idle limit s x = outsideOf (s .taken) Quiet
-onOtherIn Half limit s x = outsideOf (s .taken) Quiet
+onOtherIn Idle limit s x = outsideOf (s .consumed) Quiet
+onOtherIn Half limit s x = outsideOf (s .consumed) Quiet
 onOtherIn Header limit s x = bodyByteOf limit s x
 onOtherIn Open limit s x = bodyByteOf limit s x
 onOtherIn Escape limit s x = onEscapedOf limit s x

@@ -5,7 +5,7 @@ use mathlib.Core.Logic.{_≢_}
 use mathlib.Core.List.{List, [], _∷_, _++_}
 use lib.ListN.{length, take}
 use Rattle.base.specs.Sums.{total}
-use Rattle.frame.specs.Wire.{stuff, wire, lengthOf, commandOf, numberOf, flagsOf, payloadOf, joinedParts, Good}
+use Rattle.frame.specs.Wire.{stuff, wire, lengthOf, commandOf, numberOf, flagsOf, payloadOf, joinedChunks, Good}
 
 -- ---- body-layout: a body by its bytes. Its first six are b0 to b5; in a good one, a payload p and the sum s follow
 --
@@ -47,11 +47,11 @@ pub record Stuffing (x : ℕ) (xs : List ℕ) : Type 0 where
 abbrev pub StuffsEach : Type 0
 StuffsEach = (x : ℕ) (xs : List ℕ) → Stuffing x xs
 
--- ---- parts-joined: a payload's three parts, in their order
-pub record PartsJoined (a b c : List ℕ) : Type 0 where
-  pub worked : joinedParts (1 ∷ []) (2 ∷ 3 ∷ []) (4 ∷ []) ≡ 1 ∷ 2 ∷ 3 ∷ 4 ∷ []
-  pub in-order : joinedParts a b c ≡ (a ++ b) ++ c
+-- ---- chunks-joined: a payload's three parts, in their order
+pub record ChunksJoined (a b c : List ℕ) : Type 0 where
+  pub worked : joinedChunks (1 ∷ []) (2 ∷ 3 ∷ []) (4 ∷ []) ≡ 1 ∷ 2 ∷ 3 ∷ 4 ∷ []
+  pub in-order : joinedChunks a b c ≡ (a ++ b) ++ c
 
 -- of any parts
-abbrev pub AllPartsJoined : Type 0
-AllPartsJoined = (a b c : List ℕ) → PartsJoined a b c
+abbrev pub AllChunksJoined : Type 0
+AllChunksJoined = (a b c : List ℕ) → ChunksJoined a b c

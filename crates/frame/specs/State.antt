@@ -1,5 +1,5 @@
 -- The reader's state in the specification's own terms: where it stands, and all bytes that it keeps for a body.
--- Where the code keeps them is a matter of its contracts, which map its values to these one-to-one (`states-told`).
+-- Where the code keeps them is a matter of its contracts, which map its values to these one-to-one (`states-injective`).
 -- docs/STATES.md has each field's range.
 use Prim.Native.Nat.{ℕ}
 use mathlib.Core.Bool.{Bool}
@@ -19,13 +19,13 @@ pub data Phase : Type 0 where
   Open : Phase  -- a frame is open, and the last raw byte is no FF
   Escape : Phase  -- a frame is open, and an FF other than its header's waits for its successor
 
--- `taken` and `start` are places on the wire, `have` is a place in the body:
+-- `consumed` and `start` are places on the wire, `filled` is a place in the body:
 -- "places on the wire and places in the body are counted apart"
 pub record Scan : Type 0 where
   pub phase : Phase
-  pub taken : ℕ
+  pub consumed : ℕ
   pub start : ℕ
-  pub have : ℕ
+  pub filled : ℕ
   pub length : ℕ
   pub sum : ℕ
 
@@ -56,9 +56,9 @@ abbrev pub scanOf : CodeScan → Scan
 scanOf s =
     record {
       phase = phaseOf (s .phase);
-      taken = s .taken .0;
+      consumed = s .consumed .0;
       start = s .start .0;
-      have = s .have .0;
+      filled = s .filled .0;
       length = s .length;
       sum = s .sum;
     }

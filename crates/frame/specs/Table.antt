@@ -7,12 +7,12 @@ use Rattle.frame.specs.declared.scan.Verdict.{Verdict}
 use Rattle.frame.specs.declared.scan.Verdict.the-variants as verdict
 use Rattle.frame.specs.declared.scan.Event.{Event}
 use Rattle.frame.specs.declared.scan.Event.the-variants as event
-use Rattle.frame.specs.declared.reader.Answer.{Answer}
-use Rattle.frame.specs.declared.reader.Answer.the-variants as answer
-use Rattle.frame.specs.declared.reader.Ending.{Ending}
-use Rattle.frame.specs.declared.reader.Ending.the-variants as ending
-use Rattle.frame.specs.declared.writer.Written.{Written}
-use Rattle.frame.specs.declared.writer.Written.the-variants as written
+use Rattle.frame.specs.declared.reader.FeedResult.{FeedResult}
+use Rattle.frame.specs.declared.reader.FeedResult.the-variants as answer
+use Rattle.frame.specs.declared.reader.FinishResult.{FinishResult}
+use Rattle.frame.specs.declared.reader.FinishResult.the-variants as ending
+use Rattle.frame.specs.declared.writer.WriteResult.{WriteResult}
+use Rattle.frame.specs.declared.writer.WriteResult.the-variants as written
 
 -- a verdict's number: FRAME 1, SHORT 11, LONG 12, STUFF 13, CUT 14, SUM 15
 abbrev pub codeOf : Verdict → ℕ
@@ -33,23 +33,23 @@ eventRow event.Quiet count start end = row 0 (count ∷ [])
 eventRow (event.Decided v) count start end = decidedRow v count start end
 
 -- bytes given: MORE 0, a decided frame, STATE 17, USED 18
-abbrev pub rowOf : Answer → Row
+abbrev pub rowOf : FeedResult → Row
 rowOf (answer.More count) = row 0 (count ∷ [])
 rowOf (answer.Decided count start end v) = decidedRow v count (start .0) (end .0)
 rowOf answer.State = row 17 (0 ∷ [])
 rowOf answer.Used = row 18 (0 ∷ [])
 
 -- an end asked: CLEAN 2, OPEN 16, STATE 17
-abbrev pub endRowOf : Ending → Row
-endRowOf (ending.Clean taken) = row 2 (taken .0 ∷ [])
-endRowOf (ending.Open taken start) = row 16 (taken .0 ∷ start .0 ∷ [])
-endRowOf ending.State = row 17 (0 ∷ [])
+abbrev pub finishRowOf : FinishResult → Row
+finishRowOf (ending.Clean consumed) = row 2 (consumed .0 ∷ [])
+finishRowOf (ending.Open consumed start) = row 16 (consumed .0 ∷ start .0 ∷ [])
+finishRowOf ending.State = row 17 (0 ∷ [])
 
 -- the writer: the count written, which has no number in the table, under 0 (not MORE); PAYLOAD 21, ROOM 22
-abbrev pub writtenRowOf : Written → Row
-writtenRowOf (written.Wrote count) = row 0 (count ∷ [])
-writtenRowOf written.Payload = row 21 (0 ∷ [])
-writtenRowOf written.Room = row 22 (0 ∷ [])
+abbrev pub writeRowOf : WriteResult → Row
+writeRowOf (written.Wrote count) = row 0 (count ∷ [])
+writeRowOf written.Payload = row 21 (0 ∷ [])
+writeRowOf written.Room = row 22 (0 ∷ [])
 
 -- the bytes that an answer to bytes given counts
 abbrev pub countOf : Row → ℕ

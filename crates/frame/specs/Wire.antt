@@ -9,14 +9,14 @@ use Rattle.base.specs.Numbers.{twoAt, two}
 use Rattle.base.specs.Sums.{checksum}
 
 -- the 55 that stands behind a byte, if that byte is an FF
-abbrev pub behind : Bool → List ℕ → List ℕ
-behind true r = 85 ∷ r
-behind false r = r
+abbrev pub stuffAfter : Bool → List ℕ → List ℕ
+stuffAfter true r = 85 ∷ r
+stuffAfter false r = r
 
 -- "Stuffing puts 55 behind each FF of the body, sum included."
 unfoldable pub stuff : List ℕ → List ℕ
 stuff [] = []
-stuff (x ∷ xs) = x ∷ behind (eqb x 255) (stuff xs)
+stuff (x ∷ xs) = x ∷ stuffAfter (eqb x 255) (stuff xs)
 
 -- the stuffed form read back: the byte behind each FF is dropped
 unfoldable pub unstuff : Bool → List ℕ → List ℕ
@@ -66,8 +66,8 @@ abbrev pub frameOf : ℕ → ℕ → ℕ → List ℕ → List ℕ
 frameOf command number flags payload = wire (bodyOf command number flags payload)
 
 -- a payload in three parts, one behind the other
-abbrev pub joinedParts : List ℕ → List ℕ → List ℕ → List ℕ
-joinedParts first second third = first ++ (second ++ third)
+abbrev pub joinedChunks : List ℕ → List ℕ → List ℕ → List ℕ
+joinedChunks first second third = first ++ (second ++ third)
 
 -- the wire form of a body that is given by its first six bytes, its payload and its sum
 abbrev pub framed : List ℕ → List ℕ → ℕ → List ℕ
@@ -77,8 +77,8 @@ framed head payload sum = wire (head ++ (payload ++ sum ∷ []))
 -- bytes; its sum holds if its last byte is the sum."
 pub record Good (limit : ℕ) (b : List ℕ) : Type 0 where
   pub true-length : length b ≡ lengthOf b + 2
-  pub least : 5 ≤ lengthOf b
-  pub most : lengthOf b ≤ limit
+  pub shortest : 5 ≤ lengthOf b
+  pub longest : lengthOf b ≤ limit
   pub sum-holds : getD b (lengthOf b + 1) 0 ≡ checksum (take (lengthOf b + 1) b)
 
 -- "With L from 65,280 the wire would read FF FF FF 55 .. Our limit keeps that away."

@@ -5,7 +5,7 @@ use mathlib.Core.Logic.{_≢_}
 use mathlib.Core.List.{List, [], _∷_, _++_}
 use lib.ListN.{length, getD, take}
 use Rattle.base.specs.Rows.{row}
-use Rattle.base.specs.Outcomes.{Write, outcome}
+use Rattle.base.specs.Outcomes.{Output, output}
 use Rattle.base.specs.Sums.{total}
 use Rattle.frame.specs.Wire.{stuff, commandOf, numberOf, flagsOf, payloadOf, frameLimit}
 use Rattle.frame.specs.Calls.{freshOf, feedOf, writeOf}
@@ -22,7 +22,7 @@ formOf l command number flags payload =
     ∷ (payload ++ sumOf l command number flags payload ∷ []))
 
 -- an answer, and the output that was `out`, of a frame of length l whose bytes on the wire are `form`
-pub record WritesExactly (limit l : ℕ) (form out : List ℕ) (w : Write) : Type 0 where
+pub record WritesExactly (limit l : ℕ) (form out : List ℕ) (w : Output) : Type 0 where
   -- PAYLOAD exactly when the length is above the limit; it comes before ROOM
   pub too-long : limit < l → w .row ≡ row 21 (0 ∷ [])
   pub too-long-only : w .row .number ≡ 21 → limit < l
@@ -36,7 +36,7 @@ pub record WritesExactly (limit l : ℕ) (form out : List ℕ) (w : Write) : Typ
   pub refused-kept : w .row .number ≢ 0 → w .out ≡ out
   -- written, its front is the frame, and each byte behind is as it was
   pub front : w .row .number ≡ 0 → take (getD (w .row .values) 0 0) (w .out) ≡ form
-  pub behind-kept : w .row .number ≡ 0 → (i : ℕ) → getD (w .row .values) 0 0 ≤ i → getD (w .out) i 0 ≡ getD out i 0
+  pub rest-kept : w .row .number ≡ 0 → (i : ℕ) → getD (w .row .values) 0 0 ≤ i → getD (w .out) i 0 ≡ getD out i 0
   pub same-length : length (w .out) ≡ length out
 
 -- ---- writer-exact: of all values, and every output
@@ -69,9 +69,9 @@ WorkedBody b =
 pub record WorkedFrame : Type 0 where
   pub written : writeOf 1024 0x12 0x34 0x5678 (0xFF ∷ 0x9A ∷ [])
       (1 ∷ 2 ∷ 3 ∷ 4 ∷ 5 ∷ 6 ∷ 7 ∷ 8 ∷ 9 ∷ 10 ∷ 11 ∷ 12 ∷ 13 ∷ 14 ∷ [])
-      ≡ outcome (row 0 (12 ∷ [])) (workedBytes ++ 13 ∷ 14 ∷ [])
+      ≡ output (row 0 (12 ∷ [])) (workedBytes ++ 13 ∷ 14 ∷ [])
   pub no-room : writeOf 1024 0x12 0x34 0x5678 (0xFF ∷ 0x9A ∷ []) (1 ∷ 2 ∷ 3 ∷ 4 ∷ 5 ∷ 6 ∷ 7 ∷ 8 ∷ 9 ∷ 10 ∷ 11 ∷ [])
-      ≡ outcome (row 22 (0 ∷ [])) (1 ∷ 2 ∷ 3 ∷ 4 ∷ 5 ∷ 6 ∷ 7 ∷ 8 ∷ 9 ∷ 10 ∷ 11 ∷ [])
-  pub too-long : writeOf 6 0x12 0x34 0x5678 (0xFF ∷ 0x9A ∷ []) [] ≡ outcome (row 21 (0 ∷ [])) []
+      ≡ output (row 22 (0 ∷ [])) (1 ∷ 2 ∷ 3 ∷ 4 ∷ 5 ∷ 6 ∷ 7 ∷ 8 ∷ 9 ∷ 10 ∷ 11 ∷ [])
+  pub too-long : writeOf 6 0x12 0x34 0x5678 (0xFF ∷ 0x9A ∷ []) [] ≡ output (row 21 (0 ∷ [])) []
   pub read-row : feedOf 1024 (freshOf 1024) workedBytes .row ≡ row 1 (12 ∷ 0 ∷ 12 ∷ [])
   pub read-body : WorkedBody (feedOf 1024 (freshOf 1024) workedBytes .state .body)

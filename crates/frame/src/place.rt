@@ -9,10 +9,10 @@ pub struct WirePlace(pub u64);
 pub struct BodyPlace(pub usize);
 
 // The bytes that a reader takes in all: 2^62.
-pub(crate) const MOST: u64 = 4611686018427387904;
+pub(crate) const MAX_CONSUMED: u64 = 4611686018427387904;
 
 // The place before, or 0.
-pub(crate) fn before(p: WirePlace) -> WirePlace
+pub(crate) fn previous_place(p: WirePlace) -> WirePlace
     ensures { λ r. ⌜ r .0 ≡ p .0 - 1 ⌝ }
 {
     let n = p.0;
@@ -23,7 +23,7 @@ pub(crate) fn before(p: WirePlace) -> WirePlace
 }
 
 // The place behind.
-pub(crate) fn behind(p: WirePlace) -> WirePlace
+pub(crate) fn next_place(p: WirePlace) -> WirePlace
     requires { ⌜ p .0 < 2 ^ 62 ⌝ }
     ensures { λ r. ⌜ r .0 ≡ p .0 + 1 ⌝ }
 {

@@ -1,6 +1,6 @@
 // The streaming reader: bytes given, end asked.
 use super::LIMIT;
-use super::place::MOST;
+use super::place::MAX_CONSUMED;
 use super::place::WirePlace;
 use super::scan::Event;
 use super::scan::Phase;
@@ -16,8 +16,8 @@ ghost use lib.ListN.{length};
 ghost use Rattle.frame.specs.Wire.{frameLimit};
 ghost use Rattle.frame.specs.State.{phaseOf, scanOf, stateOf};
 ghost use Rattle.frame.specs.Rules.{Ready, putOf};
-ghost use Rattle.frame.specs.Table.{rowOf, endRowOf, countOf, eventRow};
-ghost use Rattle.frame.specs.Calls.{endingRow, freshOf, runOf, feedOf, finishOf, replyOf, endingOf};
+ghost use Rattle.frame.specs.Table.{rowOf, finishRowOf, countOf, eventRow};
+ghost use Rattle.frame.specs.Calls.{finishRowIn, freshOf, runOf, feedOf, finishOf, fedOf, finishedOf};
 
 // A reader, and the body that it holds.
 pub struct Reader {
@@ -26,7 +26,7 @@ pub struct Reader {
 }
 
 // What bytes given are answered: paper 01's table.
-pub enum Answer {
+pub enum FeedResult {
     More {
         count: usize,
     },
@@ -41,19 +41,24 @@ pub enum Answer {
 }
 
 pub struct Fed {
-    pub answer: Answer,
+    pub answer: FeedResult,
     pub reader: Reader,
 }
 
 // What an end asked is answered.
-pub enum Ending {
-    Clean { taken: WirePlace },
-    Open { taken: WirePlace, start: WirePlace },
+pub enum FinishResult {
+    Clean {
+        consumed: WirePlace,
+    },
+    Open {
+        consumed: WirePlace,
+        start: WirePlace,
+    },
     State,
 }
 
 pub struct Finished {
-    pub answer: Ending,
+    pub answer: FinishResult,
     pub reader: Reader,
 }
 
@@ -69,27 +74,27 @@ impl Reader {
     }
 }
 
-impl Answer {
+impl FeedResult {
     // The bytes that the call took.
     pub fn count(self) -> usize
         ensures { λ r. ⌜ r ≡ countOf (rowOf self) ⌝ }
     {
         match self {
-            Answer::More { count } => count,
-            Answer::Decided { count, .. } => count,
-            Answer::State => 0,
-            Answer::Used => 0,
+            FeedResult::More { count } => count,
+            FeedResult::Decided { count, .. } => count,
+            FeedResult::State => 0,
+            FeedResult::Used => 0,
         }
     }
 }
 
 // The answer that an event gives.
-fn answered(event: Event, count: usize, start: WirePlace, end: WirePlace) -> Answer
+fn answered(event: Event, count: usize, start: WirePlace, end: WirePlace) -> FeedResult
     ensures { λ r. ⌜ rowOf r ≡ eventRow event count (start .0) (end .0) ⌝ }
 {
     match event {
-        Event::Quiet => Answer::More { count },
-        Event::Decided { verdict } => Answer::Decided {
+        Event::Quiet => FeedResult::More { count },
+        Event::Decided { verdict } => FeedResult::Decided {
             count,
             start,
             end,
@@ -111,24 +116,24 @@ fn store(body: &mut [u8; 1026], put: bool, at: usize, byte: u8)
 // The byte loop.
 fn run(reader: Reader, bytes: &[u8]) -> Fed
     requires { ⌜ Ready frameLimit (scanOf (reader .scan)) (length (now bytes)) ⌝ }
-    ensures { λ r. ⌜ replyOf r ≡ runOf frameLimit (now (bytes .entry)) 0 (stateOf reader) ⌝ }
+    ensures { λ r. ⌜ fedOf r ≡ runOf frameLimit (now (bytes .entry)) 0 (stateOf reader) ⌝ }
 {
     let mut scan = reader.scan;
     let mut body = reader.body;
     let mut i: usize = 0;
     let answer = loop {
         if i == bytes.len() {
-            break Answer::More { count: i };
+            break FeedResult::More { count: i };
         }
         let start = scan.start;
-        let at = scan.have.0;
+        let at = scan.filled.0;
         let step = advance(LIMIT, scan, bytes[i]);
         store(&mut body, step.put, at, step.byte);
         scan = step.scan;
         i += 1;
         let event = step.event;
         if decides(event) {
-            let end = scan.taken;
+            let end = scan.consumed;
             break answered(event, i, start, end);
         }
     };
@@ -140,18 +145,18 @@ fn run(reader: Reader, bytes: &[u8]) -> Fed
 
 // Bytes given.
 pub fn feed(reader: Reader, bytes: &[u8]) -> Fed
-    ensures { λ r. ⌜ replyOf r ≡ feedOf frameLimit (stateOf reader) (now (bytes .entry)) ⌝ }
+    ensures { λ r. ⌜ fedOf r ≡ feedOf frameLimit (stateOf reader) (now (bytes .entry)) ⌝ }
 {
     let scan = reader.scan;
     if !in_range(LIMIT, scan) {
         return Fed {
-            answer: Answer::State,
+            answer: FeedResult::State,
             reader,
         };
     }
-    if MOST - scan.taken.0 < bytes.len() as u64 {
+    if MAX_CONSUMED - scan.consumed.0 < bytes.len() as u64 {
         return Fed {
-            answer: Answer::Used,
+            answer: FeedResult::Used,
             reader,
         };
     }
@@ -159,34 +164,34 @@ pub fn feed(reader: Reader, bytes: &[u8]) -> Fed
 }
 
 // What an end asked is answered in a state in range.
-fn ended_in(scan: Scan) -> Ending
-    ensures { λ r. ⌜ endRowOf r ≡ endingRow (phaseOf (scan .phase)) (scanOf scan) ⌝ }
+fn finish_result(scan: Scan) -> FinishResult
+    ensures { λ r. ⌜ finishRowOf r ≡ finishRowIn (phaseOf (scan .phase)) (scanOf scan) ⌝ }
 {
     let phase = scan.phase;
-    let taken = scan.taken;
+    let consumed = scan.consumed;
     let start = scan.start;
     match phase {
-        Phase::Idle => Ending::Clean { taken },
-        Phase::Half => Ending::Clean { taken },
-        Phase::Header => Ending::Open { taken, start },
-        Phase::Open => Ending::Open { taken, start },
-        Phase::Escape => Ending::Open { taken, start },
+        Phase::Idle => FinishResult::Clean { consumed },
+        Phase::Half => FinishResult::Clean { consumed },
+        Phase::Header => FinishResult::Open { consumed, start },
+        Phase::Open => FinishResult::Open { consumed, start },
+        Phase::Escape => FinishResult::Open { consumed, start },
     }
 }
 
 // End asked.
 pub fn finish(reader: Reader) -> Finished
-    ensures { λ r. ⌜ endingOf r ≡ finishOf frameLimit (stateOf reader) ⌝ }
+    ensures { λ r. ⌜ finishedOf r ≡ finishOf frameLimit (stateOf reader) ⌝ }
 {
     let scan = reader.scan;
     if !in_range(LIMIT, scan) {
         return Finished {
-            answer: Ending::State,
+            answer: FinishResult::State,
             reader,
         };
     }
     Finished {
-        answer: ended_in(scan),
+        answer: finish_result(scan),
         reader,
     }
 }

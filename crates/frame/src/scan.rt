@@ -1,9 +1,9 @@
 // The byte rules: what one raw byte does to the reader's small state.
 use super::place::BodyPlace;
-use super::place::MOST;
+use super::place::MAX_CONSUMED;
 use super::place::WirePlace;
-use super::place::before;
-use super::place::behind;
+use super::place::next_place;
+use super::place::previous_place;
 ghost use mathlib.Core.Path.{_≡_};
 ghost use Prim.Native.Nat.{_<_, _≤_, _^_};
 ghost use Rattle.frame.specs.State.{scanOf, stepOf};
@@ -27,9 +27,9 @@ pub enum Phase {
 // Where the reader stands; docs/STATES.md has each field's range.
 pub struct Scan {
     pub phase: Phase,
-    pub taken: WirePlace,
+    pub consumed: WirePlace,
     pub start: WirePlace,
-    pub have: BodyPlace,
+    pub filled: BodyPlace,
     pub length: u16,
     pub sum: u8,
 }
@@ -59,58 +59,58 @@ pub struct Step {
 }
 
 // No frame is open. None ends in a raw FF, so the last raw byte is no FF.
-pub(crate) fn closed(taken: WirePlace) -> Scan
-    ensures { λ r. ⌜ scanOf r ≡ closedOf (taken .0) ⌝ }
+pub(crate) fn closed(consumed: WirePlace) -> Scan
+    ensures { λ r. ⌜ scanOf r ≡ closedOf (consumed .0) ⌝ }
 {
     Scan {
         phase: Phase::Idle,
-        taken,
+        consumed,
         start: WirePlace(0),
-        have: BodyPlace(0),
+        filled: BodyPlace(0),
         length: 0,
         sum: 0,
     }
 }
 
 // No frame is open, and an FF was taken.
-fn half(taken: WirePlace) -> Scan
-    ensures { λ r. ⌜ scanOf r ≡ halfOf (taken .0) ⌝ }
+fn half(consumed: WirePlace) -> Scan
+    ensures { λ r. ⌜ scanOf r ≡ halfOf (consumed .0) ⌝ }
 {
     Scan {
         phase: Phase::Half,
-        taken,
+        consumed,
         start: WirePlace(0),
-        have: BodyPlace(0),
+        filled: BodyPlace(0),
         length: 0,
         sum: 0,
     }
 }
 
 // A header was made, and starts one place before its last byte.
-fn header(last: WirePlace, taken: WirePlace) -> Scan
-    ensures { λ r. ⌜ scanOf r ≡ headerOf (last .0) (taken .0) ⌝ }
+fn header(last: WirePlace, consumed: WirePlace) -> Scan
+    ensures { λ r. ⌜ scanOf r ≡ headerOf (last .0) (consumed .0) ⌝ }
 {
     Scan {
         phase: Phase::Header,
-        taken,
-        start: before(last),
-        have: BodyPlace(0),
+        consumed,
+        start: previous_place(last),
+        filled: BodyPlace(0),
         length: 0,
         sum: 0,
     }
 }
 
 // An FF of the body waits.
-fn escape(scan: Scan, taken: WirePlace) -> Scan
-    ensures { λ r. ⌜ scanOf r ≡ escapeOf (scanOf scan) (taken .0) ⌝ }
+fn escape(scan: Scan, consumed: WirePlace) -> Scan
+    ensures { λ r. ⌜ scanOf r ≡ escapeOf (scanOf scan) (consumed .0) ⌝ }
 {
     let start = scan.start;
-    let have = scan.have;
+    let filled = scan.filled;
     Scan {
         phase: Phase::Escape,
-        taken,
+        consumed,
         start,
-        have,
+        filled,
         length: scan.length,
         sum: scan.sum,
     }
@@ -129,11 +129,11 @@ fn silent(scan: Scan, event: Event) -> Step
 }
 
 // A header in an open frame: that frame is refused, and the new one is open.
-fn cut(last: WirePlace, taken: WirePlace) -> Step
-    ensures { λ r. ⌜ stepOf r ≡ cutOf (last .0) (taken .0) ⌝ }
+fn cut(last: WirePlace, consumed: WirePlace) -> Step
+    ensures { λ r. ⌜ stepOf r ≡ cutOf (last .0) (consumed .0) ⌝ }
 {
     let verdict = Verdict::Cut;
-    silent(header(last, taken), Event::Decided { verdict })
+    silent(header(last, consumed), Event::Decided { verdict })
 }
 
 // The byte v goes to the body.
@@ -150,17 +150,17 @@ fn stored(scan: Scan, v: u8, event: Event) -> Step
 
 // The body goes on with the byte v.
 fn grown(scan: Scan, length: u16, v: u8) -> Step
-    requires { ⌜ scan .taken .0 < 2 ^ 62 ⌝ }
-    requires { ⌜ scan .have .0 < 2 ^ 62 ⌝ }
+    requires { ⌜ scan .consumed .0 < 2 ^ 62 ⌝ }
+    requires { ⌜ scan .filled .0 < 2 ^ 62 ⌝ }
     ensures { λ r. ⌜ stepOf r ≡ grownOf (scanOf scan) length v ⌝ }
 {
-    let last = scan.taken;
+    let last = scan.consumed;
     let start = scan.start;
     let next = Scan {
         phase: Phase::Open,
-        taken: behind(last),
+        consumed: next_place(last),
         start,
-        have: BodyPlace(scan.have.0 + 1),
+        filled: BodyPlace(scan.filled.0 + 1),
         length,
         sum: std::num::wrapping_add_u8(scan.sum, v),
     };
@@ -169,16 +169,16 @@ fn grown(scan: Scan, length: u16, v: u8) -> Step
 
 // The frame ends with the body byte v.
 fn ended(scan: Scan, v: u8, verdict: Verdict) -> Step
-    requires { ⌜ scan .taken .0 < 2 ^ 62 ⌝ }
+    requires { ⌜ scan .consumed .0 < 2 ^ 62 ⌝ }
     ensures { λ r. ⌜ stepOf r ≡ endedOf (scanOf scan) v verdict ⌝ }
 {
-    let last = scan.taken;
-    stored(closed(behind(last)), v, Event::Decided { verdict })
+    let last = scan.consumed;
+    stored(closed(next_place(last)), v, Event::Decided { verdict })
 }
 
 // The body is complete with the byte v, its sum.
 fn completed(scan: Scan, v: u8) -> Step
-    requires { ⌜ scan .taken .0 < 2 ^ 62 ⌝ }
+    requires { ⌜ scan .consumed .0 < 2 ^ 62 ⌝ }
     ensures { λ r. ⌜ stepOf r ≡ completedOf (scanOf scan) v ⌝ }
 {
     if v == scan.sum {
@@ -192,26 +192,26 @@ fn body_byte(limit: usize, scan: Scan, v: u8) -> Step
     requires { ⌜ Ready limit (scanOf scan) 1 ⌝ }
     ensures { λ r. ⌜ stepOf r ≡ bodyByteOf limit (scanOf scan) v ⌝ }
 {
-    let have = scan.have.0;
+    let filled = scan.filled.0;
     let length = scan.length;
-    if have == 0 {
+    if filled == 0 {
         return grown(scan, v as u16, v);
     }
-    if have == 1 {
-        let whole = (length as usize) * 256 + (v as usize);
-        if whole < 5 {
+    if filled == 1 {
+        let full_length = (length as usize) * 256 + (v as usize);
+        if full_length < 5 {
             return ended(scan, v, Verdict::Short);
         }
-        if limit < whole {
+        if limit < full_length {
             return ended(scan, v, Verdict::Long);
         }
-        return grown(scan, whole as u16, v);
+        return grown(scan, full_length as u16, v);
     }
-    if (length as usize) < have {
+    if (length as usize) < filled {
         return completed(scan, v);
     }
     // No body goes past the limit, whatever length a foreign state names.
-    if limit < have {
+    if limit < filled {
         return completed(scan, v);
     }
     grown(scan, length, v)
@@ -219,18 +219,18 @@ fn body_byte(limit: usize, scan: Scan, v: u8) -> Step
 
 // A raw FF: directly behind another it makes a header, in each phase.
 fn on_ff(scan: Scan) -> Step
-    requires { ⌜ scan .taken .0 < 2 ^ 62 ⌝ }
+    requires { ⌜ scan .consumed .0 < 2 ^ 62 ⌝ }
     ensures { λ r. ⌜ stepOf r ≡ onFFOf (scanOf scan) ⌝ }
 {
     let phase = scan.phase;
-    let last = scan.taken;
-    let taken = behind(last);
+    let last = scan.consumed;
+    let consumed = next_place(last);
     match phase {
-        Phase::Idle => silent(half(taken), Event::Quiet),
-        Phase::Half => silent(header(last, taken), Event::Quiet),
-        Phase::Header => silent(header(last, taken), Event::Quiet),
-        Phase::Open => silent(escape(scan, taken), Event::Quiet),
-        Phase::Escape => cut(last, taken),
+        Phase::Idle => silent(half(consumed), Event::Quiet),
+        Phase::Half => silent(header(last, consumed), Event::Quiet),
+        Phase::Header => silent(header(last, consumed), Event::Quiet),
+        Phase::Open => silent(escape(scan, consumed), Event::Quiet),
+        Phase::Escape => cut(last, consumed),
     }
 }
 
@@ -239,7 +239,7 @@ fn outside(last: WirePlace, event: Event) -> Step
     requires { ⌜ last .0 < 2 ^ 62 ⌝ }
     ensures { λ r. ⌜ stepOf r ≡ outsideOf (last .0) event ⌝ }
 {
-    silent(closed(behind(last)), event)
+    silent(closed(next_place(last)), event)
 }
 
 // Behind an FF of the body, 55 makes it a body byte; another byte breaks the stuffing.
@@ -247,7 +247,7 @@ fn on_escaped(limit: usize, scan: Scan, byte: u8) -> Step
     requires { ⌜ Ready limit (scanOf scan) 1 ⌝ }
     ensures { λ r. ⌜ stepOf r ≡ onEscapedOf limit (scanOf scan) byte ⌝ }
 {
-    let last = scan.taken;
+    let last = scan.consumed;
     if byte == 85 {
         return body_byte(limit, scan, 255);
     }
@@ -261,7 +261,7 @@ fn on_other(limit: usize, scan: Scan, byte: u8) -> Step
     ensures { λ r. ⌜ stepOf r ≡ onOtherOf limit (scanOf scan) byte ⌝ }
 {
     let phase = scan.phase;
-    let last = scan.taken;
+    let last = scan.consumed;
     match phase {
         Phase::Idle => outside(last, Event::Quiet),
         Phase::Half => outside(last, Event::Quiet),
@@ -297,8 +297,8 @@ pub(crate) fn in_range(limit: usize, scan: Scan) -> bool
     requires { ⌜ limit ≤ 65279 ⌝ }
     ensures { λ r. ⌜ r ≡ inRangeOf limit (scanOf scan) ⌝ }
 {
-    if MOST < scan.taken.0 {
+    if MAX_CONSUMED < scan.consumed.0 {
         return false;
     }
-    scan.have.0 <= limit + 1
+    scan.filled.0 <= limit + 1
 }

@@ -5,12 +5,12 @@ ghost use mathlib.Core.List.{[], _∷_};
 ghost use Prim.Native.Nat.{_+_, _≤_, _<_, _/_, _%_, _^_};
 ghost use lib.ListN.{length};
 ghost use Rattle.base.specs.Stores.{PutAt};
-ghost use Rattle.frame.specs.Wire.{stuff, headOf, joinedParts, framed, frameLimit};
+ghost use Rattle.frame.specs.Wire.{stuff, headOf, joinedChunks, framed, frameLimit};
 ghost use Rattle.base.specs.Sums.{total};
 ghost use Rattle.frame.specs.Calls.{writeOf, Writes, Measured};
 
 // What a frame to be written is answered.
-pub enum Written {
+pub enum WriteResult {
     Wrote { count: usize },
     Payload,
     Room,
@@ -67,9 +67,9 @@ fn measured(from: Measure, bytes: &[u8]) -> Measure
 
 // The length of a frame on the wire, and its sum.
 fn sized(head: [u8; 6], first: &[u8], second: &[u8], third: &[u8]) -> Measure
-    requires { ⌜ length (joinedParts (now first) (now second) (now third)) ≤ 2 ^ 17 ⌝ }
+    requires { ⌜ length (joinedChunks (now first) (now second) (now third)) ≤ 2 ^ 17 ⌝ }
     ensures { λ r. ⌜ Measured head
-        (joinedParts (now (first .entry)) (now (second .entry)) (now (third .entry))) (r .count) (r .sum) ⌝ }
+        (joinedChunks (now (first .entry)) (now (second .entry)) (now (third .entry))) (r .count) (r .sum) ⌝ }
 {
     let begun = measured(Measure { count: 2, sum: 0 }, &head);
     let unsummed = measured(measured(measured(begun, first), second), third);
@@ -108,14 +108,14 @@ fn put_bytes(out: &mut [u8], at: usize, bytes: &[u8]) -> usize
 }
 
 // A payload's three parts, stuffed, at a place of the output; the place behind them.
-fn put_parts(out: &mut [u8], at: usize, first: &[u8], second: &[u8], third: &[u8]) -> usize
-    requires { ⌜ at + length (stuff (joinedParts (now first) (now second) (now third))) ≤ length (now out) ⌝ }
-    ensures { λ r. ⌜ PutAt (now (out .entry)) at (stuff (joinedParts (now (first .entry)) (now (second .entry))
+fn put_chunks(out: &mut [u8], at: usize, first: &[u8], second: &[u8], third: &[u8]) -> usize
+    requires { ⌜ at + length (stuff (joinedChunks (now first) (now second) (now third))) ≤ length (now out) ⌝ }
+    ensures { λ r. ⌜ PutAt (now (out .entry)) at (stuff (joinedChunks (now (first .entry)) (now (second .entry))
         (now (third .entry)))) r (now (out .exit)) ⌝ }
 {
-    let behind_first = put_bytes(out, at, first);
-    let behind_second = put_bytes(out, behind_first, second);
-    put_bytes(out, behind_second, third)
+    let after_first = put_bytes(out, at, first);
+    let after_second = put_bytes(out, after_first, second);
+    put_bytes(out, after_second, third)
 }
 
 // A whole frame at the front of an output that has room for it; its length.
@@ -127,19 +127,19 @@ fn put_frame(
     third: &[u8],
     sum: u8,
 ) -> usize
-    requires { ⌜ length (framed head (joinedParts (now first) (now second) (now third)) sum) ≤ length (now out) ⌝ }
+    requires { ⌜ length (framed head (joinedChunks (now first) (now second) (now third)) sum) ≤ length (now out) ⌝ }
     ensures { λ r. ⌜ PutAt (now (out .entry)) 0 (framed head
-        (joinedParts (now (first .entry)) (now (second .entry)) (now (third .entry))) sum) r (now (out .exit)) ⌝ }
+        (joinedChunks (now (first .entry)) (now (second .entry)) (now (third .entry))) sum) r (now (out .exit)) ⌝ }
 {
     out[0] = 255;
     out[1] = 255;
-    let behind_head = put_bytes(out, 2, &head);
-    let behind_payload = put_parts(out, behind_head, first, second, third);
-    put_byte(out, behind_payload, sum)
+    let after_head = put_bytes(out, 2, &head);
+    let after_payload = put_chunks(out, after_head, first, second, third);
+    put_byte(out, after_payload, sum)
 }
 
 // A frame whose length is at most a limit, and whose payload is three parts, one behind the other.
-fn parts_within(
+fn chunks_within(
     limit: usize,
     command: u8,
     number: u8,
@@ -148,23 +148,23 @@ fn parts_within(
     second: &[u8],
     third: &[u8],
     out: &mut [u8],
-) -> Written
+) -> WriteResult
     requires { ⌜ limit ≤ 65279 ⌝ }
     ensures { λ r. ⌜ Writes r (now (out .exit)) (writeOf limit command number flags
-        (joinedParts (now (first .entry)) (now (second .entry)) (now (third .entry))) (now (out .entry))) ⌝ }
+        (joinedChunks (now (first .entry)) (now (second .entry)) (now (third .entry))) (now (out .entry))) ⌝ }
 {
     // Two lengths add up to a usize, three need not; what is past the limit is refused, however long it is.
-    let size = base::least(first.len() + second.len(), limit) + third.len();
+    let size = base::min(first.len() + second.len(), limit) + third.len();
     if limit < size + 5 {
-        return Written::Payload;
+        return WriteResult::Payload;
     }
     let head = head_of(size, command, number, flags);
-    let whole = sized(head, first, second, third);
-    if out.len() < whole.count {
-        return Written::Room;
+    let measure = sized(head, first, second, third);
+    if out.len() < measure.count {
+        return WriteResult::Room;
     }
-    Written::Wrote {
-        count: put_frame(out, head, first, second, third, whole.sum),
+    WriteResult::Wrote {
+        count: put_frame(out, head, first, second, third, measure.sum),
     }
 }
 
@@ -176,17 +176,17 @@ fn write_within(
     flags: u16,
     payload: &[u8],
     out: &mut [u8],
-) -> Written
+) -> WriteResult
     requires { ⌜ limit ≤ 65279 ⌝ }
     ensures { λ r. ⌜ Writes r (now (out .exit))
         (writeOf limit command number flags (now (payload .entry)) (now (out .entry))) ⌝ }
 {
     let none = &payload[..0];
-    parts_within(limit, command, number, flags, payload, none, none, out)
+    chunks_within(limit, command, number, flags, payload, none, none, out)
 }
 
 // A frame written at the front of the output, or refused with the output as it was.
-pub fn write(command: u8, number: u8, flags: u16, payload: &[u8], out: &mut [u8]) -> Written
+pub fn write(command: u8, number: u8, flags: u16, payload: &[u8], out: &mut [u8]) -> WriteResult
     ensures { λ r. ⌜ Writes r (now (out .exit))
         (writeOf frameLimit command number flags (now (payload .entry)) (now (out .entry))) ⌝ }
 {
@@ -194,7 +194,7 @@ pub fn write(command: u8, number: u8, flags: u16, payload: &[u8], out: &mut [u8]
 }
 
 // A frame whose payload is three parts, one behind the other, written without joining them.
-pub fn write_parts(
+pub fn write_chunks(
     command: u8,
     number: u8,
     flags: u16,
@@ -202,9 +202,9 @@ pub fn write_parts(
     second: &[u8],
     third: &[u8],
     out: &mut [u8],
-) -> Written
+) -> WriteResult
     ensures { λ r. ⌜ Writes r (now (out .exit)) (writeOf frameLimit command number flags
-        (joinedParts (now (first .entry)) (now (second .entry)) (now (third .entry))) (now (out .entry))) ⌝ }
+        (joinedChunks (now (first .entry)) (now (second .entry)) (now (third .entry))) (now (out .entry))) ⌝ }
 {
-    parts_within(LIMIT, command, number, flags, first, second, third, out)
+    chunks_within(LIMIT, command, number, flags, first, second, third, out)
 }

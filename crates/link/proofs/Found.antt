@@ -16,7 +16,7 @@ one-before e o =
       during = o .during;
       parts = ap (λ l. e ∷ l) (o .parts);
       accepts = o .accepts;
-      goes-on = o .goes-on;
+      continues = o .continues;
     }
 
 -- a command that waited before entries waits after them, since none ends its wait,
@@ -30,7 +30,7 @@ found-at : (e : Entry) (es : List Entry) (t a d : Bool)
 unfolding noneEnds
 found-at e es t a d p q (inr o) = inr (one-before e o)
 found-at e es t true d p q (inl n) =
-    inr (record { before = []; acceptance = e; during = es; parts = refl; accepts = p; goes-on = n .1 })
+    inr (record { before = []; acceptance = e; during = es; parts = refl; accepts = p; continues = n .1 })
 found-at e es t false true p q (inl n) = absurd (true≢false (sym (n .0)))
 found-at e es t false false p q (inl n) = inl (n .0, rw q (n .1))
 

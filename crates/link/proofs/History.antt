@@ -7,7 +7,7 @@ use native.Mathlib.Nat.{zero-add}
 use native.Mathlib.Omega.{arith}
 use lib.ListN.{length}
 use Rattle.link.specs.Calls.{linkOf}
-use Rattle.link.specs.Logs.{Entry, accepted, commandIn, clockIn, numberIn, givenOut, noneEnds, dueTicks}
+use Rattle.link.specs.Logs.{Entry, accepted, commandIn, clockIn, numberIn, numbersUsed, noneEnds, dueTicks}
 use Rattle.link.specs.History.{History}
 use Rattle.link.specs.Claims.{LinkHistory}
 use Rattle.link.specs.declared.state.Wait.the-variants.{Idle}
@@ -15,39 +15,39 @@ use Rattle.link.proofs.Numbers.{number-first}
 use Rattle.link.proofs.Moves.{waitAfter, only-repeated, not-accepted}
 use Rattle.link.proofs.Waits.{Follows, followed, numbered, Standing, stands, Waited, waited}
 
-module _ (first most : ℕ) (log : List Entry) (f : Follows first most 0 Idle log) where
+module _ (first max : ℕ) (log : List Entry) (f : Follows first max 0 Idle log) where
   -- what stands after the front of the log
-  at : (before rest : List Entry) → log ≡ before ++ rest → Standing first most 0 false before rest
-  at before rest e = stands first most 0 Idle false before rest (λ _. refl) (subst (Follows first most 0 Idle) e f)
+  at : (before rest : List Entry) → log ≡ before ++ rest → Standing first max 0 false before rest
+  at before rest e = stands first max 0 Idle false before rest (λ _. refl) (subst (Follows first max 0 Idle) e f)
 
   -- what waits after an acceptance, until its wait ends
   accepted-at :
       (before : List Entry) (a : Entry) (during rest : List Entry)
       → log ≡ before ++ (a ∷ (during ++ rest)) → accepted a ≡ true → noneEnds during ≡ true
-      → Waited first most (0 + length (givenOut before) + 1) (commandIn (a .call)) (numberIn a)
+      → Waited first max (0 + length (numbersUsed before) + 1) (commandIn (a .call)) (numberIn a)
       (clockIn (a .call)) 0 during rest
   accepted-at before a during rest e p q =
       let b = at before _ e .follows in
-      waited first most _ _ _ _ _ during rest (simp p at (b .0 .holds)) (simp p at (b .1)) q
+      waited first max _ _ _ _ _ during rest (simp p at (b .0 .holds)) (simp p at (b .1)) q
 
   -- what an entry leaves waiting
   left : (before : List Entry) (e : Entry) (after : List Entry)
-      → (p : log ≡ before ++ (e ∷ after)) → e .returned .wait ≡ waitAfter e (at before (e ∷ after) p .wait)
-  left before e after p = ap (λ l. l .wait) (at before (e ∷ after) p .follows .0 .returned)
+      → (p : log ≡ before ++ (e ∷ after)) → e .after .wait ≡ waitAfter e (at before (e ∷ after) p .wait)
+  left before e after p = ap (λ l. l .wait) (at before (e ∷ after) p .follows .0 .after)
 
   -- no more ticks are due than repeats are allowed, while the wait goes on
   ended-by :
       (before : List Entry) (a : Entry) (during rest : List Entry)
       → log ≡ before ++ (a ∷ (during ++ rest)) → accepted a ≡ true
-      → most < dueTicks (clockIn (a .call)) during → (t : Bool) → noneEnds during ≡ t → t ≡ false
+      → max < dueTicks (clockIn (a .call)) during → (t : Bool) → noneEnds during ≡ t → t ≡ false
   ended-by before a during rest e p d true q =
       let w = accepted-at before a during rest e p q in absurd (omega (arith, w .few, w .each))
   ended-by before a during rest e p d false q = refl
 
-  history : History first most log
+  history : History first max log
   history =
       record {
-        numbers = numbered first most 0 Idle log f;
+        numbers = numbered first max 0 Idle log f;
         idle = λ before e after p q. let b = at before _ p in rw (b .idle q, zero-add) at (b .follows .0 .row);
         waiting = λ before a during e after p q n. rw zero-add at (accepted-at before a during
             (e ∷ after) p q n .follows .0 .row);
@@ -66,7 +66,7 @@ module _ (first most : ℕ) (log : List Entry) (f : Follows first most 0 Idle lo
               only .1,
               r,
               zero-add,
-            ) at (ap (λ l. l .wait) (accepted-at before a during (e ∷ after) p q n .follows .0 .returned));
+            ) at (ap (λ l. l .wait) (accepted-at before a during (e ∷ after) p q n .follows .0 .after));
         freed = λ before e after p d. simp (not-accepted (e .call) (e .row) d, d) at (left before e after p);
         unchanged = λ before e after p. at before _ p .follows .0 .unchanged;
         never-state = λ before e after p. at before _ p .follows .0 .never;
@@ -74,6 +74,6 @@ module _ (first most : ℕ) (log : List Entry) (f : Follows first most 0 Idle lo
 
 -- a fresh link is idle and has given out no number
 pub link-history : LinkHistory
-link-history first most small calls =
-    history first most _ (followed first most small calls 0 Idle
+link-history first max small calls =
+    history first max _ (followed first max small calls 0 Idle
     (ap (λ (n : ℕ). linkOf n Idle) (sym (number-first first))) tt)

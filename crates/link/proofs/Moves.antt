@@ -8,12 +8,12 @@ use borrow.Author.Tests.{le-leb, eqb-true, ltb-true}
 use lib.ListN.{getD}
 use lib.Dec.{eqb, ltb}
 use Rattle.base.specs.Rows.{Row}
-use Rattle.base.specs.Outcomes.{Reply, reply}
+use Rattle.base.specs.Outcomes.{Outcome, outcome}
 use Rattle.base.proofs.Tests.{by-test, both}
 use Rattle.link.specs.Sending.{mayWait, numberAt, fitsOf}
 use Rattle.link.specs.Clock.{isDue}
-use Rattle.link.specs.Calls.{linkOf, inRange, retryOf}
-use Rattle.link.specs.Logs.{Call, offering, ticking, answering, callOf, Entry, acceptedIn, repeatedIn, endedIn}
+use Rattle.link.specs.Calls.{linkOf, inRange, dueTickOf}
+use Rattle.link.specs.Logs.{Call, offering, ticking, receiving, callOf, Entry, acceptedIn, repeatedIn, endedIn}
 use Rattle.link.specs.Logs.{commandIn, clockIn, dueIn, accepted, repeated, ended, numberIn}
 use Rattle.link.specs.History.{idleRow, waitingRow}
 use Rattle.link.specs.declared.state.Link.{Link}
@@ -23,22 +23,22 @@ use Rattle.link.proofs.Numbers.{number-next}
 
 -- the entry of a call
 abbrev pub entryOf : ℕ → ℕ → Link → Call → Entry
-entryOf first most l c =
-    record { call = c; row = callOf first most l c .row; given = l; returned = callOf first most l c .state }
+entryOf first max l c =
+    record { call = c; row = callOf first max l c .row; before = l; after = callOf first max l c .state }
 
 -- ---- what an entry's call and answer leave
 
 -- what waits after an entry that neither accepts nor ends
-abbrev pub goesOn : Entry → Wait → Wait
-goesOn e Idle = Idle
-goesOn e (Waiting command number sent repeats) =
+abbrev pub continuesWait : Entry → Wait → Wait
+continuesWait e Idle = Idle
+continuesWait e (Waiting command number sent repeats) =
     Waiting command number (cond (repeated e) (clockIn (e .call)) sent) (cond (repeated e) (repeats + 1) repeats)
 
 -- what waits after any entry
 abbrev pub waitAfter : Entry → Wait → Wait
 waitAfter e w =
     cond (accepted e) (Waiting (commandIn (e .call)) (numberIn e) (clockIn (e .call)) 0)
-    (cond (ended e) Idle (goesOn e w))
+    (cond (ended e) Idle (continuesWait e w))
 
 -- how many numbers are given out after it
 abbrev pub countAfter : Entry → ℕ → ℕ
@@ -49,40 +49,40 @@ pub only-repeated : (c : Call) (r : Row) → repeatedIn c r ≡ true → (accept
 only-repeated (offering command clock) r e = absurd (true≢false (sym e))
 only-repeated (ticking clock) r e =
     let h = both (eqb (r .number) 0) e in (refl, simp (h .0, eqb-true (getD (r .values) 0 0) 1 (h .1)))
-only-repeated (answering command number) r e = absurd (true≢false (sym e))
+only-repeated (receiving command number) r e = absurd (true≢false (sym e))
 
 -- what ends a wait accepts nothing
 pub not-accepted : (c : Call) (r : Row) → endedIn c r ≡ true → acceptedIn c r ≡ false
 not-accepted (offering command clock) r e = absurd (true≢false (sym e))
 not-accepted (ticking clock) r e = refl
-not-accepted (answering command number) r e = refl
+not-accepted (receiving command number) r e = refl
 
 -- ---- an entry of a link that gave out k numbers, and of what waits in it
 
 -- what it is answered
 abbrev pub rowIn : ℕ → ℕ → ℕ → Wait → Call → Row
-rowIn first most k Idle c = idleRow first k c
-rowIn first most k (Waiting command number sent repeats) c = waitingRow most command number sent repeats c
+rowIn first max k Idle c = idleRow first k c
+rowIn first max k (Waiting command number sent repeats) c = waitingRow max command number sent repeats c
 
 -- an idle link gives out the k-th number;
 -- while a command waits none is given out, and a due tick repeats or ends the wait
-abbrev pub Told : ℕ → ℕ → Entry → Wait → Type 0
-Told first k e Idle = accepted e ≡ true → numberIn e ≡ numberAt first k
-Told first k e (Waiting command number sent repeats) =
+abbrev pub Shown : ℕ → ℕ → Entry → Wait → Type 0
+Shown first k e Idle = accepted e ≡ true → numberIn e ≡ numberAt first k
+Shown first k e (Waiting command number sent repeats) =
     (accepted e ≡ false) × (ended e ≡ false → dueIn (e .call) sent ≡ repeated e)
 
 -- the ranges of what waits
 abbrev pub Ranges : ℕ → ℕ → Wait → Type 0
-Ranges first most Idle = Unit
-Ranges first most (Waiting command number sent repeats) = (first ≤ number) × (repeats ≤ most) × (mayWait command ≡ true)
+Ranges first max Idle = Unit
+Ranges first max (Waiting command number sent repeats) = (first ≤ number) × (repeats ≤ max) × (mayWait command ≡ true)
 
 -- what holds of each entry
-pub record Moved (first most k : ℕ) (w : Wait) (e : Entry) : Type 0 where
-  pub row : e .row ≡ rowIn first most k w (e .call)
-  pub told : Told first k e w
-  pub returned : e .returned ≡ linkOf (numberAt first (countAfter e k)) (waitAfter e w)
-  pub holds : Ranges first most (waitAfter e w)
-  pub unchanged : (accepted e || (repeated e || ended e)) ≡ false → e .returned ≡ e .given
+pub record Moved (first max k : ℕ) (w : Wait) (e : Entry) : Type 0 where
+  pub row : e .row ≡ rowIn first max k w (e .call)
+  pub shown : Shown first k e w
+  pub after : e .after ≡ linkOf (numberAt first (countAfter e k)) (waitAfter e w)
+  pub holds : Ranges first max (waitAfter e w)
+  pub unchanged : (accepted e || (repeated e || ended e)) ≡ false → e .after ≡ e .before
   pub never : e .row .number ≢ 17
 
 -- ---- the calls
@@ -92,30 +92,30 @@ abbrev Undue : Call → Wait → Type 0
 Undue c Idle = Unit
 Undue c (Waiting command number sent repeats) = dueIn c sent ≡ false
 
-module _ (first most k : ℕ) (small : first ≤ 255) where
+module _ (first max k : ℕ) (small : first ≤ 255) where
   -- the link that gave out k numbers, with what waits
   abbrev standing : Wait → Link
   standing w = linkOf (numberAt first k) w
 
   -- of its call and what that replies
-  abbrev Moves : Wait → Call → Reply Link → Type 0
-  Moves w c y = Moved first most k w (record { call = c; row = y .row; given = standing w; returned = y .state })
+  abbrev Moves : Wait → Call → Outcome Link → Type 0
+  Moves w c y = Moved first max k w (record { call = c; row = y .row; before = standing w; after = y .state })
 
   -- it passes the test for 17
-  in-range : (w : Wait) → Ranges first most w → inRange first most (standing w) ≡ true
+  in-range : (w : Wait) → Ranges first max w → inRange first max (standing w) ≡ true
   in-range Idle h = simp (le-leb first (numberAt first k) (omega arith))
   in-range (Waiting command number sent repeats) h =
-      simp (le-leb first (numberAt first k) (omega arith), le-leb first number (h .0), le-leb repeats most (h .1), h .2)
+      simp (le-leb first (numberAt first k) (omega arith), le-leb first number (h .0), le-leb repeats max (h .1), h .2)
 
   -- a refused call, or a tick with nothing to do
-  quiet : (w : Wait) {c : Call} {r : Row} → Ranges first most w → r ≡ rowIn first most k w c → r .number ≢ 17
+  quiet : (w : Wait) {c : Call} {r : Row} → Ranges first max w → r ≡ rowIn first max k w c → r .number ≢ 17
       → acceptedIn c r ≡ false → endedIn c r ≡ false → repeatedIn c r ≡ false → Undue c w
-      → Moves w c (reply r (standing w))
+      → Moves w c (outcome r (standing w))
   quiet Idle h e n a d p u =
       record {
         row = e;
-        told = λ q. absurd (true≢false (sym q ∙ a));
-        returned = simp (a, d);
+        shown = λ q. absurd (true≢false (sym q ∙ a));
+        after = simp (a, d);
         holds = simp (a, d) tt;
         unchanged = λ _. refl;
         never = n;
@@ -123,8 +123,8 @@ module _ (first most k : ℕ) (small : first ≤ 255) where
   quiet (Waiting command number sent repeats) h e n a d p u =
       record {
         row = e;
-        told = (a, λ _. u ∙ sym p);
-        returned = simp (a, d, p);
+        shown = (a, λ _. u ∙ sym p);
+        after = simp (a, d, p);
         holds = simp (a, d, p) h;
         unchanged = λ _. refl;
         never = n;
@@ -132,14 +132,14 @@ module _ (first most k : ℕ) (small : first ≤ 255) where
 
   -- the end of a wait
   ends : {waiting under sent repeats : ℕ} {c : Call} {r : Row}
-      → r ≡ waitingRow most waiting under sent repeats c → r .number ≢ 17
+      → r ≡ waitingRow max waiting under sent repeats c → r .number ≢ 17
       → acceptedIn c r ≡ false → endedIn c r ≡ true → repeatedIn c r ≡ false
-      → Moves (Waiting waiting under sent repeats) c (reply r (standing Idle))
+      → Moves (Waiting waiting under sent repeats) c (outcome r (standing Idle))
   ends e n a d p =
       record {
         row = e;
-        told = (a, λ q. absurd (true≢false (sym d ∙ q)));
-        returned = simp (a, d);
+        shown = (a, λ q. absurd (true≢false (sym d ∙ q)));
+        after = simp (a, d);
         holds = simp (a, d) tt;
         unchanged = λ q. absurd (true≢false (simp (a, d, p) at q));
         never = n;
@@ -147,15 +147,15 @@ module _ (first most k : ℕ) (small : first ≤ 255) where
 
   -- a due tick repeats or gives up
   due : (waiting under sent repeats clock : ℕ)
-      → Ranges first most (Waiting waiting under sent repeats) → isDue clock sent ≡ true
+      → Ranges first max (Waiting waiting under sent repeats) → isDue clock sent ≡ true
       → Moves (Waiting waiting under sent repeats) (ticking clock)
-      (retryOf most (standing (Waiting waiting under sent repeats)) waiting under repeats clock)
+      (dueTickOf max (standing (Waiting waiting under sent repeats)) waiting under repeats clock)
   due waiting under sent repeats clock h d =
-      by-test (Moves (Waiting waiting under sent repeats) (ticking clock)) (ltb repeats most)
+      by-test (Moves (Waiting waiting under sent repeats) (ticking clock)) (ltb repeats max)
       (λ s. record {
         row = rw (d, s);
-        told = (refl, λ _. d);
-        returned = refl;
+        shown = (refl, λ _. d);
+        after = refl;
         holds = (h .0, omega (arith, ltb-true), h .2);
         unchanged = λ q. absurd (true≢false q);
         never = omega arith;
@@ -164,20 +164,20 @@ module _ (first most k : ℕ) (small : first ≤ 255) where
 
   -- each call, the test passed
   moved-in : (w : Wait) (c : Call)
-      → Ranges first most w → inRange first most (standing w) ≡ true → Moves w c (callOf first most (standing w) c)
+      → Ranges first max w → inRange first max (standing w) ≡ true → Moves w c (callOf first max (standing w) c)
   moved-in Idle (offering command clock) h i =
       rw i (by-test (Moves Idle (offering command clock)) (mayWait command)
       (λ s. record {
         row = rw s;
-        told = λ _. refl;
-        returned = rw (number-next first k small);
+        shown = λ _. refl;
+        after = rw (number-next first k small);
         holds = (omega arith, omega arith, s);
         unchanged = λ q. absurd (true≢false q);
         never = omega arith;
       })
       (λ s. quiet Idle h (rw s) (omega arith) refl refl refl tt))
   moved-in Idle (ticking clock) h i = rw i (quiet Idle h refl (omega arith) refl refl refl tt)
-  moved-in Idle (answering command number) h i = rw i (quiet Idle h refl (omega arith) refl refl refl tt)
+  moved-in Idle (receiving command number) h i = rw i (quiet Idle h refl (omega arith) refl refl refl tt)
   moved-in (Waiting waiting under sent repeats) (offering command clock) h i =
       let w : Wait = Waiting waiting under sent repeats in
       rw i (by-test (Moves w (offering command clock)) (mayWait command)
@@ -188,13 +188,13 @@ module _ (first most k : ℕ) (small : first ≤ 255) where
       rw i (by-test (Moves w (ticking clock)) (isDue clock sent)
       (λ d. due waiting under sent repeats clock h d)
       (λ d. quiet w h (rw d) (omega arith) refl refl refl d))
-  moved-in (Waiting waiting under sent repeats) (answering command number) h i =
+  moved-in (Waiting waiting under sent repeats) (receiving command number) h i =
       let w : Wait = Waiting waiting under sent repeats in
-      rw i (by-test (Moves w (answering command number)) (fitsOf command number waiting under)
+      rw i (by-test (Moves w (receiving command number)) (fitsOf command number waiting under)
       (λ s. ends (rw s) (omega arith) refl refl refl)
       (λ s. quiet w h (rw s) (omega arith) refl refl refl refl))
 
   -- each call, of a link that stands so
   pub moved : (w : Wait) (c : Call) {l : Link}
-      → l ≡ standing w → Ranges first most w → Moved first most k w (entryOf first most l c)
+      → l ≡ standing w → Ranges first max w → Moved first max k w (entryOf first max l c)
   moved w c e h = rw e (moved-in w c h (in-range w h))

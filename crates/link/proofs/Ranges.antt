@@ -6,12 +6,12 @@ use native.Mathlib.Omega.{arith}
 use borrow.Author.Tests.{le-leb, lt-leb, le-ltb, lt-ltb, eq-eqb}
 use lib.Dec.{leb}
 use Rattle.base.specs.Keys.{among}
-use Rattle.base.specs.Outcomes.{Reply}
-use Rattle.link.specs.Sending.{firstNumber, mostRepeats}
+use Rattle.base.specs.Outcomes.{Outcome}
+use Rattle.link.specs.Sending.{firstNumber, maxRepeats}
 use Rattle.link.specs.Calls.{linkOf, inRange}
-use Rattle.link.specs.Logs.{Call, offering, ticking, answering}
+use Rattle.link.specs.Logs.{Call, offering, ticking, receiving}
 use Rattle.link.specs.Ranges.{OutOfRange, InRange, LinkRange, LinkRanges, IdleExact, WaitingExact, CallsExact}
-use Rattle.link.specs.Ranges.{waiters, RowsNamed, ContractsWhole}
+use Rattle.link.specs.Ranges.{waiters, RowsNamed, ContractsComplete}
 use Rattle.link.specs.declared.state.Link.{Link}
 use Rattle.link.specs.declared.state.Wait.the-variants.{Idle, Waiting}
 use Rattle.link.proofs.Refusals.{refused-unchanged}
@@ -22,16 +22,16 @@ later true e = e
 later false e = refl
 
 module _ (c : Call) where
-  out : (l : Link) → inRange firstNumber mostRepeats l ≡ false → OutOfRange l c
+  out : (l : Link) → inRange firstNumber maxRepeats l ≡ false → OutOfRange l c
   out l e = go c
     where
       go : (c : Call) → OutOfRange l c
       go (offering command clock) = rw e
       go (ticking clock) = rw e
-      go (answering command number) = rw e
+      go (receiving command number) = rw e
 
-  within : (l : Link) → inRange firstNumber mostRepeats l ≡ true → InRange l c
-  within l e n = absurd (true≢false (sym e ∙ refused-unchanged firstNumber mostRepeats l c .state-out n))
+  within : (l : Link) → inRange firstNumber maxRepeats l ≡ true → InRange l c
+  within l e n = absurd (true≢false (sym e ∙ refused-unchanged firstNumber maxRepeats l c .state-out n))
 
   ranges : LinkRange c
   ranges =
@@ -78,7 +78,7 @@ waiting-exact next command number sent repeats a b m w =
       not-due = λ clock d. rw (next-in, number-in, repeats-in, w, d);
       again = λ clock d l. rw (next-in, number-in, repeats-in, w, d, lt-ltb repeats 3 l);
       given-up = λ clock d e. rw (next-in, number-in, repeats-in, w, d, le-ltb repeats 3 (omega (arith, e)));
-      answered =
+      replied =
           rw (next-in, number-in, repeats-in, w, eq-eqb (command + 1) (command + 1) refl, eq-eqb number number refl);
       stray = λ other under n. rw (next-in, number-in, repeats-in, w, n);
     }
@@ -87,12 +87,12 @@ pub calls-exact : CallsExact
 calls-exact = record { idle = idle-exact; waiting = waiting-exact }
 
 pub named-rows : RowsNamed
-named-rows c n = record { acceptances = refl; retries = refl; arrivals = refl }
+named-rows c n = record { acceptances = refl; retries = refl; receives = refl }
 
-pub contracts-whole : ContractsWhole
-contracts-whole =
+pub contracts-complete : ContractsComplete
+contracts-complete =
     record {
-      offered = λ o y e. (ap (λ (z : Reply Link). z .row) e, ap (λ (z : Reply Link). z .state) e);
-      ticked = λ t y e. (ap (λ (z : Reply Link). z .row) e, ap (λ (z : Reply Link). z .state) e);
-      arrived = λ a y e. (ap (λ (z : Reply Link). z .row) e, ap (λ (z : Reply Link). z .state) e);
+      offered = λ o y e. (ap (λ (z : Outcome Link). z .row) e, ap (λ (z : Outcome Link). z .state) e);
+      ticked = λ t y e. (ap (λ (z : Outcome Link). z .row) e, ap (λ (z : Outcome Link). z .state) e);
+      received = λ a y e. (ap (λ (z : Outcome Link). z .row) e, ap (λ (z : Outcome Link). z .state) e);
     }

@@ -5,14 +5,14 @@ use mathlib.Core.Path.{_≡_, refl, sym, _∙_}
 use mathlib.Core.List.{_∷_}
 use mathlib.Core.Bool.{Bool, true, false, _&&_, _||_}
 use Rattle.base.specs.Keys.{among}
-use Rattle.message.specs.Commands.{table, lineIn, kindOf, isListed, fromBox}
+use Rattle.message.specs.Commands.{table, profileIn, kindOf, isListed, fromBox}
 use Rattle.message.specs.Claims.{boxCommands}
-use Rattle.message.proofs.Lines.{paper-lists}
-use Rattle.message.specs.Answers.{dueFor}
-use Rattle.message.specs.declared.kind.Due.the-variants.{Nothing}
+use Rattle.message.proofs.Profiles.{command-lists}
+use Rattle.message.specs.Replies.{owedFor}
+use Rattle.message.specs.declared.kind.Owed.the-variants.{Nothing}
 use Rattle.base.proofs.Keys.{agree}
 use Rattle.link.specs.Sending.{waitCommands, mayWait}
-use Rattle.link.specs.Claims.{answersModule, BoxCommands, ModuleAnswers}
+use Rattle.link.specs.Claims.{repliesToModule, BoxCommands, ModuleReplies}
 
 -- a test that is passed where one of two is, and only there
 joined : (a b d : Bool) → (a ≡ true → (b || d) ≡ true) → (b ≡ true → a ≡ true) → (d ≡ true → a ≡ true) → a ≡ (b || d)
@@ -27,22 +27,22 @@ apart true d f = f refl
 apart false d f = refl
 
 pub box-commands : BoxCommands
-unfolding among table lineIn
+unfolding among table profileIn
 box-commands command =
     record {
-      either = joined (fromBox command) (mayWait command) (among command answersModule)
-          (λ h. agree (λ c. mayWait c || among c answersModule) (λ _. true) boxCommands command refl
-          (sym (paper-lists .from-box command) ∙ h))
+      either = joined (fromBox command) (mayWait command) (among command repliesToModule)
+          (λ h. agree (λ c. mayWait c || among c repliesToModule) (λ _. true) boxCommands command refl
+          (sym (command-lists .from-box command) ∙ h))
           (agree fromBox (λ _. true) waitCommands command refl)
-          (agree fromBox (λ _. true) answersModule command refl);
-      not-both = apart (mayWait command) _ (agree (λ c. among c answersModule) (λ _. false) waitCommands command refl);
+          (agree fromBox (λ _. true) repliesToModule command refl);
+      not-both = apart (mayWait command) _ (agree (λ c. among c repliesToModule) (λ _. false) waitCommands command refl);
     }
 
-pub module-answers : ModuleAnswers
-unfolding among table lineIn
-module-answers command h =
+pub module-replies : ModuleReplies
+unfolding among table profileIn
+module-replies command h =
     record {
       listed = agree (λ c. isListed (kindOf (c + 1))) (λ _. true) waitCommands command refl h;
       not-box = agree (λ c. fromBox (c + 1)) (λ _. false) waitCommands command refl h;
-      no-answer = λ values. agree (λ c. dueFor ((c + 1) ∷ values)) (λ _. Nothing) waitCommands command refl h;
+      no-reply = λ values. agree (λ c. owedFor ((c + 1) ∷ values)) (λ _. Nothing) waitCommands command refl h;
     }

@@ -6,7 +6,7 @@ use native.Mathlib.Omega.{arith}
 use borrow.Author.Tests.{le-ltb, leb-true}
 use lib.Dec.{leb, ltb}
 use Rattle.link.specs.Clock.{elapsedOf}
-use Rattle.link.specs.Claims.{ElapsedTimes, DueAhead, NeverBehind}
+use Rattle.link.specs.Claims.{ElapsedTimes, DueAhead, NeverDueBackward}
 
 pub elapsed-time : ElapsedTimes
 elapsed-time clock since c s = record { in-clock = omega arith; leads = omega arith }
@@ -26,5 +26,5 @@ not-due time h = go (leb 200 time) refl
     go true e = le-ltb time (2 ^ 31) (h (leb-true 200 time e))
     go false e = refl
 
-pub never-behind : NeverBehind
-never-behind sent by s b = not-due (elapsedOf ((sent + 2 ^ 32 - by) % 2 ^ 32) sent) (λ h. omega arith)
+pub never-due-backward : NeverDueBackward
+never-due-backward sent by s b = not-due (elapsedOf ((sent + 2 ^ 32 - by) % 2 ^ 32) sent) (λ h. omega arith)

@@ -11,12 +11,12 @@ use lib.ListN.{length}
 use Rattle.base.proofs.Tests.{by-test}
 use Rattle.link.specs.Sending.{numberAt}
 use Rattle.link.specs.Calls.{linkOf}
-use Rattle.link.specs.Logs.{Call, Entry, logOf, accepted, repeated, ended, numberIn, givenOut, numbersFrom}
+use Rattle.link.specs.Logs.{Call, Entry, logOf, accepted, repeated, ended, numberIn, numbersUsed, numbersFrom}
 use Rattle.link.specs.Logs.{waitsAfter, noneEnds, repeatsIn, lastSent, dueTicks}
 use Rattle.link.specs.declared.state.Link.{Link}
 use Rattle.link.specs.declared.state.Wait.{Wait}
 use Rattle.link.specs.declared.state.Wait.the-variants.{Idle, Waiting}
-use Rattle.link.proofs.Moves.{waitAfter, countAfter, Told, Ranges, Moved, moved}
+use Rattle.link.proofs.Moves.{waitAfter, countAfter, Shown, Ranges, Moved, moved}
 
 -- one more or not, counted before or after
 one-more : {A : Type 0} (size : A → ℕ) (t : Bool) (k : ℕ) (x y : A)
@@ -36,37 +36,37 @@ idle-after e w t true d p q i s = absurd (true≢false s)
 idle-after e w t false true p q i s = simp (p, q)
 idle-after e w t false false p q i s = rw (i s) (simp (p, q))
 
-module _ (first most : ℕ) where
+module _ (first max : ℕ) where
   -- the entries of a link that gave out k numbers, and of what waits in it
   abbrev pub Follows : ℕ → Wait → List Entry → Type 0
   Follows k w [] = Unit
-  Follows k w (e ∷ es) = Moved first most k w e × Follows (countAfter e k) (waitAfter e w) es
+  Follows k w (e ∷ es) = Moved first max k w e × Follows (countAfter e k) (waitAfter e w) es
 
   -- every log goes so
   pub followed : first ≤ 255 → (calls : List Call) (k : ℕ) (w : Wait) {l : Link}
-      → l ≡ linkOf (numberAt first k) w → Ranges first most w
-      → Follows k w (logOf first most l calls)
+      → l ≡ linkOf (numberAt first k) w → Ranges first max w
+      → Follows k w (logOf first max l calls)
   unfolding logOf
   followed small [] k w e h = tt
   followed small (c ∷ calls) k w e h =
-      let m = moved first most k small w c e h in (m, followed small calls _ _ (m .returned) (m .holds))
+      let m = moved first max k small w c e h in (m, followed small calls _ _ (m .after) (m .holds))
 
   -- ---- the numbers given out
 
   -- the number that an entry gives out is the k-th
-  in-turn : (k : ℕ) (w : Wait) (e : Entry) → Told first k e w → accepted e ≡ true → numberIn e ≡ numberAt first k
+  in-turn : (k : ℕ) (w : Wait) (e : Entry) → Shown first k e w → accepted e ≡ true → numberIn e ≡ numberAt first k
   in-turn k Idle e t a = t a
   in-turn k (Waiting command number sent repeats) e t a = absurd (true≢false (sym a ∙ t .0))
 
   -- those of a log come in order
   pub numbered : (k : ℕ) (w : Wait) (es : List Entry)
-      → Follows k w es → givenOut es ≡ numbersFrom first k (length (givenOut es))
-  unfolding givenOut numbersFrom
+      → Follows k w es → numbersUsed es ≡ numbersFrom first k (length (numbersUsed es))
+  unfolding numbersUsed numbersFrom
   numbered k w [] f = refl
   numbered k w (e ∷ es) f =
       let rest = numbered _ _ es (f .1) in
       by-test (λ (l : List ℕ). l ≡ numbersFrom first k (length l)) (accepted e)
-      (λ a. rw (in-turn k w e (f .0 .told) a) (ap (λ (l : List ℕ). numberAt first k ∷ l) (simp (a, add-one) at rest)))
+      (λ a. rw (in-turn k w e (f .0 .shown) a) (ap (λ (l : List ℕ). numberAt first k ∷ l) (simp (a, add-one) at rest)))
       (λ a. simp a at rest)
 
   -- ---- a part of a log
@@ -75,44 +75,44 @@ module _ (first most : ℕ) where
   pub record Standing (k : ℕ) (t : Bool) (before rest : List Entry) : Type 0 where
     pub wait : Wait
     pub idle : waitsAfter t before ≡ false → wait ≡ Idle
-    pub follows : Follows (k + length (givenOut before)) wait rest
+    pub follows : Follows (k + length (numbersUsed before)) wait rest
 
   -- every part of a log leaves such a standing
   pub stands : (k : ℕ) (w : Wait) (t : Bool) (before rest : List Entry)
       → (t ≡ false → w ≡ Idle) → Follows k w (before ++ rest) → Standing k t before rest
-  unfolding givenOut waitsAfter
+  unfolding numbersUsed waitsAfter
   stands k w t [] rest i f = record { wait = w; idle = i; follows = rw add-zero f }
   stands k w t (e ∷ before) rest i f =
       let b = stands _ _ _ before rest (idle-after e w t _ _ refl refl i) (f .1) in
-      let count = one-more length (accepted e) k (givenOut before) (numberIn e ∷ givenOut before) refl in
+      let count = one-more length (accepted e) k (numbersUsed before) (numberIn e ∷ numbersUsed before) refl in
       record { wait = b .wait; idle = b .idle; follows = rw count at (b .follows) }
 
   -- ---- after an acceptance, until the wait ends
 
   -- what entries that do not end a wait leave of it
   pub record Waited (k command number sent repeats : ℕ) (during rest : List Entry) : Type 0 where
-    pub few : repeats + repeatsIn during ≤ most
+    pub few : repeats + repeatsIn during ≤ max
     pub each : dueTicks sent during ≡ repeatsIn during
-    pub alone : givenOut during ≡ []
+    pub alone : numbersUsed during ≡ []
     pub follows : Follows k (Waiting command number (lastSent sent during) (repeats + repeatsIn during)) rest
 
   -- they leave so much
   pub waited : (k command number sent repeats : ℕ) (during rest : List Entry)
-      → Ranges first most (Waiting command number sent repeats)
+      → Ranges first max (Waiting command number sent repeats)
       → Follows k (Waiting command number sent repeats) (during ++ rest) → noneEnds during ≡ true
       → Waited k command number sent repeats during rest
-  unfolding givenOut noneEnds repeatsIn lastSent dueTicks
+  unfolding numbersUsed noneEnds repeatsIn lastSent dueTicks
   waited k command number sent repeats [] rest h f q =
       record { few = omega (arith, h .1); each = refl; alone = refl; follows = rw add-zero f }
   waited k command number sent repeats (e ∷ during) rest h f q =
-      let a : accepted e ≡ false = f .0 .told .0 in
+      let a : accepted e ≡ false = f .0 .shown .0 in
       let n = none-ends (ended e) q in
       let i =
       waited k command number _ _ during rest (simp (a, n .0) at (f .0 .holds)) (simp (a, n .0) at (f .1)) (n .1) in
       let count = one-more (λ (m : ℕ). m) (repeated e) repeats (repeatsIn during) (suc (repeatsIn during)) refl in
       record {
         few = rw count at (i .few);
-        each = rw (f .0 .told .1 (n .0), i .each);
+        each = rw (f .0 .shown .1 (n .0), i .each);
         alone = rw a (i .alone);
         follows = rw count at (i .follows);
       }

@@ -8,49 +8,49 @@ use lib.Dec.{leb, ltb}
 use Rattle.base.specs.Rows.{Row, row}
 use Rattle.base.specs.Keys.{among}
 use Rattle.message.specs.Commands.{kindOf, isListed, fromBox}
-use Rattle.message.specs.Answers.{dueFor}
-use Rattle.message.specs.declared.kind.Due.the-variants.{Nothing}
-use Rattle.link.specs.Sending.{firstNumber, mostRepeats, mayWait, numberAt}
+use Rattle.message.specs.Replies.{owedFor}
+use Rattle.message.specs.declared.kind.Owed.the-variants.{Nothing}
+use Rattle.link.specs.Sending.{firstNumber, maxRepeats, mayWait, numberAt}
 use Rattle.link.specs.Clock.{elapsedOf, isDue}
-use Rattle.link.specs.Table.{nothingRow, againRow, acceptanceRowOf, retryRowOf, arrivalRowOf}
+use Rattle.link.specs.Table.{nothingRow, againRow, offerRowOf, tickRowOf, receiveRowOf}
 use Rattle.link.specs.Calls.{freshOf, inRange, offerOf, tickOf}
-use Rattle.link.specs.Logs.{Call, offering, ticking, answering, callOf, Entry, logOf, rowsIn, waitsAfter}
+use Rattle.link.specs.Logs.{Call, offering, ticking, receiving, callOf, Entry, logOf, rowsIn, waitsAfter}
 use Rattle.link.specs.History.{OpenWait, History}
 use Rattle.link.specs.declared.state.Link.{Link}
-use Rattle.link.specs.declared.offers.Acceptance.{Acceptance}
-use Rattle.link.specs.declared.ticks.Retry.{Retry}
-use Rattle.link.specs.declared.arrivals.Arrival.{Arrival}
+use Rattle.link.specs.declared.offers.OfferResult.{OfferResult}
+use Rattle.link.specs.declared.ticks.TickResult.{TickResult}
+use Rattle.link.specs.declared.receives.ReceiveResult.{ReceiveResult}
 
--- ---- rows-tell: two answers of one enum never have the same number and
+-- ---- rows-injective: two answers of one enum never have the same number and
 -- values, so an equation of rows fixes the answer
-pub record RowsTell : Type 0 where
-  pub acceptances : (a b : Acceptance) → acceptanceRowOf a ≡ acceptanceRowOf b → a ≡ b
-  pub retries : (a b : Retry) → retryRowOf a ≡ retryRowOf b → a ≡ b
-  pub arrivals : (a b : Arrival) → arrivalRowOf a ≡ arrivalRowOf b → a ≡ b
+pub record RowsInjective : Type 0 where
+  pub acceptances : (a b : OfferResult) → offerRowOf a ≡ offerRowOf b → a ≡ b
+  pub retries : (a b : TickResult) → tickRowOf a ≡ tickRowOf b → a ≡ b
+  pub receives : (a b : ReceiveResult) → receiveRowOf a ≡ receiveRowOf b → a ≡ b
 
 -- ---- box-commands: what "only the box sends" is what may wait and what answers the module, and nothing is both
-abbrev pub answersModule : List ℕ
-answersModule = 0x02 ∷ 0x04 ∷ 0x08 ∷ 0x0E ∷ 0x10 ∷ 0x12 ∷ 0x1A ∷ 0x1E ∷ 0x20 ∷ []
+abbrev pub repliesToModule : List ℕ
+repliesToModule = 0x02 ∷ 0x04 ∷ 0x08 ∷ 0x0E ∷ 0x10 ∷ 0x12 ∷ 0x1A ∷ 0x1E ∷ 0x20 ∷ []
 
 -- of each command
 pub record BoxCommand (command : ℕ) : Type 0 where
-  pub either : fromBox command ≡ (mayWait command || among command answersModule)
-  pub not-both : (mayWait command && among command answersModule) ≡ false
+  pub either : fromBox command ≡ (mayWait command || among command repliesToModule)
+  pub not-both : (mayWait command && among command repliesToModule) ≡ false
 
 -- of every command
 abbrev pub BoxCommands : Type 0
 BoxCommands = (command : ℕ) → BoxCommand command
 
--- ---- module-answers: the answer to what may wait is listed, is none that only the box sends,
+-- ---- module-replies: the answer to what may wait is listed, is none that only the box sends,
 -- and without a fault gets no answer from the box
-pub record ModuleAnswer (command : ℕ) : Type 0 where
+pub record ModuleReply (command : ℕ) : Type 0 where
   pub listed : isListed (kindOf (command + 1)) ≡ true
   pub not-box : fromBox (command + 1) ≡ false
-  pub no-answer : (values : List ℕ) → dueFor ((command + 1) ∷ values) ≡ Nothing
+  pub no-reply : (values : List ℕ) → owedFor ((command + 1) ∷ values) ≡ Nothing
 
 -- of every command that may wait
-abbrev pub ModuleAnswers : Type 0
-ModuleAnswers = (command : ℕ) → mayWait command ≡ true → ModuleAnswer command
+abbrev pub ModuleReplies : Type 0
+ModuleReplies = (command : ℕ) → mayWait command ≡ true → ModuleReply command
 
 -- ---- numbers-run: "Numbers run 1 to 255 and then 1 again", with the first number for 1
 pub record NumbersRun (first : ℕ) : Type 0 where
@@ -75,26 +75,26 @@ abbrev pub DueAhead : Type 0
 DueAhead =
     (sent by : ℕ) → sent < 2 ^ 32 → by < 2 ^ 32 → isDue ((sent + by) % 2 ^ 32) sent ≡ (leb 200 by && ltb by (2 ^ 31))
 
--- ---- never-behind: "so a clock up to 2^31 behind the last sending is never due"
-abbrev pub NeverBehind : Type 0
-NeverBehind = (sent by : ℕ) → sent < 2 ^ 32 → by ≤ 2 ^ 31 → isDue ((sent + 2 ^ 32 - by) % 2 ^ 32) sent ≡ false
+-- ---- never-due-backward: "so a clock up to 2^31 behind the last sending is never due"
+abbrev pub NeverDueBackward : Type 0
+NeverDueBackward = (sent by : ℕ) → sent < 2 ^ 32 → by ≤ 2 ^ 31 → isDue ((sent + 2 ^ 32 - by) % 2 ^ 32) sent ≡ false
 
 -- ---- refused-unchanged: of every link, in range or not, and every call: "link unchanged", "state unchanged";
 -- STATE just where a field is out of range
-pub record Refused (first most : ℕ) (l : Link) (c : Call) : Type 0 where
-  pub unchanged : callOf first most l c .row .number ≢ 0 → callOf first most l c .state ≡ l
-  pub state-out : callOf first most l c .row .number ≡ 17 → inRange first most l ≡ false
-  pub out-state : inRange first most l ≡ false → callOf first most l c .row ≡ row 17 (0 ∷ [])
+pub record Refused (first max : ℕ) (l : Link) (c : Call) : Type 0 where
+  pub unchanged : callOf first max l c .row .number ≢ 0 → callOf first max l c .state ≡ l
+  pub state-out : callOf first max l c .row .number ≡ 17 → inRange first max l ≡ false
+  pub out-state : inRange first max l ≡ false → callOf first max l c .row ≡ row 17 (0 ∷ [])
 
 -- of all of them
 abbrev pub RefusedUnchanged : Type 0
-RefusedUnchanged = (first most : ℕ) (l : Link) (c : Call) → Refused first most l c
+RefusedUnchanged = (first max : ℕ) (l : Link) (c : Call) → Refused first max l c
 
 -- ---- link-history: every list of calls of a link that began fresh, for every first number up to 255 and any most
--- repeats; paper 01's are `firstNumber` and `mostRepeats`
+-- repeats; paper 01's are `firstNumber` and `maxRepeats`
 abbrev pub LinkHistory : Type 0
 LinkHistory =
-    (first most : ℕ) → first ≤ 255 → (calls : List Call) → History first most (logOf first most (freshOf first) calls)
+    (first max : ℕ) → first ≤ 255 → (calls : List Call) → History first max (logOf first max (freshOf first) calls)
 
 -- ---- wait-found: where a command waits after a log, its acceptance is there;
 -- so `idle` and `waiting` of a history speak of every entry
@@ -106,10 +106,10 @@ WaitFound = (log : List Entry) → waitsAfter false log ≡ true → OpenWait lo
 -- a report, refused offers, answers that do not fit; three repeats and the end; an onboarding, and the answer that fits
 abbrev pub workedCalls : List Call
 workedCalls =
-    answering 0x06 1 ∷ offering 0x07 0 ∷ offering 0x05 0 ∷ offering 0x09 0 ∷ offering 0x07 0
-    ∷ answering 0x06 2 ∷ answering 0x05 1
+    receiving 0x06 1 ∷ offering 0x07 0 ∷ offering 0x05 0 ∷ offering 0x09 0 ∷ offering 0x07 0
+    ∷ receiving 0x06 2 ∷ receiving 0x05 1
     ∷ ticking 199 ∷ ticking 200 ∷ ticking 399 ∷ ticking 400 ∷ ticking 600 ∷ ticking 800 ∷ ticking 1000
-    ∷ answering 0x06 1 ∷ offering 0x09 1000 ∷ answering 0x0A 2 ∷ []
+    ∷ receiving 0x06 1 ∷ offering 0x09 1000 ∷ receiving 0x0A 2 ∷ []
 
 -- their answers, with the table's numbers
 abbrev pub workedRows : List Row
@@ -121,13 +121,13 @@ workedRows =
 
 -- the one is what the other is answered; and the numbers go round at 255
 pub record WorkedRun : Type 0 where
-  pub rows : rowsIn (logOf firstNumber mostRepeats (freshOf firstNumber) workedCalls) ≡ workedRows
+  pub rows : rowsIn (logOf firstNumber maxRepeats (freshOf firstNumber) workedCalls) ≡ workedRows
   pub last : numberAt firstNumber 254 ≡ 255
   pub round : numberAt firstNumber 255 ≡ 1
 
 -- ---- example-11, and of a fresh link that is offered a report at the first clock
 abbrev pub reportSent : Link
-reportSent = offerOf firstNumber mostRepeats (freshOf firstNumber) 0x05 4294967200 .state
+reportSent = offerOf firstNumber maxRepeats (freshOf firstNumber) 0x05 4294967200 .state
 
 -- "Clock 4,294,967,200, then 104: elapsed 200, due; 103: not due."
 pub record Example11 : Type 0 where
@@ -135,5 +135,5 @@ pub record Example11 : Type 0 where
   pub due : isDue 104 4294967200 ≡ true
   pub not-due : isDue 103 4294967200 ≡ false
   -- the same of a fresh link that is offered a report at the first clock, and then ticked
-  pub again : tickOf firstNumber mostRepeats reportSent 104 .row ≡ againRow 0x05 1
-  pub nothing : tickOf firstNumber mostRepeats reportSent 103 .row ≡ nothingRow
+  pub again : tickOf firstNumber maxRepeats reportSent 104 .row ≡ againRow 0x05 1
+  pub nothing : tickOf firstNumber maxRepeats reportSent 103 .row ≡ nothingRow

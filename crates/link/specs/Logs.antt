@@ -5,10 +5,10 @@ use mathlib.Core.List.{List, [], _∷_}
 use lib.ListN.{getD}
 use lib.Dec.{eqb}
 use Rattle.base.specs.Rows.{Row}
-use Rattle.base.specs.Outcomes.{Reply}
+use Rattle.base.specs.Outcomes.{Outcome}
 use Rattle.link.specs.Sending.{numberAt}
 use Rattle.link.specs.Clock.{isDue}
-use Rattle.link.specs.Calls.{offerOf, tickOf, arriveOf}
+use Rattle.link.specs.Calls.{offerOf, tickOf, receiveOf}
 use Rattle.link.specs.declared.state.Link.{Link}
 
 -- ---- the log of a list of calls
@@ -17,27 +17,27 @@ use Rattle.link.specs.declared.state.Link.{Link}
 pub data Call : Type 0 where
   offering : ℕ → ℕ → Call  -- a command, at a clock
   ticking : ℕ → Call  -- at a clock
-  answering : ℕ → ℕ → Call  -- an answer's command and number
+  receiving : ℕ → ℕ → Call  -- an answer's command and number
 
 -- the very definitions that the contracts of the calls state
-abbrev pub callOf : ℕ → ℕ → Link → Call → Reply Link
-callOf first most l (offering command clock) = offerOf first most l command clock
-callOf first most l (ticking clock) = tickOf first most l clock
-callOf first most l (answering command number) = arriveOf first most l command number
+abbrev pub callOf : ℕ → ℕ → Link → Call → Outcome Link
+callOf first max l (offering command clock) = offerOf first max l command clock
+callOf first max l (ticking clock) = tickOf first max l clock
+callOf first max l (receiving command number) = receiveOf first max l command number
 
 -- a call, its row, and the link given and returned
 pub record Entry : Type 0 where
   pub call : Call
   pub row : Row
-  pub given : Link
-  pub returned : Link
+  pub before : Link
+  pub after : Link
 
 -- all calls, refused ones included, each of the link that the one before returned
 unfoldable pub logOf : ℕ → ℕ → Link → List Call → List Entry
-logOf first most l [] = []
-logOf first most l (c ∷ cs) =
-    record { call = c; row = callOf first most l c .row; given = l; returned = callOf first most l c .state }
-    ∷ logOf first most (callOf first most l c .state) cs
+logOf first max l [] = []
+logOf first max l (c ∷ cs) =
+    record { call = c; row = callOf first max l c .row; before = l; after = callOf first max l c .state }
+    ∷ logOf first max (callOf first max l c .state) cs
 
 -- what the calls were answered
 unfoldable pub rowsIn : List Entry → List Row
@@ -50,37 +50,37 @@ rowsIn (e ∷ es) = e .row ∷ rowsIn es
 abbrev pub acceptedIn : Call → Row → Bool
 acceptedIn (offering command clock) r = eqb (r .number) 0
 acceptedIn (ticking clock) r = false
-acceptedIn (answering command number) r = false
+acceptedIn (receiving command number) r = false
 
 -- "send again"
 abbrev pub repeatedIn : Call → Row → Bool
 repeatedIn (offering command clock) r = false
 repeatedIn (ticking clock) r = eqb (r .number) 0 && eqb (getD (r .values) 0 0) 1
-repeatedIn (answering command number) r = false
+repeatedIn (receiving command number) r = false
 
 -- the end of a wait: "given up", or the answer that fits
 abbrev pub endedIn : Call → Row → Bool
 endedIn (offering command clock) r = false
 endedIn (ticking clock) r = eqb (r .number) 0 && eqb (getD (r .values) 0 0) 2
-endedIn (answering command number) r = eqb (r .number) 0
+endedIn (receiving command number) r = eqb (r .number) 0
 
 -- the command that a call offers; only asked of an offer
 abbrev pub commandIn : Call → ℕ
 commandIn (offering command clock) = command
 commandIn (ticking clock) = 0
-commandIn (answering command number) = 0
+commandIn (receiving command number) = 0
 
 -- the clock that a call is given; only asked of an offer or a tick
 abbrev pub clockIn : Call → ℕ
 clockIn (offering command clock) = clock
 clockIn (ticking clock) = clock
-clockIn (answering command number) = 0
+clockIn (receiving command number) = 0
 
 -- a tick that is due after a sending at a clock
 abbrev pub dueIn : Call → ℕ → Bool
 dueIn (offering command clock) sent = false
 dueIn (ticking clock) sent = isDue clock sent
-dueIn (answering command number) sent = false
+dueIn (receiving command number) sent = false
 
 -- an entry accepts a command
 abbrev pub accepted : Entry → Bool
@@ -101,9 +101,9 @@ numberIn e = getD (e .row .values) 0 0
 -- ---- counted over a log
 
 -- the numbers given out, in order
-unfoldable pub givenOut : List Entry → List ℕ
-givenOut [] = []
-givenOut (e ∷ es) = cond (accepted e) (numberIn e ∷ givenOut es) (givenOut es)
+unfoldable pub numbersUsed : List Entry → List ℕ
+numbersUsed [] = []
+numbersUsed (e ∷ es) = cond (accepted e) (numberIn e ∷ numbersUsed es) (numbersUsed es)
 
 -- the k-th number and those after it, n in all
 unfoldable pub numbersFrom : ℕ → ℕ → ℕ → List ℕ

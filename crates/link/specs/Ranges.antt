@@ -6,32 +6,32 @@ use mathlib.Core.Bool.{true, false, cond, _&&_}
 use mathlib.Core.List.{List, [], _∷_, map}
 use lib.Dec.{eqb}
 use Rattle.base.specs.Rows.{row}
-use Rattle.base.specs.Outcomes.{Reply, reply}
+use Rattle.base.specs.Outcomes.{Outcome, outcome}
 use Rattle.base.specs.Keys.{among}
-use Rattle.link.specs.Sending.{firstNumber, mostRepeats}
-use Rattle.link.specs.Table.{acceptanceRowOf, retryRowOf, arrivalRowOf}
-use Rattle.link.specs.Calls.{linkOf, freshOf, offeredOf, tickedOf, arrivedOf}
+use Rattle.link.specs.Sending.{firstNumber, maxRepeats}
+use Rattle.link.specs.Table.{offerRowOf, tickRowOf, receiveRowOf}
+use Rattle.link.specs.Calls.{linkOf, freshOf, offeredOf, tickedOf, receivedOf}
 use Rattle.link.specs.Clock.{isDue}
-use Rattle.link.specs.Logs.{Call, offering, ticking, answering, callOf}
+use Rattle.link.specs.Logs.{Call, offering, ticking, receiving, callOf}
 use Rattle.link.specs.declared.state.Link.{Link}
 use Rattle.link.specs.declared.state.Wait.{Wait}
 use Rattle.link.specs.declared.state.Wait.the-variants.{Idle, Waiting}
 use Rattle.link.specs.declared.offers.Offered.{Offered}
 use Rattle.link.specs.declared.ticks.Ticked.{Ticked}
-use Rattle.link.specs.declared.arrivals.Arrived.{Arrived}
-use Rattle.link.specs.declared.offers.Acceptance.the-variants as acceptance
-use Rattle.link.specs.declared.ticks.Retry.the-variants as retry
-use Rattle.link.specs.declared.arrivals.Arrival.the-variants as arrival
+use Rattle.link.specs.declared.receives.Received.{Received}
+use Rattle.link.specs.declared.offers.OfferResult.the-variants as acceptance
+use Rattle.link.specs.declared.ticks.TickResult.the-variants as retry
+use Rattle.link.specs.declared.receives.ReceiveResult.the-variants as arrival
 
 -- ---- link-ranges: each field alone, whatever the others are, and all fields together
 
 -- what a call of a link is answered, and the link that it leaves
-abbrev pub answerTo : Link → Call → Reply Link
-answerTo l c = callOf firstNumber mostRepeats l c
+abbrev pub answerTo : Link → Call → Outcome Link
+answerTo l c = callOf firstNumber maxRepeats l c
 
 -- the call is answered STATE, and the link stays
 abbrev pub OutOfRange : Link → Call → Type 0
-OutOfRange l c = answerTo l c ≡ reply (row 17 (0 ∷ [])) l
+OutOfRange l c = answerTo l c ≡ outcome (row 17 (0 ∷ [])) l
 
 -- the call is answered something else
 abbrev pub InRange : Link → Call → Type 0
@@ -69,35 +69,35 @@ numberAfter n = cond (eqb n 255) 1 (n + 1)
 pub record IdleExact (next : ℕ) : Type 0 where
   pub accepts : (command clock : ℕ) → among command waiters ≡ true
       → answerTo (linkOf next Idle) (offering command clock)
-      ≡ reply (row 0 (next ∷ [])) (linkOf (numberAfter next) (Waiting command next clock 0))
+      ≡ outcome (row 0 (next ∷ [])) (linkOf (numberAfter next) (Waiting command next clock 0))
   pub unsent : (command clock : ℕ) → among command waiters ≡ false
-      → answerTo (linkOf next Idle) (offering command clock) ≡ reply (row 42 []) (linkOf next Idle)
-  pub nothing : (clock : ℕ) → answerTo (linkOf next Idle) (ticking clock) ≡ reply (row 0 []) (linkOf next Idle)
+      → answerTo (linkOf next Idle) (offering command clock) ≡ outcome (row 42 []) (linkOf next Idle)
+  pub nothing : (clock : ℕ) → answerTo (linkOf next Idle) (ticking clock) ≡ outcome (row 0 []) (linkOf next Idle)
   pub stray : (command number : ℕ)
-      → answerTo (linkOf next Idle) (answering command number) ≡ reply (row 43 []) (linkOf next Idle)
+      → answerTo (linkOf next Idle) (receiving command number) ≡ outcome (row 43 []) (linkOf next Idle)
 
 -- a command waits, sent at a clock, and sent again so often
 pub record WaitingExact (next command number sent repeats : ℕ) : Type 0 where
   pub busy : (other clock : ℕ) → among other waiters ≡ true
       → answerTo (linkOf next (Waiting command number sent repeats)) (offering other clock)
-      ≡ reply (row 41 []) (linkOf next (Waiting command number sent repeats))
+      ≡ outcome (row 41 []) (linkOf next (Waiting command number sent repeats))
   pub unsent : (other clock : ℕ) → among other waiters ≡ false
       → answerTo (linkOf next (Waiting command number sent repeats)) (offering other clock)
-      ≡ reply (row 42 []) (linkOf next (Waiting command number sent repeats))
+      ≡ outcome (row 42 []) (linkOf next (Waiting command number sent repeats))
   pub not-due : (clock : ℕ) → isDue clock sent ≡ false
       → answerTo (linkOf next (Waiting command number sent repeats)) (ticking clock)
-      ≡ reply (row 0 []) (linkOf next (Waiting command number sent repeats))
+      ≡ outcome (row 0 []) (linkOf next (Waiting command number sent repeats))
   pub again : (clock : ℕ) → isDue clock sent ≡ true → repeats < 3
       → answerTo (linkOf next (Waiting command number sent repeats)) (ticking clock)
-      ≡ reply (row 0 (1 ∷ command ∷ number ∷ [])) (linkOf next (Waiting command number clock (repeats + 1)))
+      ≡ outcome (row 0 (1 ∷ command ∷ number ∷ [])) (linkOf next (Waiting command number clock (repeats + 1)))
   pub given-up : (clock : ℕ) → isDue clock sent ≡ true → repeats ≡ 3
       → answerTo (linkOf next (Waiting command number sent repeats)) (ticking clock)
-      ≡ reply (row 0 (2 ∷ command ∷ number ∷ [])) (linkOf next Idle)
-  pub answered : answerTo (linkOf next (Waiting command number sent repeats)) (answering (command + 1) number)
-      ≡ reply (row 0 (command ∷ number ∷ [])) (linkOf next Idle)
+      ≡ outcome (row 0 (2 ∷ command ∷ number ∷ [])) (linkOf next Idle)
+  pub replied : answerTo (linkOf next (Waiting command number sent repeats)) (receiving (command + 1) number)
+      ≡ outcome (row 0 (command ∷ number ∷ [])) (linkOf next Idle)
   pub stray : (other under : ℕ) → (eqb other (command + 1) && eqb under number) ≡ false
-      → answerTo (linkOf next (Waiting command number sent repeats)) (answering other under)
-      ≡ reply (row 43 []) (linkOf next (Waiting command number sent repeats))
+      → answerTo (linkOf next (Waiting command number sent repeats)) (receiving other under)
+      ≡ outcome (row 43 []) (linkOf next (Waiting command number sent repeats))
 
 -- of every link in range
 pub record CallsExact : Type 0 where
@@ -109,24 +109,24 @@ pub record CallsExact : Type 0 where
 -- ---- named-rows: every answer of the code, with its number in the table and its values
 pub record NamedRows (c n : ℕ) : Type 0 where
   pub acceptances :
-      map acceptanceRowOf (acceptance.Accepted n ∷ acceptance.State ∷ acceptance.Unsent ∷ acceptance.Busy ∷ [])
+      map offerRowOf (acceptance.Accepted n ∷ acceptance.State ∷ acceptance.Unsent ∷ acceptance.Busy ∷ [])
       ≡ row 0 (n ∷ []) ∷ row 17 (0 ∷ []) ∷ row 42 [] ∷ row 41 [] ∷ []
   pub retries :
-      map retryRowOf (retry.Nothing ∷ retry.Again c n ∷ retry.GivenUp c n ∷ retry.State ∷ [])
+      map tickRowOf (retry.Nothing ∷ retry.Again c n ∷ retry.GivenUp c n ∷ retry.State ∷ [])
       ≡ row 0 [] ∷ row 0 (1 ∷ c ∷ n ∷ []) ∷ row 0 (2 ∷ c ∷ n ∷ []) ∷ row 17 (0 ∷ []) ∷ []
-  pub arrivals :
-      map arrivalRowOf (arrival.Answered c n ∷ arrival.State ∷ arrival.Stray ∷ [])
+  pub receives :
+      map receiveRowOf (arrival.Replied c n ∷ arrival.State ∷ arrival.Stray ∷ [])
       ≡ row 0 (c ∷ n ∷ []) ∷ row 17 (0 ∷ []) ∷ row 43 [] ∷ []
 
 -- of every command and number
 abbrev pub RowsNamed : Type 0
 RowsNamed = (c n : ℕ) → NamedRows c n
 
--- ---- contracts-whole: the contracts' equations fix the answer and the link, each by itself
-pub record ContractsWhole : Type 0 where
-  pub offered : (o : Offered) (y : Reply Link)
-      → offeredOf o ≡ y → (acceptanceRowOf (o .answer) ≡ y .row) × (o .link ≡ y .state)
-  pub ticked : (t : Ticked) (y : Reply Link)
-      → tickedOf t ≡ y → (retryRowOf (t .answer) ≡ y .row) × (t .link ≡ y .state)
-  pub arrived : (a : Arrived) (y : Reply Link)
-      → arrivedOf a ≡ y → (arrivalRowOf (a .answer) ≡ y .row) × (a .link ≡ y .state)
+-- ---- contracts-complete: the contracts' equations fix the answer and the link, each by itself
+pub record ContractsComplete : Type 0 where
+  pub offered : (o : Offered) (y : Outcome Link)
+      → offeredOf o ≡ y → (offerRowOf (o .answer) ≡ y .row) × (o .link ≡ y .state)
+  pub ticked : (t : Ticked) (y : Outcome Link)
+      → tickedOf t ≡ y → (tickRowOf (t .answer) ≡ y .row) × (t .link ≡ y .state)
+  pub received : (a : Received) (y : Outcome Link)
+      → receivedOf a ≡ y → (receiveRowOf (a .answer) ≡ y .row) × (a .link ≡ y .state)

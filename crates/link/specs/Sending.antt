@@ -18,9 +18,9 @@ mayWait command = among command waitCommands
 abbrev pub firstNumber : ℕ
 firstNumber = 1
 
--- its most repeats of a command, after the first sending; the definitions take it as `most`
-abbrev pub mostRepeats : ℕ
-mostRepeats = 3
+-- its most repeats of a command, after the first sending; the definitions take it as `max`
+abbrev pub maxRepeats : ℕ
+maxRepeats = 3
 
 -- "Numbers run 1 to 255 and then 1 again (000)": the k-th number given out;
 -- k counts from 0, and `first` is the first number

@@ -3,12 +3,12 @@
 use Prim.Native.Nat.{ℕ}
 use mathlib.Core.List.{[], _∷_}
 use Rattle.base.specs.Rows.{Row, row}
-use Rattle.link.specs.declared.offers.Acceptance.{Acceptance}
-use Rattle.link.specs.declared.offers.Acceptance.the-variants as acceptance
-use Rattle.link.specs.declared.ticks.Retry.{Retry}
-use Rattle.link.specs.declared.ticks.Retry.the-variants as retry
-use Rattle.link.specs.declared.arrivals.Arrival.{Arrival}
-use Rattle.link.specs.declared.arrivals.Arrival.the-variants as arrival
+use Rattle.link.specs.declared.offers.OfferResult.{OfferResult}
+use Rattle.link.specs.declared.offers.OfferResult.the-variants as acceptance
+use Rattle.link.specs.declared.ticks.TickResult.{TickResult}
+use Rattle.link.specs.declared.ticks.TickResult.the-variants as retry
+use Rattle.link.specs.declared.receives.ReceiveResult.{ReceiveResult}
+use Rattle.link.specs.declared.receives.ReceiveResult.the-variants as arrival
 
 -- ---- the rows, with the values that paper 01 names
 
@@ -45,27 +45,27 @@ abbrev pub givenUpRow : ℕ → ℕ → Row
 givenUpRow command number = row 0 (2 ∷ command ∷ number ∷ [])
 
 -- "returns the waiting command and number"
-abbrev pub answeredRow : ℕ → ℕ → Row
-answeredRow command number = row 0 (command ∷ number ∷ [])
+abbrev pub repliedRow : ℕ → ℕ → Row
+repliedRow command number = row 0 (command ∷ number ∷ [])
 
 -- ---- the code's answers
 
 -- a command offered
-abbrev pub acceptanceRowOf : Acceptance → Row
-acceptanceRowOf (acceptance.Accepted number) = acceptedRow number
-acceptanceRowOf acceptance.State = stateRow
-acceptanceRowOf acceptance.Unsent = unsentRow
-acceptanceRowOf acceptance.Busy = busyRow
+abbrev pub offerRowOf : OfferResult → Row
+offerRowOf (acceptance.Accepted number) = acceptedRow number
+offerRowOf acceptance.State = stateRow
+offerRowOf acceptance.Unsent = unsentRow
+offerRowOf acceptance.Busy = busyRow
 
 -- a tick
-abbrev pub retryRowOf : Retry → Row
-retryRowOf retry.Nothing = nothingRow
-retryRowOf (retry.Again command number) = againRow command number
-retryRowOf (retry.GivenUp command number) = givenUpRow command number
-retryRowOf retry.State = stateRow
+abbrev pub tickRowOf : TickResult → Row
+tickRowOf retry.Nothing = nothingRow
+tickRowOf (retry.Again command number) = againRow command number
+tickRowOf (retry.GivenUp command number) = givenUpRow command number
+tickRowOf retry.State = stateRow
 
 -- an answer that arrived
-abbrev pub arrivalRowOf : Arrival → Row
-arrivalRowOf (arrival.Answered command number) = answeredRow command number
-arrivalRowOf arrival.State = stateRow
-arrivalRowOf arrival.Stray = strayRow
+abbrev pub receiveRowOf : ReceiveResult → Row
+receiveRowOf (arrival.Replied command number) = repliedRow command number
+receiveRowOf arrival.State = stateRow
+receiveRowOf arrival.Stray = strayRow

@@ -1,8 +1,8 @@
 // The sending rules of the serial link: one command waits at a time,
 // under a sequence number, and is sent again when its time is up.
-mod arrivals;
 mod clock;
 mod offers;
+mod receives;
 mod state;
 mod ticks;
 
@@ -18,17 +18,17 @@ pub const TIMEOUT_MS: u32 = 200;
 // Half the clock's range: from here on an elapsed time is taken for a clock that went back.
 pub const HALF_CLOCK: u32 = 0x8000_0000;
 
-pub use arrivals::Arrival;
-pub use arrivals::Arrived;
-pub use arrivals::arrive;
 pub use clock::elapsed;
 pub use clock::is_due;
-pub use offers::Acceptance;
+pub use offers::OfferResult;
 pub use offers::Offered;
 pub use offers::offer;
+pub use receives::ReceiveResult;
+pub use receives::Received;
+pub use receives::receive;
 pub use state::Link;
 pub use state::Wait;
-pub use ticks::Retry;
+pub use ticks::TickResult;
 pub use ticks::Ticked;
 pub use ticks::tick;
 pub use ticks::tick_by_value;

@@ -5,13 +5,13 @@ use super::state::following;
 use super::state::in_range;
 use super::state::may_wait;
 ghost use mathlib.Core.Path.{_≡_};
-ghost use Rattle.base.specs.Outcomes.{reply};
-ghost use Rattle.link.specs.Sending.{firstNumber, mostRepeats};
-ghost use Rattle.link.specs.Table.{acceptanceRowOf};
+ghost use Rattle.base.specs.Outcomes.{outcome};
+ghost use Rattle.link.specs.Sending.{firstNumber, maxRepeats};
+ghost use Rattle.link.specs.Table.{offerRowOf};
 ghost use Rattle.link.specs.Calls.{acceptOf, offerOf, offeredOf};
 
 // What an offer is answered.
-pub enum Acceptance {
+pub enum OfferResult {
     // The command waits, under this number.
     Accepted { number: u8 },
     // STATE 17: a field of the link is out of its range.
@@ -23,13 +23,13 @@ pub enum Acceptance {
 }
 
 pub struct Offered {
-    pub answer: Acceptance,
+    pub answer: OfferResult,
     pub link: Link,
 }
 
 // A refusal leaves the link as it was, and uses no number.
-fn refused(answer: Acceptance, link: Link) -> Offered
-    ensures { λ r. ⌜ offeredOf r ≡ reply (acceptanceRowOf answer) link ⌝ }
+fn refused(answer: OfferResult, link: Link) -> Offered
+    ensures { λ r. ⌜ offeredOf r ≡ outcome (offerRowOf answer) link ⌝ }
 {
     Offered { answer, link }
 }
@@ -39,7 +39,7 @@ fn accept(next: u8, command: u8, clock: u32) -> Offered
     ensures { λ r. ⌜ offeredOf r ≡ acceptOf firstNumber next command clock ⌝ }
 {
     Offered {
-        answer: Acceptance::Accepted { number: next },
+        answer: OfferResult::Accepted { number: next },
         link: Link {
             next: following(next),
             wait: Wait::Waiting {
@@ -55,17 +55,17 @@ fn accept(next: u8, command: u8, clock: u32) -> Offered
 // Offers a command at a reading of the clock. Where it is accepted,
 // the caller sends it under the number returned, and keeps the payload.
 pub fn offer(link: Link, command: u8, clock: u32) -> Offered
-    ensures { λ r. ⌜ offeredOf r ≡ offerOf firstNumber mostRepeats link command clock ⌝ }
+    ensures { λ r. ⌜ offeredOf r ≡ offerOf firstNumber maxRepeats link command clock ⌝ }
 {
     if !in_range(link) {
-        return refused(Acceptance::State, link);
+        return refused(OfferResult::State, link);
     }
     if !may_wait(command) {
-        return refused(Acceptance::Unsent, link);
+        return refused(OfferResult::Unsent, link);
     }
     let wait = link.wait;
     match wait {
         Wait::Idle => accept(link.next, command, clock),
-        Wait::Waiting { .. } => refused(Acceptance::Busy, link),
+        Wait::Waiting { .. } => refused(OfferResult::Busy, link),
     }
 }

@@ -2,7 +2,7 @@
 use super::FIRST_NUMBER;
 use super::MAX_REPEATS;
 ghost use mathlib.Core.Path.{_≡_};
-ghost use Rattle.link.specs.Sending.{firstNumber, mostRepeats, mayWait, followingOf};
+ghost use Rattle.link.specs.Sending.{firstNumber, maxRepeats, mayWait, followingOf};
 ghost use Rattle.link.specs.Calls.{freshOf, inRange, idleOf};
 
 // A link, for a box's life.
@@ -66,7 +66,7 @@ pub(crate) fn idle(link: Link) -> Link
 
 // Whether each field is in its range.
 pub(crate) fn in_range(link: Link) -> bool
-    ensures { λ r. ⌜ r ≡ inRange firstNumber mostRepeats link ⌝ }
+    ensures { λ r. ⌜ r ≡ inRange firstNumber maxRepeats link ⌝ }
 {
     if link.next < FIRST_NUMBER {
         return false;

@@ -6,13 +6,13 @@ use super::state::Wait;
 use super::state::idle;
 use super::state::in_range;
 ghost use mathlib.Core.Path.{_≡_};
-ghost use Rattle.base.specs.Outcomes.{reply};
-ghost use Rattle.link.specs.Sending.{firstNumber, mostRepeats};
-ghost use Rattle.link.specs.Table.{retryRowOf};
-ghost use Rattle.link.specs.Calls.{retryOf, tickOf, tickedOf};
+ghost use Rattle.base.specs.Outcomes.{outcome};
+ghost use Rattle.link.specs.Sending.{firstNumber, maxRepeats};
+ghost use Rattle.link.specs.Table.{tickRowOf};
+ghost use Rattle.link.specs.Calls.{dueTickOf, tickOf, tickedOf};
 
 // What a tick is answered.
-pub enum Retry {
+pub enum TickResult {
     // Nothing to do.
     Nothing,
     // Send the command again, under the same number.
@@ -24,17 +24,17 @@ pub enum Retry {
 }
 
 pub struct Ticked {
-    pub answer: Retry,
+    pub answer: TickResult,
     pub link: Link,
 }
 
 // A due tick of a command that was sent again so many times.
-fn due(link: Link, command: u8, number: u8, repeats: u8, clock: u32) -> Ticked
-    ensures { λ r. ⌜ tickedOf r ≡ retryOf mostRepeats link command number repeats clock ⌝ }
+fn due_tick(link: Link, command: u8, number: u8, repeats: u8, clock: u32) -> Ticked
+    ensures { λ r. ⌜ tickedOf r ≡ dueTickOf maxRepeats link command number repeats clock ⌝ }
 {
     if repeats < MAX_REPEATS {
         return Ticked {
-            answer: Retry::Again { command, number },
+            answer: TickResult::Again { command, number },
             link: Link {
                 next: link.next,
                 wait: Wait::Waiting {
@@ -47,25 +47,25 @@ fn due(link: Link, command: u8, number: u8, repeats: u8, clock: u32) -> Ticked
         };
     }
     Ticked {
-        answer: Retry::GivenUp { command, number },
+        answer: TickResult::GivenUp { command, number },
         link: idle(link),
     }
 }
 
 // A tick of a link that is given and returned by value; a box that holds its link in one place calls `tick`.
 pub fn tick_by_value(link: Link, clock: u32) -> Ticked
-    ensures { λ r. ⌜ tickedOf r ≡ tickOf firstNumber mostRepeats link clock ⌝ }
+    ensures { λ r. ⌜ tickedOf r ≡ tickOf firstNumber maxRepeats link clock ⌝ }
 {
     if !in_range(link) {
         return Ticked {
-            answer: Retry::State,
+            answer: TickResult::State,
             link,
         };
     }
     let wait = link.wait;
     match wait {
         Wait::Idle => Ticked {
-            answer: Retry::Nothing,
+            answer: TickResult::Nothing,
             link,
         },
         Wait::Waiting {
@@ -75,10 +75,10 @@ pub fn tick_by_value(link: Link, clock: u32) -> Ticked
             repeats,
         } => {
             if is_due(clock, sent) {
-                return due(link, command, number, repeats, clock);
+                return due_tick(link, command, number, repeats, clock);
             }
             Ticked {
-                answer: Retry::Nothing,
+                answer: TickResult::Nothing,
                 link,
             }
         }
@@ -86,9 +86,9 @@ pub fn tick_by_value(link: Link, clock: u32) -> Ticked
 }
 
 // A tick that alters the link in its own place, for a box that holds one link for its life.
-pub fn tick(link: &mut Link, clock: u32) -> Retry
-    ensures { λ r. ⌜ reply (retryRowOf r) (now (link .exit))
-        ≡ tickOf firstNumber mostRepeats (now (link .entry)) clock ⌝ }
+pub fn tick(link: &mut Link, clock: u32) -> TickResult
+    ensures { λ r. ⌜ outcome (tickRowOf r) (now (link .exit))
+        ≡ tickOf firstNumber maxRepeats (now (link .entry)) clock ⌝ }
 {
     let ticked = tick_by_value(*link, clock);
     *link = ticked.link;

@@ -1,7 +1,7 @@
 // The bytes as they come: the lines of each read are written before the next.
 use super::output::close;
 use super::output::write_first;
-use super::trouble::goes_on;
+use super::trouble::keep_going;
 use frame::Reader;
 use libc::EIO;
 use libc::STDERR_FILENO;
@@ -10,7 +10,7 @@ use libc::STDIN_FILENO;
 // The reader after some bytes, whether to go on, and whether the listing is whole.
 struct Turn {
     reader: Reader,
-    goes_on: bool,
+    keep_going: bool,
     is_whole: bool,
 }
 
@@ -24,24 +24,24 @@ fn give_up() -> bool {
 fn list_all(reader: Reader, bytes: &[u8], out: &mut [u8]) -> Turn {
     let mut next = reader;
     let mut at = 0;
-    let mut goes_on = true;
+    let mut keep_going = true;
     while at < bytes.len() {
         let listed = listing::list(next, b"", &bytes[at..], out);
         let used = listed.used;
         next = listed.reader;
         if !write_first(out, listed.written) {
-            goes_on = false;
+            keep_going = false;
             break;
         }
         if used == 0 {
-            goes_on = give_up();
+            keep_going = give_up();
             break;
         }
         at += used;
     }
     Turn {
         reader: next,
-        goes_on,
+        keep_going,
         is_whole: false,
     }
 }
@@ -69,7 +69,7 @@ fn last(reader: Reader, out: &mut [u8]) -> bool {
 fn end(reader: Reader, out: &mut [u8]) -> Turn {
     Turn {
         reader,
-        goes_on: false,
+        keep_going: false,
         is_whole: last(reader, out),
     }
 }
@@ -83,7 +83,7 @@ fn broken(reader: Reader, is_line: bool, out: &mut [u8]) -> Turn {
     }
     Turn {
         reader,
-        goes_on: goes_on(b"standard input"),
+        keep_going: keep_going(b"standard input"),
         is_whole: false,
     }
 }
@@ -112,7 +112,7 @@ pub(crate) fn list(input: &mut [u8], out: &mut [u8]) -> bool {
     let mut turns = u64::MAX;
     while turns > 0 {
         let t = one_read(reader, is_line, input, out);
-        if !t.goes_on {
+        if !t.keep_going {
             return t.is_whole;
         }
         reader = t.reader;

@@ -1,5 +1,5 @@
 // Standard output: all of some bytes, or one line on standard error that says why not.
-use super::trouble::goes_on;
+use super::trouble::keep_going;
 use libc::STDERR_FILENO;
 use libc::STDOUT_FILENO;
 ghost use Prim.Native.Nat.{_≤_};
@@ -8,7 +8,7 @@ ghost use lib.ListN.{length};
 // How many bytes a call took, and whether to go on.
 struct Step {
     count: usize,
-    goes_on: bool,
+    keep_going: bool,
 }
 
 // No device should take nothing and call it a success; one that does would be asked for ever.
@@ -24,18 +24,18 @@ fn write_some(bytes: &[u8]) -> Step
     if got < 0 {
         return Step {
             count: 0,
-            goes_on: goes_on(b"standard output"),
+            keep_going: keep_going(b"standard output"),
         };
     }
     if got == 0 {
         return Step {
             count: 0,
-            goes_on: stuck(),
+            keep_going: stuck(),
         };
     }
     Step {
         count: io::count(got, bytes),
-        goes_on: true,
+        keep_going: true,
     }
 }
 
@@ -48,7 +48,7 @@ fn write_whole(bytes: &[u8]) -> bool {
             return true;
         }
         let step = write_some(&bytes[at..]);
-        if !step.goes_on {
+        if !step.keep_going {
             return false;
         }
         at += step.count;

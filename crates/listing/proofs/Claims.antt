@@ -11,37 +11,37 @@ use lib.ListN.{length, getD, length-append, length-take, length-drop}
 use lib.Dec.{ltb, eqb}
 use Rattle.frame.specs.Wire.{lengthOf, payloadOf}
 use Rattle.base.specs.Rows.{Row, row}
-use Rattle.base.specs.Outcomes.{Write, writtenIn}
+use Rattle.base.specs.Outcomes.{Output, writtenIn}
 use Rattle.frame.specs.Calls.{runOf, zeros}
 use Rattle.frame.specs.Logs.{logOf, offer}
 use Rattle.base.proofs.Tests.{by-test}
-use Rattle.base.proofs.Rows.{told-apart, under, value}
+use Rattle.base.proofs.Rows.{injective-by, under, value}
 use Rattle.listing.specs.Decimal.{decimalOf, digitsIn, columnsOf}
-use Rattle.listing.specs.Lines.{textOf, ascii, placesOf, partsOf, dashes, refusedText, answerText, lastOf}
-use Rattle.listing.specs.Table.{linedRowOf}
-use Rattle.listing.specs.declared.text.Lined.{Lined}
-use Rattle.listing.specs.declared.text.Lined.the-variants as lined
-use Rattle.listing.specs.Claims.{RowsTell, LinedNumbers, Within, Below, Longest, PaperListing, EachKind, textsOf}
-use Rattle.listing.specs.Claims.{WorkedColumns, FrameColumns, WorkedBefore, NoLines, PutsAlways, AllLinesSpelled}
+use Rattle.listing.specs.Lines.{textOf, ascii, placesOf, bodyColumns, dashes, refusedText, answerText, lastOf}
+use Rattle.listing.specs.Table.{lineRowOf}
+use Rattle.listing.specs.declared.text.LineResult.{LineResult}
+use Rattle.listing.specs.declared.text.LineResult.the-variants as lineResult
+use Rattle.listing.specs.Claims.{RowsInjective, LineRows, Within, Below, Longest, ExampleListing, EachKind, textsOf}
+use Rattle.listing.specs.Claims.{WorkedColumns, FrameColumns, WorkedPrefix, NoLines, PutsAlways, AllLinesSpelled}
 use Rattle.listing.proofs.Digits.{count-most}
 
-abbrev linedFrom : Row → Lined
-linedFrom r = under r 0 (lined.Wrote (value r 0)) lined.Room
+abbrev lineFrom : Row → LineResult
+lineFrom r = under r 0 (lineResult.Wrote (value r 0)) lineResult.Room
 
-lined-back : (a : Lined) → linedFrom (linedRowOf a) ≡ a
-lined-back (lined.Wrote n) = refl
-lined-back lined.Room = refl
+line-back : (a : LineResult) → lineFrom (lineRowOf a) ≡ a
+line-back (lineResult.Wrote n) = refl
+line-back lineResult.Room = refl
 
-pub rows-tell : RowsTell
-rows-tell = told-apart linedRowOf linedFrom lined-back
+pub rows-injective : RowsInjective
+rows-injective = injective-by lineRowOf lineFrom line-back
 
-pub lined-numbers : LinedNumbers
-lined-numbers = record { wrote = λ count. refl; room = refl }
+pub line-rows : LineRows
+line-rows = record { wrote = λ count. refl; room = refl }
 
 pub puts-whole : PutsAlways
 puts-whole r after text out e =
-    let answer = ap (λ (w : Write). w .row) e in
-    let left = ap (λ (w : Write). w .out) e in
+    let answer = ap (λ (w : Output). w .row) e in
+    let left = ap (λ (w : Output). w .out) e in
     record {
       fits = λ h. (
         answer ∙ rw (le-ltb (length out) (length text) h),
@@ -55,14 +55,14 @@ puts-whole r after text out e =
 
 pub within : Within
 within text out =
-    by-test (λ (w : Write). writtenIn (w .row) ≤ length out) (ltb (length out) (length text)) (λ e. omega arith)
+    by-test (λ (w : Output). writtenIn (w .row) ≤ length out) (ltb (length out) (length text)) (λ e. omega arith)
     (λ e. ltb-false (length out) (length text) e)
 
 -- ---- worked listings
 
-pub paper-listing : PaperListing
+pub example-listing : ExampleListing
 unfolding logOf offer runOf zeros textsOf columnsOf decimalOf digitsIn
-paper-listing = refl
+example-listing = refl
 
 pub each-kind : EachKind
 unfolding logOf runOf zeros textsOf columnsOf decimalOf digitsIn
@@ -73,16 +73,16 @@ unfolding logOf runOf zeros textsOf columnsOf decimalOf digitsIn
 worked-columns = record { columns = refl }
 
 pub frame-columns : FrameColumns
-frame-columns before count start end body h =
+frame-columns prefix count start end body h =
     let size : length (payloadOf body) ≡ lengthOf body - 5 = simp (length-take, length-drop) (omega arith) in
     rw size
 
-pub worked-before : WorkedBefore
+pub worked-prefix : WorkedPrefix
 unfolding logOf offer runOf zeros textsOf columnsOf decimalOf digitsIn
-worked-before = record { paper = refl; quiet = refl }
+worked-prefix = record { paper = refl; quiet = refl }
 
 pub no-line : NoLines
-no-line before values body = record { more = refl; state = refl; used = refl; end-state = refl }
+no-line prefix values body = record { more = refl; state = refl; used = refl; end-state = refl }
 
 -- ---- longest
 
@@ -96,11 +96,11 @@ columns-most (n ∷ l) h =
 
 -- short enough behind what stands before it
 abbrev Short : List ℕ → List ℕ → Type 0
-Short before t = length t ≤ length before + 132
+Short prefix t = length t ≤ length prefix + 132
 
-text-short : (before word numbers rest : List ℕ) → Below (2 ^ 64) numbers
-    → length word + 21 * length numbers + length rest ≤ 132 → Short before (textOf before word numbers rest)
-text-short before word numbers rest h few =
+text-short : (prefix word numbers rest : List ℕ) → Below (2 ^ 64) numbers
+    → length word + 21 * length numbers + length rest ≤ 132 → Short prefix (textOf prefix word numbers rest)
+text-short prefix word numbers rest h few =
     let columns = columns-most numbers h in
     simp length-append (omega arith)
 
@@ -114,16 +114,16 @@ value-below (n ∷ l) (suc i) h = value-below l i (h .1)
 payload-most : (body : List ℕ) → length (payloadOf body) ≤ lengthOf body
 payload-most body = rw length-take (omega arith)
 
-line-short : (before : List ℕ) (r : Row) (body : List ℕ)
-    → Below (2 ^ 64) (placesOf r) → ((i : ℕ) → getD body i 0 < 256) → Short before (answerText before r body)
-line-short before r body h bytes =
-    pick (Short before) 1 (text-short before (ascii "frame") (placesOf r ++ partsOf body) (ascii "\n")
+line-short : (prefix : List ℕ) (r : Row) (body : List ℕ)
+    → Below (2 ^ 64) (placesOf r) → ((i : ℕ) → getD body i 0 < 256) → Short prefix (answerText prefix r body)
+line-short prefix r body h bytes =
+    pick (Short prefix) 1 (text-short prefix (ascii "frame") (placesOf r ++ bodyColumns body) (ascii "\n")
     (h .0, (h .1 .0, parts)) (omega arith))
-    (pick (Short before) 11 (refused "short" (omega arith))
-    (pick (Short before) 12 (refused "long" (omega arith))
-    (pick (Short before) 13 (refused "stuff" (omega arith))
-    (pick (Short before) 14 (refused "cut" (omega arith))
-    (pick (Short before) 15 (refused "sum" (omega arith)) (omega arith))))))
+    (pick (Short prefix) 11 (refused "short" (omega arith))
+    (pick (Short prefix) 12 (refused "long" (omega arith))
+    (pick (Short prefix) 13 (refused "stuff" (omega arith))
+    (pick (Short prefix) 14 (refused "cut" (omega arith))
+    (pick (Short prefix) 15 (refused "sum" (omega arith)) (omega arith))))))
   where
     pick : (P : List ℕ → Type 0) (n : ℕ) {x y : List ℕ} → P x → P y → P (cond (eqb (r .number) n) x y)
     pick P n f g = by-test P (eqb (r .number) n) (λ e. f) (λ e. g)
@@ -133,36 +133,36 @@ line-short before r body h bytes =
         + (getD body 4 0 * 256 + getD body 5 0) → n < 2 ^ 64
     below h = omega (arith, bytes 0, bytes 1, bytes 2, bytes 3, bytes 4, bytes 5)
 
-    parts : Below (2 ^ 64) (partsOf body)
+    parts : Below (2 ^ 64) (bodyColumns body)
     parts =
         let payload = payload-most body in
         (below (omega arith), (below (omega arith), (below (omega arith), (below (omega arith), tt))))
 
     refused : (name : String) → length (ascii name) + 42 + length dashes ≤ 132
-        → Short before (refusedText before name r)
-    refused name few = text-short before (ascii name) (placesOf r) dashes (h .0, (h .1 .0, tt)) few
+        → Short prefix (refusedText prefix name r)
+    refused name few = text-short prefix (ascii name) (placesOf r) dashes (h .0, (h .1 .0, tt)) few
 
-last-short : (before : List ℕ) (r : Row) → Below (2 ^ 64) (r .values) → Short before (lastOf before r)
-last-short before r h =
-    by-test (Short before) (eqb (r .number) 2) (λ e. ends "clean" _ (omega arith))
-    (λ e. by-test (Short before) (eqb (r .number) 16) (λ f. ends "open" _ (omega arith)) (λ f. omega arith))
+last-short : (prefix : List ℕ) (r : Row) → Below (2 ^ 64) (r .values) → Short prefix (lastOf prefix r)
+last-short prefix r h =
+    by-test (Short prefix) (eqb (r .number) 2) (λ e. ends "clean" _ (omega arith))
+    (λ e. by-test (Short prefix) (eqb (r .number) 16) (λ f. ends "open" _ (omega arith)) (λ f. omega arith))
   where
     ends : (word : String) (i : ℕ) → length (ascii word) + 21 + 1 ≤ 132
-        → Short before (textOf before (ascii word) (getD (r .values) i 0 ∷ []) (ascii "\n"))
+        → Short prefix (textOf prefix (ascii word) (getD (r .values) i 0 ∷ []) (ascii "\n"))
     ends word i few =
-        text-short before (ascii word) (getD (r .values) i 0 ∷ []) (ascii "\n") (value-below (r .values) i h, tt) few
+        text-short prefix (ascii word) (getD (r .values) i 0 ∷ []) (ascii "\n") (value-below (r .values) i h, tt) few
 
 pub longest : Longest
 longest =
     record {
       lines = line-short;
       lasts = last-short;
-      heading = λ before. text-short before (ascii "kind start end cmd sn flags payload\n") [] [] tt (omega arith);
+      heading = λ prefix. text-short prefix (ascii "kind start end cmd sn flags payload\n") [] [] tt (omega arith);
     }
 
 pub lines-spelled : AllLinesSpelled
 unfolding columnsOf
-lines-spelled before body c s e =
+lines-spelled prefix body c s e =
     record {
       short = simp (append-assoc, append-nil);
       long = simp (append-assoc, append-nil);

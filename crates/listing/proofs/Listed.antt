@@ -1,4 +1,4 @@
--- each-listed: the lines printed are those that frame's claim `each-line` speaks of. Assumes nothing.
+-- each-listed: the lines printed are those that frame's claim `each-decision` speaks of. Assumes nothing.
 use Prim.Native.Nat.{ℕ, _+_, _≤_, _<_}
 use mathlib.Core.Path.{_≡_, refl, sym, ap, _∙_}
 use mathlib.Core.Bool.{Bool, true, false, cond}
@@ -12,16 +12,16 @@ use Rattle.frame.specs.Wire.{lengthOf, payloadOf}
 use Rattle.frame.specs.Frames.{frontBody}
 use Rattle.base.specs.Rows.{Row, row}
 use Rattle.frame.specs.Rules.{inRangeOf}
-use Rattle.base.specs.Outcomes.{Reply}
-use Rattle.frame.specs.Calls.{endingRow, freshOf, feedOf, finishOf}
-use Rattle.frame.specs.Logs.{Call, give, ask, Entry, entryOf, logOf, decided}
-use Rattle.frame.specs.Lines.{Line, Decides, is-frame, is-short, is-long, is-stuff, is-cut, is-sum, linesOf, heldUnder}
-use Rattle.frame.specs.Lines.{lineOf as lineIn}
+use Rattle.base.specs.Outcomes.{Outcome}
+use Rattle.frame.specs.Calls.{finishRowIn, freshOf, feedOf, finishOf}
+use Rattle.frame.specs.Logs.{Call, feed, finish, Entry, entryOf, logOf, decided}
+use Rattle.frame.specs.Decisions.{Decision, Decides, is-frame, is-short, is-long, is-stuff, is-cut, is-sum, decisionsOf, bodyHeld}
+use Rattle.frame.specs.Decisions.{decisionIn as lineIn}
 use Rattle.frame.specs.State.{Phase, Idle, Half, Header, Open, Escape, Scan, State}
 use Rattle.base.proofs.Tests.{by-test}
-use Rattle.frame.proofs.Lines.{each-line}
-use Rattle.listing.specs.Lines.{partsOf, answerText}
-use Rattle.listing.specs.Claims.{EachListed, givenText, linesText}
+use Rattle.frame.proofs.Decisions.{each-decision}
+use Rattle.listing.specs.Lines.{bodyColumns, answerText}
+use Rattle.listing.specs.Claims.{EachListed, feedText, decisionsText}
 
 -- ---- the parts of a body stand in its first L + 2 bytes
 
@@ -35,8 +35,8 @@ front-length b = rw (front-at b 0 (omega arith), front-at b 1 (omega arith))
 front-payload : (b : List ℕ) → 5 ≤ lengthOf b → length (payloadOf (frontBody b)) ≡ length (payloadOf b)
 front-payload b h = rw front-length (simp (length-take, length-drop) (omega arith))
 
-parts-front : (b : List ℕ) → 5 ≤ lengthOf b → partsOf (frontBody b) ≡ partsOf b
-parts-front b h =
+columns-front : (b : List ℕ) → 5 ≤ lengthOf b → bodyColumns (frontBody b) ≡ bodyColumns b
+columns-front b h =
     rw (
       front-payload b h,
       front-at b 2 (omega arith),
@@ -55,8 +55,8 @@ other n k f t = go (eqb n k) refl
     go false p = refl
     go true p = let z : true ≡ false = sym t ∙ (ap decided (sym (eqb-true n k p)) ∙ f) in z
 
-no-line : (before : List ℕ) (r : Row) (body : List ℕ) → decided (r .number) ≡ false → answerText before r body ≡ []
-no-line before r body f =
+no-line : (prefix : List ℕ) (r : Row) (body : List ℕ) → decided (r .number) ≡ false → answerText prefix r body ≡ []
+no-line prefix r body f =
     rw (
       other (r .number) 1 f refl,
       other (r .number) 11 f refl,
@@ -67,16 +67,16 @@ no-line before r body f =
     )
 
 -- an end asked decides nothing
-ending-undecided : (f : Phase) (s : Scan) → decided (endingRow f s .number) ≡ false
+ending-undecided : (f : Phase) (s : Scan) → decided (finishRowIn f s .number) ≡ false
 ending-undecided Idle s = refl
 ending-undecided Half s = refl
 ending-undecided Header s = refl
 ending-undecided Open s = refl
 ending-undecided Escape s = refl
 
-asked-undecided : (limit : ℕ) (r : State) → decided (finishOf limit r .row .number) ≡ false
-asked-undecided limit r =
-    by-test (λ (y : Reply State). decided (y .row .number) ≡ false) (inRangeOf limit (r .scan))
+finish-undecided : (limit : ℕ) (r : State) → decided (finishOf limit r .row .number) ≡ false
+finish-undecided limit r =
+    by-test (λ (y : Outcome State). decided (y .row .number) ≡ false) (inRangeOf limit (r .scan))
     (λ e. ending-undecided (r .scan .phase) (r .scan)) (λ e. refl)
 
 -- ---- an answer that decides has the line's text
@@ -87,55 +87,55 @@ same-picked true x y z f = f refl
 same-picked false x y z f = refl
 
 -- at FRAME the body is what its length says
-abbrev Long : Line → Type 0
+abbrev Long : Decision → Type 0
 Long l = l .number ≡ 1 → 5 ≤ lengthOf (l .body)
 
-entry-text : (before : List ℕ) (e : Entry) → Long (lineIn e)
-    → answerText before (e .row) (e .after .body)
-    ≡ answerText before (row (e .row .number) (0 ∷ lineIn e .start ∷ lineIn e .end ∷ [])) (lineIn e .body)
-entry-text before e h =
+entry-text : (prefix : List ℕ) (e : Entry) → Long (lineIn e)
+    → answerText prefix (e .row) (e .after .body)
+    ≡ answerText prefix (row (e .row .number) (0 ∷ lineIn e .start ∷ lineIn e .end ∷ [])) (lineIn e .body)
+entry-text prefix e h =
     same-picked (eqb (e .row .number) 1) _ _ _
     (λ t.
     let frame = eqb-true (e .row .number) 1 t in
-    let held : heldUnder (e .row .number) (e .after .body) ≡ frontBody (e .after .body) =
-    ap (λ (n : ℕ). heldUnder n (e .after .body)) frame in
+    let held : bodyHeld (e .row .number) (e .after .body) ≡ frontBody (e .after .body) =
+    ap (λ (n : ℕ). bodyHeld n (e .after .body)) frame in
     let long : 5 ≤ lengthOf (e .after .body) = rw (held, front-length (e .after .body)) at (h frame) in
-    rw (held, parts-front (e .after .body) long))
+    rw (held, columns-front (e .after .body) long))
 
 -- ---- over a list of calls
 
-abbrev AllLong : List Line → Type 0
-AllLong ls = (l : Line) → List·Memᴰ l ls → Long l
+abbrev AllLong : List Decision → Type 0
+AllLong ls = (l : Decision) → List·Memᴰ l ls → Long l
 
-module _ (before : List ℕ) where
+module _ (prefix : List ℕ) where
   -- a call's line before those of the others, or none
-  one-more : (e : Entry) (ls : List Line) (text : List ℕ) → (AllLong ls → text ≡ linesText before ls)
+  one-more : (e : Entry) (ls : List Decision) (text : List ℕ) → (AllLong ls → text ≡ decisionsText prefix ls)
       → (t : Bool) → decided (e .row .number) ≡ t → AllLong (cond t (lineIn e ∷ ls) ls)
-      → answerText before (e .row) (e .after .body) ++ text ≡ linesText before (cond t (lineIn e ∷ ls) ls)
-  unfolding linesText
+      → answerText prefix (e .row) (e .after .body) ++ text ≡ decisionsText prefix (cond t (lineIn e ∷ ls) ls)
+  unfolding decisionsText
   one-more e ls text f true d h =
-      rw (entry-text before e (h (lineIn e) (List·Memᴰ·head refl)), f (λ l m. h l (List·Memᴰ·tail m)))
-  one-more e ls text f false d h = rw (no-line before (e .row) (e .after .body) d) (f h)
+      rw (entry-text prefix e (h (lineIn e) (List·Memᴰ·head refl)), f (λ l m. h l (List·Memᴰ·tail m)))
+  one-more e ls text f false d h = rw (no-line prefix (e .row) (e .after .body) d) (f h)
 
-  none-more : (l : Line) (ls : List Line) (text : List ℕ) → (AllLong ls → text ≡ linesText before ls)
-      → (t : Bool) → t ≡ false → AllLong (cond t (l ∷ ls) ls) → text ≡ linesText before (cond t (l ∷ ls) ls)
+  none-more : (l : Decision) (ls : List Decision) (text : List ℕ) → (AllLong ls → text ≡ decisionsText prefix ls)
+      → (t : Bool) → t ≡ false → AllLong (cond t (l ∷ ls) ls) → text ≡ decisionsText prefix (cond t (l ∷ ls) ls)
   none-more l ls text f true d h = let z : _≡_ {A = ℕ} 0 1 = cc in absurd (omega arith)
   none-more l ls text f false d h = f h
 
-  listed : (limit : ℕ) (calls : List Call) (r : State) → AllLong (linesOf (logOf limit r calls))
-      → givenText before (logOf limit r calls) ≡ linesText before (linesOf (logOf limit r calls))
-  unfolding logOf linesOf givenText linesText
+  listed : (limit : ℕ) (calls : List Call) (r : State) → AllLong (decisionsOf (logOf limit r calls))
+      → feedText prefix (logOf limit r calls) ≡ decisionsText prefix (decisionsOf (logOf limit r calls))
+  unfolding logOf decisionsOf feedText decisionsText
   listed limit [] r h = refl
-  listed limit (give bytes ∷ cs) r h =
-      let y : Reply State = feedOf limit r bytes in
-      one-more (entryOf r (give bytes) y) _ _ (λ a. listed limit cs (y .state) a) (decided (y .row .number)) refl h
-  listed limit (ask ∷ cs) r h =
-      let y : Reply State = finishOf limit r in
-      none-more _ _ _ (λ a. listed limit cs (y .state) a) (decided (y .row .number)) (asked-undecided limit r) h
+  listed limit (feed bytes ∷ cs) r h =
+      let y : Outcome State = feedOf limit r bytes in
+      one-more (entryOf r (feed bytes) y) _ _ (λ a. listed limit cs (y .state) a) (decided (y .row .number)) refl h
+  listed limit (finish ∷ cs) r h =
+      let y : Outcome State = finishOf limit r in
+      none-more _ _ _ (λ a. listed limit cs (y .state) a) (decided (y .row .number)) (finish-undecided limit r) h
 
 -- a line of number 1 is a frame, and its length is at least 5
 frame-long : (limit : ℕ) (raw body : List ℕ) (n : ℕ) → Decides limit raw n body → n ≡ 1 → 5 ≤ lengthOf body
-frame-long limit raw body n (is-frame b e f w g) one = rw f (g .least)
+frame-long limit raw body n (is-frame b e f w g) one = rw f (g .shortest)
 frame-long limit raw body n (is-short b e f w g h) one = absurd (omega arith)
 frame-long limit raw body n (is-long b e f w g h i j) one = absurd (omega arith)
 frame-long limit raw body n (is-stuff b x e f w g h i) one = absurd (omega arith)
@@ -143,7 +143,7 @@ frame-long limit raw body n (is-cut b e f w g) one = absurd (omega arith)
 frame-long limit raw body n (is-sum b e f w g h i j) one = absurd (omega arith)
 
 pub each-listed : EachListed
-each-listed before limit small calls =
-    listed before limit calls (freshOf limit)
-    (λ l m. let line = each-line limit small calls .sound l m in
+each-listed prefix limit small calls =
+    listed prefix limit calls (freshOf limit)
+    (λ l m. let line = each-decision limit small calls .sound l m in
     frame-long limit (line .raw) (l .body) (l .number) (line .decides))

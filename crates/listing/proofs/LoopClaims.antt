@@ -10,7 +10,7 @@ use lib.ListN.{length, take, drop, length-append, length-drop}
 use lib.Seq.{take-add, drop-drop}
 use lib.Dec.{eqb, ltb, leb}
 use Rattle.base.specs.Rows.{row}
-use Rattle.base.specs.Outcomes.{Reply, reply}
+use Rattle.base.specs.Outcomes.{Outcome, outcome}
 use Rattle.base.specs.Keys.{among}
 use Rattle.frame.specs.Rules.{inRangeOf, advanceOf, decidesOf}
 use Rattle.frame.specs.State.{State}
@@ -24,11 +24,11 @@ use Rattle.base.proofs.Claims.{placed-whole-or-not}
 use Rattle.base.proofs.Tests.{by-test, either-way, both}
 use Rattle.listing.specs.Decimal.{decimalOf, digitsIn, columnsOf}
 use Rattle.listing.specs.Lines.{lineRoom}
-use Rattle.listing.specs.Claims.{givenText}
+use Rattle.listing.specs.Claims.{feedText}
 use Rattle.listing.specs.Feeding.{Run, stopped, full, onward, refuses, lineAfter, listIn}
 use Rattle.listing.specs.LoopClaims.{StopNumbers, LeftFieldsAlways, LeftWholeAlways, Listing, LoopLists}
 use Rattle.listing.specs.LoopClaims.{StateFirst, LoopProgress, WorkedLoop}
-use Rattle.listing.proofs.Loops.{verdict-goes-on, nonzero, takes, turn-refused, turn-onward}
+use Rattle.listing.proofs.Loops.{verdict-continues, nonzero, takes, turn-refused, turn-onward}
 
 pub stop-numbers : StopNumbers
 stop-numbers = record { done = refl; room = refl; state = refl; used = refl }
@@ -54,36 +54,36 @@ left-whole run out =
 -- ---- what a refused call leaves
 
 -- a byte that is taken refuses nothing
-event-goes-on : (e : Event) (n s p : ℕ) → refuses (eventRow e n s p .number) ≡ false
-event-goes-on Quiet n s p = refl
-event-goes-on (Decided v) n s p = verdict-goes-on v
+event-continues : (e : Event) (n s p : ℕ) → refuses (eventRow e n s p .number) ≡ false
+event-continues Quiet n s p = refl
+event-continues (Decided v) n s p = verdict-continues v
 
-pub run-goes-on : (limit : ℕ) (bs : List ℕ) (n : ℕ) (r : State) → refuses (runOf limit bs n r .row .number) ≡ false
+pub run-continues : (limit : ℕ) (bs : List ℕ) (n : ℕ) (r : State) → refuses (runOf limit bs n r .row .number) ≡ false
 unfolding runOf
-run-goes-on limit [] n r = refl
-run-goes-on limit (x ∷ xs) n r =
-    by-test (λ (y : Reply State). refuses (y .row .number) ≡ false) (decidesOf (advanceOf limit (r .scan) x .event))
-    (λ d. event-goes-on (advanceOf limit (r .scan) x .event) (n + 1) (r .scan .start) (nextOf limit r x .scan .taken))
-    (λ d. run-goes-on limit xs (n + 1) (nextOf limit r x))
+run-continues limit [] n r = refl
+run-continues limit (x ∷ xs) n r =
+    by-test (λ (y : Outcome State). refuses (y .row .number) ≡ false) (decidesOf (advanceOf limit (r .scan) x .event))
+    (λ d. event-continues (advanceOf limit (r .scan) x .event) (n + 1) (r .scan .start) (nextOf limit r x .scan .consumed))
+    (λ d. run-continues limit xs (n + 1) (nextOf limit r x))
 
 -- STATE and USED count nothing and leave the reader as it was
 refused-kept : (limit : ℕ) (r : State) (bs : List ℕ)
     → refuses (feedOf limit r bs .row .number) ≡ true
-    → feedOf limit r bs ≡ reply (row (feedOf limit r bs .row .number) (0 ∷ [])) r
+    → feedOf limit r bs ≡ outcome (row (feedOf limit r bs .row .number) (0 ∷ [])) r
 refused-kept limit r bs =
-    by-test (λ (y : Reply State). refuses (y .row .number) ≡ true → y ≡ reply (row (y .row .number) (0 ∷ [])) r)
+    by-test (λ (y : Outcome State). refuses (y .row .number) ≡ true → y ≡ outcome (row (y .row .number) (0 ∷ [])) r)
     (inRangeOf limit (r .scan))
-    (λ a. by-test (λ (y : Reply State). refuses (y .row .number) ≡ true → y ≡ reply (row (y .row .number) (0 ∷ [])) r)
-    (leb (r .scan .taken + length bs) (2 ^ 62))
-    (λ b f. absurd (true≢false (sym f ∙ run-goes-on limit bs 0 r))) (λ b f. refl))
+    (λ a. by-test (λ (y : Outcome State). refuses (y .row .number) ≡ true → y ≡ outcome (row (y .row .number) (0 ∷ [])) r)
+    (leb (r .scan .consumed + length bs) (2 ^ 62))
+    (λ b f. absurd (true≢false (sym f ∙ run-continues limit bs 0 r))) (λ b f. refl))
     (λ a f. refl)
 
 -- a call of a reader in range is refused for USED alone, and only past 2^62
 pub refused-late : (limit : ℕ) (s : State) (bs : List ℕ) (n : ℕ) → inRangeOf limit (s .scan) ≡ true → refuses n ≡ true
-    → feedOf limit s bs .row .number ≡ n → (n ≢ 17) × (2 ^ 62 < s .scan .taken + length bs)
+    → feedOf limit s bs .row .number ≡ n → (n ≢ 17) × (2 ^ 62 < s .scan .consumed + length bs)
 refused-late limit s bs n i f =
-    rw i (either-way (leb (s .scan .taken + length bs) (2 ^ 62))
-    (λ b. rw b (λ e. absurd (true≢false (sym f ∙ (ap refuses (sym e) ∙ run-goes-on limit bs 0 s)))))
+    rw i (either-way (leb (s .scan .consumed + length bs) (2 ^ 62))
+    (λ b. rw b (λ e. absurd (true≢false (sym f ∙ (ap refuses (sym e) ∙ run-continues limit bs 0 s)))))
     (λ b. rw b (λ e. (λ z. omega (arith, e, z), leb-false _ _ b))))
 
 -- an empty call is refused only where the reader is out of range
@@ -93,7 +93,7 @@ out-of-range limit r =
     either-way (inRangeOf limit (r .scan))
     (λ a f.
     let late = refused-late limit r [] (feedOf limit r [] .row .number) a f refl .1 in
-    absurd (omega (arith, late, leb-true (r .scan .taken) (2 ^ 62) (both (leb (r .scan .taken) (2 ^ 62)) a .0))))
+    absurd (omega (arith, late, leb-true (r .scan .consumed) (2 ^ 62) (both (leb (r .scan .consumed) (2 ^ 62)) a .0))))
     (λ a f. a)
 
 -- ---- loop-lists
@@ -106,20 +106,20 @@ refusal-stops n f =
     (λ e. by-test (λ (t : Bool). t ≡ true) (eqb n 17) (λ g. refl)
     (λ g. by-test (λ (t : Bool). t ≡ true) (eqb n 18) (λ h. refl) (λ h. absurd (true≢false (sym f ∙ rw (g, h))))))
 
-module _ (limit : ℕ) (before : List ℕ) where
+module _ (limit : ℕ) (prefix : List ℕ) where
   -- no call was made, and why
   module _ (r : State) (bs : List ℕ) (room : ℕ) where
-    abbrev y : Reply State
+    abbrev y : Outcome State
     y = feedOf limit r bs
 
-    none-left : length bs ≡ 0 → Listing limit before r bs room (stopped r 0)
-    unfolding among givenText logOf stateAfter stream offer
+    none-left : length bs ≡ 0 → Listing limit prefix r bs room (stopped r 0)
+    unfolding among feedText logOf stateAfter stream offer
     none-left h =
         record {
           calls = 0;
           text-is = refl;
           state-is = refl;
-          taken-is = refl;
+          consumed-is = refl;
           within = omega arith;
           stops = refl;
           done = λ e. sym h;
@@ -128,14 +128,14 @@ module _ (limit : ℕ) (before : List ℕ) where
           at-used = λ e. absurd (omega arith);
         }
 
-    no-room : 1 ≤ length bs → room < length before + lineRoom → Listing limit before r bs room (full r)
-    unfolding among givenText logOf stateAfter stream offer
+    no-room : 1 ≤ length bs → room < length prefix + lineRoom → Listing limit prefix r bs room (full r)
+    unfolding among feedText logOf stateAfter stream offer
     no-room h g =
         record {
           calls = 0;
           text-is = refl;
           state-is = refl;
-          taken-is = refl;
+          consumed-is = refl;
           within = omega arith;
           stops = refl;
           done = λ e. absurd (omega arith);
@@ -145,18 +145,18 @@ module _ (limit : ℕ) (before : List ℕ) where
         }
 
     -- a refused call is none: it takes nothing and leaves the reader as it was
-    no-more : refuses (y .row .number) ≡ true → Listing limit before r bs room (stopped (y .state) (y .row .number))
-    unfolding givenText logOf stateAfter stream offer
+    no-more : refuses (y .row .number) ≡ true → Listing limit prefix r bs room (stopped (y .state) (y .row .number))
+    unfolding feedText logOf stateAfter stream offer
     no-more f =
-        let same : y ≡ reply (row (y .row .number) (0 ∷ [])) r = refused-kept limit r bs f in
-        let kept : y .state ≡ r = ap (λ (z : Reply State). z .state) same in
+        let same : y ≡ outcome (row (y .row .number) (0 ∷ [])) r = refused-kept limit r bs f in
+        let kept : y .state ≡ r = ap (λ (z : Outcome State). z .state) same in
         let again : (n : ℕ) → y .row .number ≡ n → feedOf limit (y .state) bs .row ≡ row n (0 ∷ []) =
-        λ n z. rw kept (ap (λ (w : Reply State). w .row) same ∙ ap (λ (m : ℕ). row m (0 ∷ [])) z) in
+        λ n z. rw kept (ap (λ (w : Outcome State). w .row) same ∙ ap (λ (m : ℕ). row m (0 ∷ [])) z) in
         record {
           calls = 0;
           text-is = refl;
           state-is = kept;
-          taken-is = refl;
+          consumed-is = refl;
           within = omega arith;
           stops = refusal-stops (y .row .number) f;
           done = λ z. absurd (true≢false (sym f ∙ rw z));
@@ -167,18 +167,18 @@ module _ (limit : ℕ) (before : List ℕ) where
 
     -- a call more
     one-more : (run : Run)
-        → Listing limit before (y .state) (drop (countOf (y .row)) bs) (room - length (lineAfter before y)) run
-        → Listing limit before r bs room (onward (countOf (y .row)) (lineAfter before y) run)
-    unfolding givenText logOf stateAfter stream offer
+        → Listing limit prefix (y .state) (drop (countOf (y .row)) bs) (room - length (lineAfter prefix y)) run
+        → Listing limit prefix r bs room (onward (countOf (y .row)) (lineAfter prefix y) run)
+    unfolding feedText logOf stateAfter stream offer
     one-more run l =
         let few : countOf (y .row) ≤ length bs = within limit r bs in
         let left = length-drop (countOf (y .row)) bs in
-        let long = length-append (lineAfter before y) (run .text) in
+        let long = length-append (lineAfter prefix y) (run .text) in
         record {
           calls = suc (l .calls);
-          text-is = ap (λ (t : List ℕ). lineAfter before y ++ t) (l .text-is);
+          text-is = ap (λ (t : List ℕ). lineAfter prefix y ++ t) (l .text-is);
           state-is = l .state-is;
-          taken-is = ap (λ (t : List ℕ). take (countOf (y .row)) bs ++ t) (l .taken-is)
+          consumed-is = ap (λ (t : List ℕ). take (countOf (y .row)) bs ++ t) (l .consumed-is)
               ∙ sym (take-add (countOf (y .row)) (run .used) bs);
           within = omega (arith, l .within);
           stops = l .stops;
@@ -189,34 +189,34 @@ module _ (limit : ℕ) (before : List ℕ) where
         }
 
   lists : (n : ℕ) (r : State) (bs : List ℕ) (room : ℕ)
-      → length bs ≤ n → Listing limit before r bs room (listIn limit before n r bs room)
+      → length bs ≤ n → Listing limit prefix r bs room (listIn limit prefix n r bs room)
   unfolding listIn
   lists zero r bs room h = none-left r bs room (omega arith)
   lists (suc n) r bs room h =
-      by-test (Listing limit before r bs room) (eqb (length bs) 0) (λ e. none-left r bs room (eqb-true (length bs) 0 e))
+      by-test (Listing limit prefix r bs room) (eqb (length bs) 0) (λ e. none-left r bs room (eqb-true (length bs) 0 e))
       (λ e.
       let some : 1 ≤ length bs = nonzero (length bs) (eqb-false (length bs) 0 e) in
-      by-test (Listing limit before r bs room) (ltb room (length before + lineRoom))
-      (λ f. no-room r bs room some (ltb-true room (length before + lineRoom) f))
-      (λ f. by-test (Listing limit before r bs room) (refuses (feedOf limit r bs .row .number))
+      by-test (Listing limit prefix r bs room) (ltb room (length prefix + lineRoom))
+      (λ f. no-room r bs room some (ltb-true room (length prefix + lineRoom) f))
+      (λ f. by-test (Listing limit prefix r bs room) (refuses (feedOf limit r bs .row .number))
       (λ g. no-more r bs room g)
       (λ g.
       let fewer : length (drop (countOf (feedOf limit r bs .row)) bs) ≤ n =
       omega (arith, length-drop (countOf (feedOf limit r bs .row)) bs, takes limit r bs g some) in
       one-more r bs room _
       (lists n (feedOf limit r bs .state) (drop (countOf (feedOf limit r bs .row)) bs)
-      (room - length (lineAfter before (feedOf limit r bs))) fewer))))
+      (room - length (lineAfter prefix (feedOf limit r bs))) fewer))))
 
 pub loop-lists : LoopLists
-loop-lists limit before r bytes room =
-    by-test (Listing limit before r bytes room) (refuses (feedOf limit r [] .row .number))
-    (λ f. let a = out-of-range limit r f in rw a (rw a at (no-more limit before r bytes room (rw a))))
-    (λ f. lists limit before (length bytes) r bytes room (omega arith))
+loop-lists limit prefix r bytes room =
+    by-test (Listing limit prefix r bytes room) (refuses (feedOf limit r [] .row .number))
+    (λ f. let a = out-of-range limit r f in rw a (rw a at (no-more limit prefix r bytes room (rw a))))
+    (λ f. lists limit prefix (length bytes) r bytes room (omega arith))
 
 -- ---- state-first
 
 pub state-first : StateFirst
-state-first limit before r bytes room =
+state-first limit prefix r bytes room =
     either-way (inRangeOf limit (r .scan))
     (λ a e. absurd (refused-late limit r bytes 17 a refl e .0 refl))
     (λ a e. rw a)
@@ -224,13 +224,13 @@ state-first limit before r bytes room =
 -- ---- loop-progress
 
 pub loop-progress : LoopProgress
-loop-progress limit before r bytes room some h =
+loop-progress limit prefix r bytes room some h =
     either-way (refuses (feedOf limit r [] .row .number))
     (λ e. rw e (λ g k. absurd (true≢false (sym e ∙ rw (ne-eqb _ 17 g, ne-eqb _ 18 k)))))
     (λ e. rw e (either-way (refuses (feedOf limit r bytes .row .number))
-    (λ f. rw (turn-refused limit before r bytes room some h (feedOf limit r bytes) refl f)
+    (λ f. rw (turn-refused limit prefix r bytes room some h (feedOf limit r bytes) refl f)
     (λ g k. absurd (true≢false (sym f ∙ rw (ne-eqb _ 17 g, ne-eqb _ 18 k)))))
-    (λ f. rw (turn-onward limit before r bytes room some h (feedOf limit r bytes) refl f)
+    (λ f. rw (turn-onward limit prefix r bytes room some h (feedOf limit r bytes) refl f)
     (λ g k. omega (arith, takes limit r bytes f some)))))
 
 -- ---- worked-loop

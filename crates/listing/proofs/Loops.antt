@@ -10,7 +10,7 @@ use borrow.Author.Tests.{eq-eqb, ne-eqb, lt-ltb, le-ltb, leb-true, eqb-false}
 use lib.ListN.{length, take, drop, length-append, length-drop}
 use lib.Seq.{sets, length-sets, drop-drop, take-all}
 use lib.Dec.{eqb, ltb, leb}
-use Rattle.base.specs.Outcomes.{Reply}
+use Rattle.base.specs.Outcomes.{Outcome}
 use Rattle.base.specs.Stores.{PutAt}
 use Rattle.frame.specs.Rules.{inRangeOf}
 use Rattle.frame.specs.State.{State}
@@ -26,13 +26,13 @@ use Rattle.listing.specs.Feeding.{Run, stopped, full, onward, refuses, l
 use Rattle.listing.specs.Feeding.{leftBy}
 
 -- no verdict on a frame refuses the call
-pub verdict-goes-on : (v : Verdict) → refuses (codeOf v) ≡ false
-verdict-goes-on Frame = refl
-verdict-goes-on Short = refl
-verdict-goes-on Long = refl
-verdict-goes-on Stuff = refl
-verdict-goes-on Cut = refl
-verdict-goes-on Sum = refl
+pub verdict-continues : (v : Verdict) → refuses (codeOf v) ≡ false
+verdict-continues Frame = refl
+verdict-continues Short = refl
+verdict-continues Long = refl
+verdict-continues Stuff = refl
+verdict-continues Cut = refl
+verdict-continues Sum = refl
 
 -- what is not 0 is 1 at least
 pub nonzero : (n : ℕ) → (n ≡ 0 → ⊥) → 1 ≤ n
@@ -44,37 +44,37 @@ pub takes : (limit : ℕ) (r : State) (bs : List ℕ)
     → refuses (feedOf limit r bs .row .number) ≡ false → 1 ≤ length bs → 1 ≤ countOf (feedOf limit r bs .row)
 takes limit r bs =
     either-way (inRangeOf limit (r .scan))
-    (λ a. either-way (leb (r .scan .taken + length bs) (2 ^ 62))
+    (λ a. either-way (leb (r .scan .consumed + length bs) (2 ^ 62))
     (λ b f h. progress limit r bs a (leb-true _ _ b) h)
     (λ b. rw (a, b) (λ f h. absurd (true≢false f))))
     (λ a. rw a (λ f h. absurd (true≢false f)))
 
-module _ (limit : ℕ) (before : List ℕ) where
+module _ (limit : ℕ) (prefix : List ℕ) where
   -- ---- the turns of a loop, by what it meets
 
   -- the next turn's run, in at most n calls
   abbrev Next : ℕ → State → List ℕ → ℕ → Run
   Next n r bs room =
-      listIn limit before n (feedOf limit r bs .state) (drop (countOf (feedOf limit r bs .row)) bs)
-      (room - length (lineAfter before (feedOf limit r bs)))
+      listIn limit prefix n (feedOf limit r bs .state) (drop (countOf (feedOf limit r bs .row)) bs)
+      (room - length (lineAfter prefix (feedOf limit r bs)))
 
   -- calls enough are enough
   enough : (j k : ℕ) (r : State) (bs : List ℕ) (room : ℕ)
-      → length bs ≤ j → length bs ≤ k → listIn limit before j r bs room ≡ listIn limit before k r bs room
+      → length bs ≤ j → length bs ≤ k → listIn limit prefix j r bs room ≡ listIn limit prefix k r bs room
   unfolding listIn
   enough zero zero r bs room h g = refl
   enough zero (suc k) r bs room h g = rw (eq-eqb (length bs) 0 (omega arith))
   enough (suc j) zero r bs room h g = rw (eq-eqb (length bs) 0 (omega arith))
   enough (suc j) (suc k) r bs room h g =
       same (eqb (length bs) 0) (λ e. refl) (λ e.
-      same (ltb room (length before + lineRoom)) (λ _. refl) (λ _.
+      same (ltb room (length prefix + lineRoom)) (λ _. refl) (λ _.
       same (refuses (feedOf limit r bs .row .number)) (λ _. refl) (λ f.
       let some : 1 ≤ countOf (feedOf limit r bs .row) =
       takes limit r bs f (nonzero (length bs) (eqb-false (length bs) 0 e)) in
       let fewer = length-drop (countOf (feedOf limit r bs .row)) bs in
-      ap (λ (w : Run). onward (countOf (feedOf limit r bs .row)) (lineAfter before (feedOf limit r bs)) w)
+      ap (λ (w : Run). onward (countOf (feedOf limit r bs .row)) (lineAfter prefix (feedOf limit r bs)) w)
       (enough j k (feedOf limit r bs .state) (drop (countOf (feedOf limit r bs .row)) bs)
-      (room - length (lineAfter before (feedOf limit r bs))) (omega arith) (omega arith)))))
+      (room - length (lineAfter prefix (feedOf limit r bs))) (omega arith) (omega arith)))))
     where
       same : (t : Bool) {x y z w : Run} → (t ≡ true → x ≡ y) → (t ≡ false → z ≡ w) → cond t x z ≡ cond t y w
       same true f g = f refl
@@ -82,41 +82,41 @@ module _ (limit : ℕ) (before : List ℕ) where
 
   module _ (r : State) (bs : List ℕ) (room : ℕ) where
     -- one call more than there are bytes, so that the definition computes
-    one-more : loopOf limit before r bs room ≡ listIn limit before (suc (length bs)) r bs room
+    one-more : loopOf limit prefix r bs room ≡ listIn limit prefix (suc (length bs)) r bs room
     one-more = enough (length bs) (suc (length bs)) r bs room (omega arith) (omega arith)
 
-    pub turn-done : length bs ≡ 0 → loopOf limit before r bs room ≡ stopped r 0
+    pub turn-done : length bs ≡ 0 → loopOf limit prefix r bs room ≡ stopped r 0
     unfolding listIn
     turn-done h = one-more ∙ rw (eq-eqb (length bs) 0 h)
 
     module _ (some : 1 ≤ length bs) where
-      pub turn-room : room < length before + lineRoom → loopOf limit before r bs room ≡ full r
+      pub turn-room : room < length prefix + lineRoom → loopOf limit prefix r bs room ≡ full r
       unfolding listIn
       turn-room h =
-          one-more ∙ rw (ne-eqb (length bs) 0 (λ e. omega arith), lt-ltb room (length before + lineRoom) h)
+          one-more ∙ rw (ne-eqb (length bs) 0 (λ e. omega arith), lt-ltb room (length prefix + lineRoom) h)
 
       -- with room for a line, by what the call is answered
-      module _ (h : length before + lineRoom ≤ room) (y : Reply State) (e : y ≡ feedOf limit r bs) where
+      module _ (h : length prefix + lineRoom ≤ room) (y : Outcome State) (e : y ≡ feedOf limit r bs) where
         pub turn-refused : refuses (y .row .number) ≡ true
-            → loopOf limit before r bs room ≡ stopped (y .state) (y .row .number)
+            → loopOf limit prefix r bs room ≡ stopped (y .state) (y .row .number)
         unfolding listIn
         turn-refused f =
             one-more
-            ∙ rw (ne-eqb (length bs) 0 (λ z. omega arith), le-ltb room (length before + lineRoom) h, ← e, f)
+            ∙ rw (ne-eqb (length bs) 0 (λ z. omega arith), le-ltb room (length prefix + lineRoom) h, ← e, f)
 
         pub turn-onward : refuses (y .row .number) ≡ false
-            → loopOf limit before r bs room
-            ≡ onward (countOf (y .row)) (lineAfter before y)
-            (loopOf limit before (y .state) (drop (countOf (y .row)) bs) (room - length (lineAfter before y)))
+            → loopOf limit prefix r bs room
+            ≡ onward (countOf (y .row)) (lineAfter prefix y)
+            (loopOf limit prefix (y .state) (drop (countOf (y .row)) bs) (room - length (lineAfter prefix y)))
         unfolding listIn
         turn-onward f =
             let fewer : length (drop (countOf (y .row)) bs) ≤ length bs =
             omega (arith, length-drop (countOf (y .row)) bs) in
             one-more
-            ∙ rw (ne-eqb (length bs) 0 (λ z. omega arith), le-ltb room (length before + lineRoom) h, ← e, f)
-            (ap (λ (w : Run). onward (countOf (y .row)) (lineAfter before y) w)
+            ∙ rw (ne-eqb (length bs) 0 (λ z. omega arith), le-ltb room (length prefix + lineRoom) h, ← e, f)
+            (ap (λ (w : Run). onward (countOf (y .row)) (lineAfter prefix y) w)
             (enough (length bs) (length (drop (countOf (y .row)) bs)) (y .state) (drop (countOf (y .row)) bs)
-            (room - length (lineAfter before y)) fewer (omega arith)))
+            (room - length (lineAfter prefix y)) fewer (omega arith)))
 
 -- ---- how far a loop has come
 
@@ -154,14 +154,14 @@ rest-stopped {whole} {used} {written} {out₀} {out} r number w h =
     let stop : number ≡ whole .stop = sym (w .stop-is) in
     cc
 
-module _ (limit : ℕ) (before bytes out₀ : List ℕ) (r₀ : State) where
+module _ (limit : ℕ) (prefix bytes out₀ : List ℕ) (r₀ : State) where
   -- the loop's invariant
   pub record At (out : List ℕ) (r : State) (used written : ℕ) : Type 0 where
     pub within : used ≤ length bytes
     pub room : written ≤ length out
     pub same-length : length out ≡ length out₀
-    pub rest : Rest (loopOf limit before r₀ bytes (length out₀))
-        (loopOf limit before r (drop used bytes) (length out - written)) used written out₀ out
+    pub rest : Rest (loopOf limit prefix r₀ bytes (length out₀))
+        (loopOf limit prefix r (drop used bytes) (length out - written)) used written out₀ out
 
   pub at-start : At out₀ r₀ 0 0
   at-start =
@@ -179,47 +179,47 @@ module _ (limit : ℕ) (before bytes out₀ : List ℕ) (r₀ : State) where
       }
 
 -- a turn that goes on: bytes that are there are taken, and with the line put behind the others the invariant holds
-pub record Onward (limit : ℕ) (before bytes out₀ : List ℕ) (r₀ : State) (out : List ℕ) (used written : ℕ)
-    (y : Reply State) : Type 0 where
+pub record Onward (limit : ℕ) (prefix bytes out₀ : List ℕ) (r₀ : State) (out : List ℕ) (used written : ℕ)
+    (y : Outcome State) : Type 0 where
   pub within : used + countOf (y .row) ≤ length bytes
   pub some : 1 ≤ countOf (y .row)
-  pub again : (after : List ℕ) (next : ℕ) → PutAt out written (lineAfter before y) next after → next ≤ length out
-      → At limit before bytes out₀ r₀ after (y .state) (used + countOf (y .row)) next
+  pub again : (after : List ℕ) (next : ℕ) → PutAt out written (lineAfter prefix y) next after → next ≤ length out
+      → At limit prefix bytes out₀ r₀ after (y .state) (used + countOf (y .row)) next
 
-module _ {limit : ℕ} {before bytes out₀ out : List ℕ} {r₀ r : State} {used written : ℕ}
-    (at : At limit before bytes out₀ r₀ out r used written) where
+module _ {limit : ℕ} {prefix bytes out₀ out : List ℕ} {r₀ r : State} {used written : ℕ}
+    (at : At limit prefix bytes out₀ r₀ out r used written) where
   left-is : length (drop used bytes) ≡ length bytes - used
   left-is = length-drop used bytes
 
   -- the loop stops
   pub at-end : (q : State) (number : ℕ)
-      → loopOf limit before r (drop used bytes) (length out - written) ≡ stopped q number
+      → loopOf limit prefix r (drop used bytes) (length out - written) ≡ stopped q number
       → record { state = q; used = used; written = written; stop = number; out = out }
-      ≡ leftBy (loopOf limit before r₀ bytes (length out₀)) out₀
+      ≡ leftBy (loopOf limit prefix r₀ bytes (length out₀)) out₀
   at-end q number e = rest-stopped q number (rw e at (at .rest)) (omega (arith, at .room, at .same-length))
 
-  pub at-done : used ≡ length bytes → loopOf limit before r (drop used bytes) (length out - written) ≡ stopped r 0
-  at-done e = turn-done limit before r (drop used bytes) (length out - written) (omega (arith, left-is))
+  pub at-done : used ≡ length bytes → loopOf limit prefix r (drop used bytes) (length out - written) ≡ stopped r 0
+  at-done e = turn-done limit prefix r (drop used bytes) (length out - written) (omega (arith, left-is))
 
   module _ (more : used ≢ length bytes) where
     some-left : 1 ≤ length (drop used bytes)
     some-left = omega (arith, left-is, at .within)
 
-    pub at-room : length out - written < length before + lineRoom
-        → loopOf limit before r (drop used bytes) (length out - written) ≡ full r
-    at-room h = turn-room limit before r (drop used bytes) (length out - written) some-left h
+    pub at-room : length out - written < length prefix + lineRoom
+        → loopOf limit prefix r (drop used bytes) (length out - written) ≡ full r
+    at-room h = turn-room limit prefix r (drop used bytes) (length out - written) some-left h
 
-    module _ (h : length before + lineRoom ≤ length out - written)
-        (y : Reply State) (lent : y ≡ feedOf limit r (take (length bytes - used) (drop used bytes))) where
+    module _ (h : length prefix + lineRoom ≤ length out - written)
+        (y : Outcome State) (lent : y ≡ feedOf limit r (take (length bytes - used) (drop used bytes))) where
       -- what is lent to the call is all that is left
       e : y ≡ feedOf limit r (drop used bytes)
       e = rw (take-all (length bytes - used) (drop used bytes) (omega (arith, left-is))) at lent
 
       pub at-refused : refuses (y .row .number) ≡ true
-          → loopOf limit before r (drop used bytes) (length out - written) ≡ stopped (y .state) (y .row .number)
-      at-refused f = turn-refused limit before r (drop used bytes) (length out - written) some-left h y e f
+          → loopOf limit prefix r (drop used bytes) (length out - written) ≡ stopped (y .state) (y .row .number)
+      at-refused f = turn-refused limit prefix r (drop used bytes) (length out - written) some-left h y e f
 
-      pub at-onward : refuses (y .row .number) ≡ false → Onward limit before bytes out₀ r₀ out used written y
+      pub at-onward : refuses (y .row .number) ≡ false → Onward limit prefix bytes out₀ r₀ out used written y
       at-onward f =
           record {
             within = omega (arith, left-is, at .within, rw (← e) at (count-most limit r (drop used bytes)));
@@ -227,19 +227,19 @@ module _ {limit : ℕ} {before bytes out₀ out : List ℕ} {r₀ r : State} {us
             again = again;
           }
         where
-          again : (after : List ℕ) (next : ℕ) → PutAt out written (lineAfter before y) next after → next ≤ length out
-              → At limit before bytes out₀ r₀ after (y .state) (used + countOf (y .row)) next
+          again : (after : List ℕ) (next : ℕ) → PutAt out written (lineAfter prefix y) next after → next ≤ length out
+              → At limit prefix bytes out₀ r₀ after (y .state) (used + countOf (y .row)) next
           again after next put fits =
               let long : length after ≡ length out =
-              ap length (put .1) ∙ length-sets out written (lineAfter before y) in
-              let turn = turn-onward limit before r (drop used bytes) (length out - written) some-left h y e f in
-              let left : length out - written - length (lineAfter before y) ≡ length after - next =
+              ap length (put .1) ∙ length-sets out written (lineAfter prefix y) in
+              let turn = turn-onward limit prefix r (drop used bytes) (length out - written) some-left h y e f in
+              let left : length out - written - length (lineAfter prefix y) ≡ length after - next =
               omega (arith, long, put .0) in
-              let rest : Rest (loopOf limit before r₀ bytes (length out₀)) (loopOf limit before (y .state)
-              (drop (countOf (y .row)) (drop used bytes)) (length out - written - length (lineAfter before y)))
-              (used + countOf (y .row)) (written + length (lineAfter before y)) out₀
-              (sets out written (lineAfter before y)) =
-              rest-onward (countOf (y .row)) (lineAfter before y) (rw turn at (at .rest)) in
+              let rest : Rest (loopOf limit prefix r₀ bytes (length out₀)) (loopOf limit prefix (y .state)
+              (drop (countOf (y .row)) (drop used bytes)) (length out - written - length (lineAfter prefix y)))
+              (used + countOf (y .row)) (written + length (lineAfter prefix y)) out₀
+              (sets out written (lineAfter prefix y)) =
+              rest-onward (countOf (y .row)) (lineAfter prefix y) (rw turn at (at .rest)) in
               record {
                 within = omega (arith, left-is, at .within, rw (← e) at (count-most limit r (drop used bytes)));
                 room = omega (arith, long);
@@ -249,14 +249,14 @@ module _ {limit : ℕ} {before bytes out₀ out : List ℕ} {r₀ r : State} {us
 
 -- ---- the empty call before the loop
 
-module _ (limit : ℕ) (before bytes out : List ℕ) (r : State) (y : Reply State) (e : y ≡ feedOf limit r []) where
+module _ (limit : ℕ) (prefix bytes out : List ℕ) (r : State) (y : Outcome State) (e : y ≡ feedOf limit r []) where
   -- refused, it ends the call, and nothing changes
   pub none-fed : refuses (y .row .number) ≡ true
       → record { state = r; used = 0; written = 0; stop = y .row .number; out = out }
-      ≡ leftBy (listOf limit before r bytes (length out)) out
+      ≡ leftBy (listOf limit prefix r bytes (length out)) out
   none-fed f = rw (← e, f)
 
   -- otherwise the loop decides
   pub all-fed : refuses (y .row .number) ≡ false
-      → loopOf limit before r bytes (length out) ≡ listOf limit before r bytes (length out)
+      → loopOf limit prefix r bytes (length out) ≡ listOf limit prefix r bytes (length out)
   all-fed f = rw (← e, f)

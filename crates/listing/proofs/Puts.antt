@@ -9,7 +9,7 @@ use lib.ListN.{length, getD, take, drop, set, length-append, length-drop, drop-o
 use lib.Seq.{drop-cons, drop-drop, sets, sets-eq, set-comm, take-all}
 use borrow.Author.Tests.{lt-ltb, le-ltb}
 use Rattle.base.specs.Rows.{Row, row}
-use Rattle.base.specs.Outcomes.{Write, outcome, placed, writtenIn}
+use Rattle.base.specs.Outcomes.{Output, output, placed, writtenIn}
 use Rattle.base.proofs.Stores.{sets-append, sets-front}
 use Rattle.listing.specs.Decimal.{digit, decimalOf, columnsOf}
 use Rattle.listing.proofs.Digits.{decimal-last, decimal-more, count-last, count-more}
@@ -17,14 +17,14 @@ use Rattle.listing.proofs.Digits.{decimal-last, decimal-more, count-las
 -- ---- from the back
 
 -- a store behind a run of stores may come before it
-set-behind : (vs l : List ℕ) (i j v : ℕ) → i + length vs ≤ j → sets (set l j v) i vs ≡ set (sets l i vs) j v
-set-behind [] l i j v h = refl
-set-behind (a ∷ vs) l i j v h =
-    rw (set-comm l j i v a (λ e. omega arith)) (set-behind vs (set l i a) (suc i) j v (omega arith))
+set-after : (vs l : List ℕ) (i j v : ℕ) → i + length vs ≤ j → sets (set l j v) i vs ≡ set (sets l i vs) j v
+set-after [] l i j v h = refl
+set-after (a ∷ vs) l i j v h =
+    rw (set-comm l j i v a (λ e. omega arith)) (set-after vs (set l i a) (suc i) j v (omega arith))
 
 -- a last byte stored first
 pub sets-last : (vs l : List ℕ) (i v : ℕ) → sets (set l (i + length vs) v) i vs ≡ sets l i (vs ++ v ∷ [])
-sets-last vs l i v = set-behind vs l i (i + length vs) v (omega arith) ∙ rw sets-append
+sets-last vs l i v = set-after vs l i (i + length vs) v (omega arith) ∙ rw sets-append
 
 -- the digits of a number: the last one stored, and those of a tenth before it; or the only one
 module _ (out : List ℕ) (at n i : ℕ) (e : i + 1 ≡ at + length (decimalOf n)) where
@@ -41,21 +41,21 @@ module _ (out : List ℕ) (at n i : ℕ) (e : i + 1 ≡ at + length (decimalOf n
 -- ---- a text at the front of an output
 
 module _ (text out : List ℕ) where
-  pub too-long : length out < length text → outcome (row 22 (0 ∷ [])) out ≡ placed text out
+  pub too-long : length out < length text → output (row 22 (0 ∷ [])) out ≡ placed text out
   too-long h = rw (lt-ltb (length out) (length text) h)
 
-  pub fitting : length text ≤ length out → outcome (row 0 (length text ∷ [])) (sets out 0 text) ≡ placed text out
+  pub fitting : length text ≤ length out → output (row 0 (length text ∷ [])) (sets out 0 text) ≡ placed text out
   fitting h = rw (le-ltb (length out) (length text) h, sets-front text out h)
 
-pub nothing-put : (out : List ℕ) → outcome (row 0 (0 ∷ [])) out ≡ placed [] out
+pub nothing-put : (out : List ℕ) → output (row 0 (0 ∷ [])) out ≡ placed [] out
 nothing-put out = fitting [] out (omega arith)
 
 -- ---- a text put in the part of an output that begins at a place: `after` is that part afterwards
 
 module _ (text out : List ℕ) (at : ℕ) (fits : at + length text ≤ length out) {r : Row} {after : List ℕ}
-    (put : outcome r after ≡ placed text (take (length out - at) (drop at out))) where
+    (put : output r after ≡ placed text (take (length out - at) (drop at out))) where
   -- the part is all that is left of the output, and has room
-  part-fits : outcome r after ≡ outcome (row 0 (length text ∷ [])) (text ++ drop (at + length text) out)
+  part-fits : output r after ≡ output (row 0 (length text ∷ [])) (text ++ drop (at + length text) out)
   part-fits =
       let left : length (drop at out) ≡ length out - at = length-drop at out in
       put ∙ rw (
@@ -65,12 +65,12 @@ module _ (text out : List ℕ) (at : ℕ) (fits : at + length text ≤ length ou
       )
 
   pub part-count : writtenIn r ≡ length text
-  part-count = ap (λ (w : Write). writtenIn (w .row)) part-fits
+  part-count = ap (λ (w : Output). writtenIn (w .row)) part-fits
 
   pub part-put : take at out ++ (after ++ drop (length out - at) (drop at out)) ≡ sets out at text
   part-put =
       let left : length (drop at out) ≤ length out - at = omega (arith, length-drop at out) in
-      let part : after ≡ text ++ drop (at + length text) out = ap (λ (w : Write). w .out) part-fits in
+      let part : after ≡ text ++ drop (at + length text) out = ap (λ (w : Output). w .out) part-fits in
       rw (part, drop-of-length-le (drop at out) left, append-nil, sets-eq text out at fits, append-assoc)
 
 -- ---- from the front: bytes from the i-th on, put at their place behind at

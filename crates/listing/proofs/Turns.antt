@@ -12,133 +12,133 @@ use lib.ListN.{length, take, drop, take-append-drop, length-append, length-drop}
 use lib.Seq.{take-append-le, length-take-le}
 use lib.Dec.{leb}
 use Rattle.base.specs.Rows.{Row}
-use Rattle.base.specs.Outcomes.{Reply}
+use Rattle.base.specs.Outcomes.{Outcome}
 use Rattle.frame.specs.Wire.{widest}
 use Rattle.frame.specs.Rules.{inRangeOf}
 use Rattle.frame.specs.State.{State}
 use Rattle.frame.specs.Calls.{zeros, runOf, freshOf, feedOf}
-use Rattle.frame.specs.Logs.{Call, give, ask, entryOf, takenIn, logOf, stateAfter, stream, offer}
+use Rattle.frame.specs.Logs.{Call, feed, finish, entryOf, consumedIn, logOf, stateAfter, stream, offer}
 use Rattle.frame.proofs.Moves.{Inv}
 use Rattle.frame.proofs.Logged.{in-range, reached}
-use Rattle.frame.proofs.Demand3.{fresh-holds}
+use Rattle.frame.proofs.StreamCorrect.{fresh-holds}
 use Rattle.base.proofs.Tests.{either-way}
 use Rattle.base.proofs.Lists.{no-bytes}
 use Rattle.listing.specs.Decimal.{decimalOf, digitsIn, columnsOf}
 use Rattle.listing.specs.Lines.{headingText}
-use Rattle.listing.specs.Claims.{givenIn, givenText, listingOf, IsListing, OnlyGive, paperStream}
+use Rattle.listing.specs.Claims.{feedTextIn, feedText, listingOf, IsListing, OnlyFeed, exampleStream}
 use Rattle.listing.specs.Feeding.{Run, refuses, listIn, listOf}
 use Rattle.listing.specs.LoopClaims.{Listing, Turn, Turned, turned, turnsOf, writtenBy, TurnsListing}
-use Rattle.listing.specs.LoopClaims.{Told, TurnsTold, OfferedFront, TurnsFront, SentTurns, AnyTurns}
+use Rattle.listing.specs.LoopClaims.{TurnStops, TurnsStop, OfferedFront, TurnsFront, SentTurns, AnyTurns}
 use Rattle.listing.specs.LoopClaims.{WorkedTurns}
 use Rattle.listing.proofs.LoopClaims.{loop-lists, refused-late}
 use Rattle.listing.proofs.Whole.{only-offered, texts, whole-listing, one-listing}
 
 -- ---- calls that make what turns leave
 
-record Makes (limit : ℕ) (before : List ℕ) (r : State) (calls : List Call) (t : Turned) : Type 0 where
-  only : OnlyGive calls
+record Makes (limit : ℕ) (prefix : List ℕ) (r : State) (calls : List Call) (t : Turned) : Type 0 where
+  only : OnlyFeed calls
   state-is : stateAfter limit r calls ≡ t .state
-  taken-is : stream (logOf limit r calls) ≡ t .taken
-  text-is : givenText before (logOf limit r calls) ≡ t .text
+  consumed-is : stream (logOf limit r calls) ≡ t .consumed
+  text-is : feedText prefix (logOf limit r calls) ≡ t .text
 
 -- calls, and others behind them
-joined : (limit : ℕ) (before : List ℕ) (a b : List Call) (r : State) (t : Turned)
-    → OnlyGive a → Makes limit before (stateAfter limit r a) b t
-    → Makes limit before r (a ++ b) (record {
+joined : (limit : ℕ) (prefix : List ℕ) (a b : List Call) (r : State) (t : Turned)
+    → OnlyFeed a → Makes limit prefix (stateAfter limit r a) b t
+    → Makes limit prefix r (a ++ b) (record {
       state = t .state;
-      taken = stream (logOf limit r a) ++ t .taken;
-      text = givenText before (logOf limit r a) ++ t .text;
+      consumed = stream (logOf limit r a) ++ t .consumed;
+      text = feedText prefix (logOf limit r a) ++ t .text;
     })
-unfolding logOf stateAfter stream givenText
-joined limit before [] b r t o m = m
-joined limit before (give bytes ∷ a) b r t o m =
-    let y : Reply State = feedOf limit r bytes in
-    let e = entryOf r (give bytes) y in
-    let rest = joined limit before a b (y .state) t o m in
+unfolding logOf stateAfter stream feedText
+joined limit prefix [] b r t o m = m
+joined limit prefix (feed bytes ∷ a) b r t o m =
+    let y : Outcome State = feedOf limit r bytes in
+    let e = entryOf r (feed bytes) y in
+    let rest = joined limit prefix a b (y .state) t o m in
     record {
       only = rest .only;
       state-is = rest .state-is;
-      taken-is = ap (λ (l : List ℕ). take (takenIn e) bytes ++ l) (rest .taken-is)
-          ∙ sym (append-assoc (take (takenIn e) bytes) (stream (logOf limit (y .state) a)) (t .taken));
-      text-is = ap (λ (l : List ℕ). givenIn before (give bytes) e ++ l) (rest .text-is)
-          ∙ sym (append-assoc (givenIn before (give bytes) e) (givenText before (logOf limit (y .state) a)) (t .text));
+      consumed-is = ap (λ (l : List ℕ). take (consumedIn e) bytes ++ l) (rest .consumed-is)
+          ∙ sym (append-assoc (take (consumedIn e) bytes) (stream (logOf limit (y .state) a)) (t .consumed));
+      text-is = ap (λ (l : List ℕ). feedTextIn prefix (feed bytes) e ++ l) (rest .text-is)
+          ∙ sym (append-assoc (feedTextIn prefix (feed bytes) e) (feedText prefix (logOf limit (y .state) a)) (t .text));
     }
-joined limit before (ask ∷ a) b r t o m = absurd o
+joined limit prefix (finish ∷ a) b r t o m = absurd o
 
 -- the calls of turns
-record Called (limit : ℕ) (before : List ℕ) (r : State) (t : Turned) : Type 0 where
+record Called (limit : ℕ) (prefix : List ℕ) (r : State) (t : Turned) : Type 0 where
   calls : List Call
-  makes : Makes limit before r calls t
+  makes : Makes limit prefix r calls t
 
 -- a turn before others
-turn-before : (limit : ℕ) (before : List ℕ) (r : State) (bytes : List ℕ) (room : ℕ) (run : Run) (rest : Turned)
-    → Listing limit before r bytes room run → Called limit before (run .state) rest
-    → Called limit before r (turned bytes run rest)
-turn-before limit before r bytes room run rest l c =
+turn-before : (limit : ℕ) (prefix : List ℕ) (r : State) (bytes : List ℕ) (room : ℕ) (run : Run) (rest : Turned)
+    → Listing limit prefix r bytes room run → Called limit prefix (run .state) rest
+    → Called limit prefix r (turned bytes run rest)
+turn-before limit prefix r bytes room run rest l c =
     let cs : List Call = offer limit (l .calls) r bytes in
     record {
       calls = cs ++ c .calls;
-      makes = rw (l .taken-is, ← l .text-is) at (joined limit before cs (c .calls) r rest
+      makes = rw (l .consumed-is, ← l .text-is) at (joined limit prefix cs (c .calls) r rest
           (only-offered limit (l .calls) r bytes)
-          (subst (λ (q : State). Makes limit before q (c .calls) rest) (l .state-is) (c .makes)));
+          (subst (λ (q : State). Makes limit prefix q (c .calls) rest) (l .state-is) (c .makes)));
     }
 
-called : (limit : ℕ) (before : List ℕ) (ts : List Turn) (r : State)
-    → Called limit before r (turnsOf limit before r ts)
-unfolding turnsOf logOf stateAfter stream givenText
-called limit before [] r =
-    record { calls = []; makes = record { only = tt; state-is = refl; taken-is = refl; text-is = refl } }
-called limit before (t ∷ ts) r =
-    turn-before limit before r (t .bytes) (t .room) (listOf limit before r (t .bytes) (t .room)) _
-    (loop-lists limit before r (t .bytes) (t .room))
-    (called limit before ts (listOf limit before r (t .bytes) (t .room) .state))
+called : (limit : ℕ) (prefix : List ℕ) (ts : List Turn) (r : State)
+    → Called limit prefix r (turnsOf limit prefix r ts)
+unfolding turnsOf logOf stateAfter stream feedText
+called limit prefix [] r =
+    record { calls = []; makes = record { only = tt; state-is = refl; consumed-is = refl; text-is = refl } }
+called limit prefix (t ∷ ts) r =
+    turn-before limit prefix r (t .bytes) (t .room) (listOf limit prefix r (t .bytes) (t .room)) _
+    (loop-lists limit prefix r (t .bytes) (t .room))
+    (called limit prefix ts (listOf limit prefix r (t .bytes) (t .room) .state))
 
 -- ---- turns-listing
 
 -- the listing of calls that make what turns leave
-listing-of : (before : List ℕ) (limit : ℕ) → limit ≤ widest → (t : Turned) → Called limit before (freshOf limit) t
-    → IsListing before limit (t .taken) (writtenBy limit before t)
-listing-of before limit small t c =
+listing-of : (prefix : List ℕ) (limit : ℕ) → limit ≤ widest → (t : Turned) → Called limit prefix (freshOf limit) t
+    → IsListing prefix limit (t .consumed) (writtenBy limit prefix t)
+listing-of prefix limit small t c =
     let m = c .makes in
-    let same : listingOf before limit (c .calls ++ ask ∷ []) ≡ writtenBy limit before t =
-    ap (λ (l : List ℕ). headingText before ++ l) (texts before limit (c .calls) (freshOf limit) (m .only)
+    let same : listingOf prefix limit (c .calls ++ finish ∷ []) ≡ writtenBy limit prefix t =
+    ap (λ (l : List ℕ). headingText prefix ++ l) (texts prefix limit (c .calls) (freshOf limit) (m .only)
     ∙ rw (m .state-is, m .text-is)) in
-    rw (m .taken-is, same) at (whole-listing before limit small (c .calls) (m .only))
+    rw (m .consumed-is, same) at (whole-listing prefix limit small (c .calls) (m .only))
 
 pub turns-listing : TurnsListing
-turns-listing before limit small turns =
-    listing-of before limit small (turnsOf limit before (freshOf limit) turns)
-    (called limit before turns (freshOf limit))
+turns-listing prefix limit small turns =
+    listing-of prefix limit small (turnsOf limit prefix (freshOf limit) turns)
+    (called limit prefix turns (freshOf limit))
 
--- ---- turns-told
+-- ---- turns-stop
 
 module _ (limit : ℕ) (small : limit ≤ widest) where
   -- a state that calls of a fresh reader lead to, by which n bytes were taken
   record Comes (s : State) (n : ℕ) : Type 0 where
     holds : Inv limit s
-    most : s .scan .taken ≤ 2 ^ 62
-    place : s .scan .taken ≡ n
+    most : s .scan .consumed ≤ 2 ^ 62
+    place : s .scan .consumed ≡ n
 
-  comes-by : (calls : List Call) (r s : State) (n : ℕ) (taken : List ℕ) → Comes r n → stateAfter limit r calls ≡ s
-      → stream (logOf limit r calls) ≡ taken → Comes s (n + length taken)
-  comes-by calls r s n taken c e f =
+  comes-by : (calls : List Call) (r s : State) (n : ℕ) (consumed : List ℕ) → Comes r n → stateAfter limit r calls ≡ s
+      → stream (logOf limit r calls) ≡ consumed → Comes s (n + length consumed)
+  comes-by calls r s n consumed c e f =
       let q = reached limit small calls r (c .holds) (c .most) in
       let there : Comes (stateAfter limit r calls) (n + length (stream (logOf limit r calls))) =
-      record { holds = q .holds; most = q .most; place = omega (arith, q .place, c .place) } in
+      record { holds = q .holds; most = q .longest; place = omega (arith, q .place, c .place) } in
       rw (e, f) at there
 
   fresh-comes : Comes (freshOf limit) 0
   fresh-comes = record { holds = fresh-holds limit; most = omega arith; place = refl }
 
   -- a run of a reader in such a state
-  run-told : (before taken : List ℕ) (s : State) (bytes : List ℕ) (room : ℕ) (run : Run) → Comes s (length taken)
-      → Listing limit before s bytes room run → Told taken bytes run
-  run-told before taken s bytes room run c l =
-      let there : Comes (run .state) (length taken + length (take (run .used) bytes)) =
-      comes-by (offer limit (l .calls) s bytes) s (run .state) (length taken) (take (run .used) bytes)
-      c (sym (l .state-is)) (l .taken-is) in
+  run-stops : (prefix consumed : List ℕ) (s : State) (bytes : List ℕ) (room : ℕ) (run : Run) → Comes s (length consumed)
+      → Listing limit prefix s bytes room run → TurnStops consumed bytes run
+  run-stops prefix consumed s bytes room run c l =
+      let there : Comes (run .state) (length consumed + length (take (run .used) bytes)) =
+      comes-by (offer limit (l .calls) s bytes) s (run .state) (length consumed) (take (run .used) bytes)
+      c (sym (l .state-is)) (l .consumed-is) in
       let late : (n : ℕ) → refuses n ≡ true → feedOf limit (run .state) (drop (run .used) bytes) .row .number ≡ n
-      → (n ≢ 17) × (2 ^ 62 < run .state .scan .taken + length (drop (run .used) bytes)) =
+      → (n ≢ 17) × (2 ^ 62 < run .state .scan .consumed + length (drop (run .used) bytes)) =
       λ n. refused-late limit (run .state) (drop (run .used) bytes) n
       (in-range limit small (run .state) (there .holds) (there .most)) in
       record {
@@ -153,25 +153,25 @@ module _ (limit : ℕ) (small : limit ≤ widest) where
         );
       }
 
-pub turns-told : TurnsTold
-turns-told before limit small turns t =
-    let c = called limit before turns (freshOf limit) in
+pub turns-stop : TurnsStop
+turns-stop prefix limit small turns t =
+    let c = called limit prefix turns (freshOf limit) in
     let m = c .makes in
-    run-told limit small before (turnsOf limit before (freshOf limit) turns .taken)
-    (turnsOf limit before (freshOf limit) turns .state) (t .bytes) (t .room) _
+    run-stops limit small prefix (turnsOf limit prefix (freshOf limit) turns .consumed)
+    (turnsOf limit prefix (freshOf limit) turns .state) (t .bytes) (t .room) _
     (rw zero-add at (comes-by limit small (c .calls) (freshOf limit) _ 0 _ (fresh-comes limit small)
-    (m .state-is) (m .taken-is)))
-    (loop-lists limit before _ (t .bytes) (t .room))
+    (m .state-is) (m .consumed-is)))
+    (loop-lists limit prefix _ (t .bytes) (t .room))
 
 -- ---- turns-front
 
 pub turns-front : TurnsFront
 unfolding turnsOf OfferedFront
-turns-front limit before r sent [] o = (sent, refl)
-turns-front limit before r sent (t ∷ ts) o =
-    let run : Run = listOf limit before r (t .bytes) (t .room) in
-    let l = loop-lists limit before r (t .bytes) (t .room) in
-    let later = turns-front limit before (run .state) (drop (run .used) sent) ts (o .1) in
+turns-front limit prefix r sent [] o = (sent, refl)
+turns-front limit prefix r sent (t ∷ ts) o =
+    let run : Run = listOf limit prefix r (t .bytes) (t .room) in
+    let l = loop-lists limit prefix r (t .bytes) (t .room) in
+    let later = turns-front limit prefix (run .state) (drop (run .used) sent) ts (o .1) in
     let front : take (run .used) sent ≡ take (run .used) (t .bytes) =
     ap (λ (s : List ℕ). take (run .used) s) (o .0 .1)
     ∙ take-append-le (run .used) (t .bytes) (o .0 .0) (l .within) in (
@@ -179,25 +179,25 @@ turns-front limit before r sent (t ∷ ts) o =
       sym (take-append-drop (run .used) sent)
           ∙ ap (λ (s : List ℕ). s ++ drop (run .used) sent) front
           ∙ ap (λ (s : List ℕ). take (run .used) (t .bytes) ++ s) (later .1)
-          ∙ sym (append-assoc (take (run .used) (t .bytes)) (turnsOf limit before (run .state) ts .taken) (later .0)),
+          ∙ sym (append-assoc (take (run .used) (t .bytes)) (turnsOf limit prefix (run .state) ts .consumed) (later .0)),
     )
 
 -- ---- sent-turns, any-turns
 
 pub sent-turns : SentTurns
-sent-turns before limit small sent turns o all =
-    let t : Turned = turnsOf limit before (freshOf limit) turns in
-    let front = turns-front limit before (freshOf limit) sent turns o in
+sent-turns prefix limit small sent turns o all =
+    let t : Turned = turnsOf limit prefix (freshOf limit) turns in
+    let front = turns-front limit prefix (freshOf limit) sent turns o in
     let none : front .0 ≡ [] =
-    no-bytes (front .0) (omega (arith, ap length (front .1), length-append (t .taken) (front .0))) in
-    let same : t .taken ≡ sent =
-    sym (front .1 ∙ (ap (λ (l : List ℕ). t .taken ++ l) none ∙ append-nil (t .taken))) in
-    subst (λ (l : List ℕ). IsListing before limit l (writtenBy limit before t)) same
-    (turns-listing before limit small turns)
+    no-bytes (front .0) (omega (arith, ap length (front .1), length-append (t .consumed) (front .0))) in
+    let same : t .consumed ≡ sent =
+    sym (front .1 ∙ (ap (λ (l : List ℕ). t .consumed ++ l) none ∙ append-nil (t .consumed))) in
+    subst (λ (l : List ℕ). IsListing prefix limit l (writtenBy limit prefix t)) same
+    (turns-listing prefix limit small turns)
 
 pub any-turns : AnyTurns
-any-turns before limit small a b e =
-    one-listing before limit _ _ _ (turns-listing before limit small a) (rw e (turns-listing before limit small b))
+any-turns prefix limit small a b e =
+    one-listing prefix limit _ _ _ (turns-listing prefix limit small a) (rw e (turns-listing prefix limit small b))
 
 -- ---- worked-turns
 
@@ -205,11 +205,11 @@ pub worked-turns : WorkedTurns
 unfolding turnsOf OfferedFront listIn runOf zeros columnsOf decimalOf digitsIn
 worked-turns =
     record {
-      taken-is = refl;
+      consumed-is = refl;
       text-is = refl;
       written-is = refl;
       offered = (([], refl), (([], refl), tt));
-      not-again = λ o. omega (arith, ap length (o .1 .0 .1), length-append paperStream (o .1 .0 .0));
+      not-again = λ o. omega (arith, ap length (o .1 .0 .1), length-append exampleStream (o .1 .0 .0));
       not-kept = λ o.
           let z : _≡_ {A = ℕ} 0xFF 0x00 = head-eq-of-cons-eq (tail-eq-of-cons-eq (o .1 .0 .1)) in omega arith;
     }

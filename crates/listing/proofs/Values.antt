@@ -64,23 +64,23 @@ decimal-text n = texts (suc n) n (omega arith)
 -- ---- no other text
 
 -- a digit behind the digits of a number that is not 0
-decimal-behind : (m c : ℕ) → 1 ≤ m → c ≤ 9 → decimalOf (10 * m + c) ≡ decimalOf m ++ digit c ∷ []
-decimal-behind m c h g =
+decimal-after : (m c : ℕ) → 1 ≤ m → c ≤ 9 → decimalOf (10 * m + c) ≡ decimalOf m ++ digit c ∷ []
+decimal-after m c h g =
     let last : (10 * m + c) % 10 < 10 = mod-lt (10 * m + c) (omega arith) in
     let q : (10 * m + c) / 10 ≡ m = omega (arith, div-add-mod' (10 * m + c) 10) in
     let r : (10 * m + c) % 10 ≡ c = omega (arith, div-add-mod' (10 * m + c) 10) in
     decimal-more (10 * m + c) (omega arith) ∙ rw (q, r)
 
 -- digits behind the digits of a number that is not 0
-decimals-behind : (m : ℕ) (ds : List ℕ)
+decimals-after : (m : ℕ) (ds : List ℕ)
     → 1 ≤ m → ((d : ℕ) → List·Memᴰ d ds → IsDigit d) → decimalOf (valueFrom m ds) ≡ decimalOf m ++ ds
 unfolding valueFrom
-decimals-behind m [] h g = sym (append-nil (decimalOf m))
-decimals-behind m (d ∷ ds) h g =
+decimals-after m [] h g = sym (append-nil (decimalOf m))
+decimals-after m (d ∷ ds) h g =
     let first : IsDigit d = g d (List·Memᴰ·head refl) in
     let same : digit (d - 48) ≡ d = omega (arith, first .from) in
-    decimals-behind (10 * m + (d - 48)) ds (omega arith) (λ x k. g x (List·Memᴰ·tail k))
-    ∙ rw (decimal-behind m (d - 48) h (omega (arith, first .to)), same, append-assoc)
+    decimals-after (10 * m + (d - 48)) ds (omega arith) (λ x k. g x (List·Memᴰ·tail k))
+    ∙ rw (decimal-after m (d - 48) h (omega (arith, first .to)), same, append-assoc)
 
 -- by the first digit: alone, or not 0
 pub one-decimal : OneDecimal
@@ -97,5 +97,5 @@ one-decimal n (d ∷ e ∷ ds) t =
     let only : decimalOf (d - 48) ≡ d ∷ [] = decimal-last (d - 48) (omega (arith, first .to)) ∙ rw same in
     let from : d - 48 ≡ 10 * 0 + (d - 48) = omega arith in
     let value : valueFrom (d - 48) (e ∷ ds) ≡ n = ap (λ (k : ℕ). valueFrom k (e ∷ ds)) from ∙ t .value in
-    let all = decimals-behind (d - 48) (e ∷ ds) (omega arith) (λ x k. t .digits x (List·Memᴰ·tail k)) in
+    let all = decimals-after (d - 48) (e ∷ ds) (omega arith) (λ x k. t .digits x (List·Memᴰ·tail k)) in
     sym (ap decimalOf (sym value) ∙ (all ∙ rw only))

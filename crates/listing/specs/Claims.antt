@@ -6,14 +6,14 @@ use lib.ListN.{length, getD, drop}
 use Rattle.base.specs.Rows.{Row, row}
 use Rattle.frame.specs.Wire.{widest, frameLimit}
 use Rattle.frame.specs.Calls.{freshOf}
-use Rattle.frame.specs.Logs.{Call, give, ask, Entry, logOf, stream, offer, send, joined}
-use Rattle.frame.specs.Lines.{Line, linesOf, Answers, IsOpen}
+use Rattle.frame.specs.Logs.{Call, feed, finish, Entry, logOf, stream, offer, send, joined}
+use Rattle.frame.specs.Decisions.{Decision, decisionsOf, ListsDecisions, IsOpen}
 use Rattle.listing.specs.Decimal.{decimalOf}
 use Rattle.listing.specs.Lines.{ascii, headingText, textOf, placesOf, answerText, lastOf}
-use Rattle.listing.specs.Table.{linedRowOf, Puts}
+use Rattle.listing.specs.Table.{lineRowOf, Puts}
 use Rattle.base.specs.Outcomes.{writtenIn, placed}
-use Rattle.listing.specs.declared.text.Lined.{Lined}
-use Rattle.listing.specs.declared.text.Lined.the-variants as lined
+use Rattle.listing.specs.declared.text.LineResult.{LineResult}
+use Rattle.listing.specs.declared.text.LineResult.the-variants as lineResult
 
 -- ---- decimal-text: what a number's text is, apart from how it is made
 
@@ -42,25 +42,25 @@ DecimalTexts = (n : ℕ) → DecimalText n (decimalOf n)
 abbrev pub OneDecimal : Type 0
 OneDecimal = (n : ℕ) (text : List ℕ) → DecimalText n text → text ≡ decimalOf n
 
--- ---- rows-tell: two answers never have the same number and values
-abbrev pub RowsTell : Type 0
-RowsTell = (a b : Lined) → linedRowOf a ≡ linedRowOf b → a ≡ b
+-- ---- rows-injective: two answers never have the same number and values
+abbrev pub RowsInjective : Type 0
+RowsInjective = (a b : LineResult) → lineRowOf a ≡ lineRowOf b → a ≡ b
 
--- ---- lined-numbers: the table's number and the values of each answer
-pub record LinedNumbers : Type 0 where
-  pub wrote : (count : ℕ) → linedRowOf (lined.Wrote count) ≡ row 0 (count ∷ [])
-  pub room : linedRowOf lined.Room ≡ row 22 (0 ∷ [])
+-- ---- line-rows: the table's number and the values of each answer
+pub record LineRows : Type 0 where
+  pub wrote : (count : ℕ) → lineRowOf (lineResult.Wrote count) ≡ row 0 (count ∷ [])
+  pub room : lineRowOf lineResult.Room ≡ row 22 (0 ∷ [])
 
 -- ---- puts-whole: what a contract that names `Puts` fixes: a text that fits stands at the front of the output, whose
 -- rest stays, and its length is told; another is ROOM, and the output stays
-pub record PutsWhole (r : Lined) (after text out : List ℕ) : Type 0 where
+pub record PutsWhole (r : LineResult) (after text out : List ℕ) : Type 0 where
   pub fits : length text ≤ length out
-      → (linedRowOf r ≡ row 0 (length text ∷ [])) × (after ≡ text ++ drop (length text) out)
-  pub room : length out < length text → (linedRowOf r ≡ row 22 (0 ∷ [])) × (after ≡ out)
+      → (lineRowOf r ≡ row 0 (length text ∷ [])) × (after ≡ text ++ drop (length text) out)
+  pub room : length out < length text → (lineRowOf r ≡ row 22 (0 ∷ [])) × (after ≡ out)
 
 -- of every answer, text and output
 abbrev pub PutsAlways : Type 0
-PutsAlways = (r : Lined) (after text out : List ℕ) → Puts r after text out → PutsWhole r after text out
+PutsAlways = (r : LineResult) (after text out : List ℕ) → Puts r after text out → PutsWhole r after text out
 
 -- ---- within: no call counts more bytes than the output has
 abbrev pub Within : Type 0
@@ -76,69 +76,69 @@ Below m (n ∷ l) = (n < m) × Below m l
 
 -- the line of each answer, the last line and the heading
 pub record Longest : Type 0 where
-  pub lines : (before : List ℕ) (r : Row) (body : List ℕ) → Below (2 ^ 64) (placesOf r)
-      → ((i : ℕ) → getD body i 0 < 256) → length (answerText before r body) ≤ length before + 132
-  pub lasts : (before : List ℕ) (r : Row) → Below (2 ^ 64) (r .values) → length (lastOf before r) ≤ length before + 132
-  pub heading : (before : List ℕ) → length (headingText before) ≤ length before + 132
+  pub lines : (prefix : List ℕ) (r : Row) (body : List ℕ) → Below (2 ^ 64) (placesOf r)
+      → ((i : ℕ) → getD body i 0 < 256) → length (answerText prefix r body) ≤ length prefix + 132
+  pub lasts : (prefix : List ℕ) (r : Row) → Below (2 ^ 64) (r .values) → length (lastOf prefix r) ≤ length prefix + 132
+  pub heading : (prefix : List ℕ) → length (headingText prefix) ≤ length prefix + 132
 
--- ---- paper-listing: "Given FF, example 1, FF FF 00 05 07, example 3, it prints exactly"
+-- ---- example-listing: "Given FF, example 1, FF FF 00 05 07, example 3, it prints exactly"
 
 -- the text of a call: the line of what it was answered, or the last line
 abbrev pub textIn : List ℕ → Call → Entry → List ℕ
-textIn before (give bytes) e = answerText before (e .row) (e .after .body)
-textIn before ask e = lastOf before (e .row)
+textIn prefix (feed bytes) e = answerText prefix (e .row) (e .after .body)
+textIn prefix finish e = lastOf prefix (e .row)
 
 -- of a list of calls
 unfoldable pub textsOf : List ℕ → List Entry → List ℕ
-textsOf before [] = []
-textsOf before (e ∷ es) = textIn before (e .call) e ++ textsOf before es
+textsOf prefix [] = []
+textsOf prefix (e ∷ es) = textIn prefix (e .call) e ++ textsOf prefix es
 
 -- the listing of calls of a fresh reader, with what stands before each line's word
 abbrev pub listingOf : List ℕ → ℕ → List Call → List ℕ
-listingOf before limit calls = headingText before ++ textsOf before (logOf limit (freshOf limit) calls)
+listingOf prefix limit calls = headingText prefix ++ textsOf prefix (logOf limit (freshOf limit) calls)
 
 -- the stream of the example
-abbrev pub paperStream : List ℕ
-paperStream =
+abbrev pub exampleStream : List ℕ
+exampleStream =
     0xFF
     ∷ 0xFF ∷ 0xFF ∷ 0x00 ∷ 0x05 ∷ 0x07 ∷ 0x01 ∷ 0x00 ∷ 0x00 ∷ 0x0D
     ∷ 0xFF ∷ 0xFF ∷ 0x00 ∷ 0x05 ∷ 0x07
     ∷ 0xFF ∷ 0xFF ∷ 0x00 ∷ 0x05 ∷ 0x07 ∷ 0xF3 ∷ 0x00 ∷ 0x00 ∷ 0xFF ∷ 0x55 ∷ []
 
 -- it is offered until it is taken, and then the end is asked
-abbrev pub PaperListing : Type 0
-PaperListing =
-    listingOf [] frameLimit (offer frameLimit 3 (freshOf frameLimit) paperStream ++ ask ∷ [])
+abbrev pub ExampleListing : Type 0
+ExampleListing =
+    listingOf [] frameLimit (offer frameLimit 3 (freshOf frameLimit) exampleStream ++ finish ∷ [])
     ≡ ascii
     "kind start end cmd sn flags payload\nframe 1 10 7 1 0 0\ncut 10 17 - - - -\nframe 15 25 7 243 0 0\nclean 25\n"
 
 -- ---- each-kind: a listing for each kind of line that the paper's example lacks
 pub record EachKind : Type 0 where
-  pub short : listingOf [] frameLimit (give (0xFF ∷ 0xFF ∷ 0x00 ∷ 0x04 ∷ []) ∷ ask ∷ [])
+  pub short : listingOf [] frameLimit (feed (0xFF ∷ 0xFF ∷ 0x00 ∷ 0x04 ∷ []) ∷ finish ∷ [])
       ≡ headingText [] ++ ascii "short 0 4 - - - -\nclean 4\n"
-  pub long : listingOf [] frameLimit (give (0xFF ∷ 0xFF ∷ 0xFF ∷ 0x55 ∷ 0x00 ∷ []) ∷ ask ∷ [])
+  pub long : listingOf [] frameLimit (feed (0xFF ∷ 0xFF ∷ 0xFF ∷ 0x55 ∷ 0x00 ∷ []) ∷ finish ∷ [])
       ≡ headingText [] ++ ascii "long 1 5 - - - -\nclean 5\n"
-  pub stuff : listingOf [] frameLimit (give (0xFF ∷ 0xFF ∷ 0x00 ∷ 0x05 ∷ 0x07 ∷ 0xFF ∷ 0x00 ∷ []) ∷ ask ∷ [])
+  pub stuff : listingOf [] frameLimit (feed (0xFF ∷ 0xFF ∷ 0x00 ∷ 0x05 ∷ 0x07 ∷ 0xFF ∷ 0x00 ∷ []) ∷ finish ∷ [])
       ≡ headingText [] ++ ascii "stuff 0 7 - - - -\nclean 7\n"
   pub sum : listingOf [] frameLimit
-      (give (0xFF ∷ 0xFF ∷ 0x00 ∷ 0x05 ∷ 0x07 ∷ 0x01 ∷ 0x00 ∷ 0x00 ∷ 0x0E ∷ []) ∷ ask ∷ [])
+      (feed (0xFF ∷ 0xFF ∷ 0x00 ∷ 0x05 ∷ 0x07 ∷ 0x01 ∷ 0x00 ∷ 0x00 ∷ 0x0E ∷ []) ∷ finish ∷ [])
       ≡ headingText [] ++ ascii "sum 0 9 - - - -\nclean 9\n"
-  pub left-open : listingOf [] frameLimit (give (0xFF ∷ 0xFF ∷ 0xFF ∷ 0x00 ∷ 0x05 ∷ []) ∷ ask ∷ [])
+  pub left-open : listingOf [] frameLimit (feed (0xFF ∷ 0xFF ∷ 0xFF ∷ 0x00 ∷ 0x05 ∷ []) ∷ finish ∷ [])
       ≡ headingText [] ++ ascii "open 1\n"
 
 -- ---- worked-columns: a line whose numbers all differ and none of which is 0: command 22, number 33, flags 12 34,
 -- payload AA BB, behind a byte of noise
 pub record WorkedColumns : Type 0 where
   pub columns : listingOf [] frameLimit
-      (give (0x00 ∷ 0xFF ∷ 0xFF ∷ 0x00 ∷ 0x07 ∷ 0x22 ∷ 0x33 ∷ 0x12 ∷ 0x34 ∷ 0xAA ∷ 0xBB ∷ 0x07 ∷ []) ∷ ask ∷ [])
+      (feed (0x00 ∷ 0xFF ∷ 0xFF ∷ 0x00 ∷ 0x07 ∷ 0x22 ∷ 0x33 ∷ 0x12 ∷ 0x34 ∷ 0xAA ∷ 0xBB ∷ 0x07 ∷ []) ∷ finish ∷ [])
       ≡ ascii "kind start end cmd sn flags payload\nframe 1 12 34 51 4660 2\nclean 12\n"
 
 -- ---- frame-columns: the same of any body that is as long as it says, by the places of its bytes
 abbrev pub FrameColumns : Type 0
 FrameColumns =
-    (before : List ℕ) (count start end : ℕ) (body : List ℕ) → getD body 0 0 * 256 + getD body 1 0 + 1 ≤ length body
-    → answerText before (row 1 (count ∷ start ∷ end ∷ [])) body
-    ≡ textOf before (ascii "frame")
+    (prefix : List ℕ) (count start end : ℕ) (body : List ℕ) → getD body 0 0 * 256 + getD body 1 0 + 1 ≤ length body
+    → answerText prefix (row 1 (count ∷ start ∷ end ∷ [])) body
+    ≡ textOf prefix (ascii "frame")
     (start ∷ end ∷ getD body 2 0 ∷ getD body 3 0 ∷ (getD body 4 0 * 256 + getD body 5 0)
     ∷ (getD body 0 0 * 256 + getD body 1 0 - 5) ∷ [])
     (ascii "\n")
@@ -150,123 +150,123 @@ abbrev pub refusedRest : ℕ → ℕ → List ℕ
 refusedRest start end = decimalOf start ++ (ascii " " ++ (decimalOf end ++ ascii " - - - -\n"))
 
 -- count c, start s, end e
-pub record LinesSpelled (before body : List ℕ) (c s e : ℕ) : Type 0 where
-  pub short : answerText before (row 11 (c ∷ s ∷ e ∷ [])) body ≡ before ++ (ascii "short " ++ refusedRest s e)
-  pub long : answerText before (row 12 (c ∷ s ∷ e ∷ [])) body ≡ before ++ (ascii "long " ++ refusedRest s e)
-  pub stuff : answerText before (row 13 (c ∷ s ∷ e ∷ [])) body ≡ before ++ (ascii "stuff " ++ refusedRest s e)
-  pub cut : answerText before (row 14 (c ∷ s ∷ e ∷ [])) body ≡ before ++ (ascii "cut " ++ refusedRest s e)
-  pub sum : answerText before (row 15 (c ∷ s ∷ e ∷ [])) body ≡ before ++ (ascii "sum " ++ refusedRest s e)
+pub record LinesSpelled (prefix body : List ℕ) (c s e : ℕ) : Type 0 where
+  pub short : answerText prefix (row 11 (c ∷ s ∷ e ∷ [])) body ≡ prefix ++ (ascii "short " ++ refusedRest s e)
+  pub long : answerText prefix (row 12 (c ∷ s ∷ e ∷ [])) body ≡ prefix ++ (ascii "long " ++ refusedRest s e)
+  pub stuff : answerText prefix (row 13 (c ∷ s ∷ e ∷ [])) body ≡ prefix ++ (ascii "stuff " ++ refusedRest s e)
+  pub cut : answerText prefix (row 14 (c ∷ s ∷ e ∷ [])) body ≡ prefix ++ (ascii "cut " ++ refusedRest s e)
+  pub sum : answerText prefix (row 15 (c ∷ s ∷ e ∷ [])) body ≡ prefix ++ (ascii "sum " ++ refusedRest s e)
   -- the six columns of a frame, which `frame-columns` takes from its body
   pub frame : (n k f p : ℕ)
-      → textOf before (ascii "frame") (s ∷ e ∷ n ∷ k ∷ f ∷ p ∷ []) (ascii "\n")
-      ≡ before ++ (ascii "frame " ++ (decimalOf s ++ (ascii " " ++ (decimalOf e ++ (ascii " "
+      → textOf prefix (ascii "frame") (s ∷ e ∷ n ∷ k ∷ f ∷ p ∷ []) (ascii "\n")
+      ≡ prefix ++ (ascii "frame " ++ (decimalOf s ++ (ascii " " ++ (decimalOf e ++ (ascii " "
       ++ (decimalOf n ++ (ascii " " ++ (decimalOf k ++ (ascii " "
       ++ (decimalOf f ++ (ascii " " ++ (decimalOf p ++ ascii "\n"))))))))))))
-  pub clean : lastOf before (row 2 (c ∷ [])) ≡ before ++ (ascii "clean " ++ (decimalOf c ++ ascii "\n"))
-  pub left-open : lastOf before (row 16 (c ∷ s ∷ [])) ≡ before ++ (ascii "open " ++ (decimalOf s ++ ascii "\n"))
-  pub heading : headingText before ≡ before ++ ascii "kind start end cmd sn flags payload\n"
+  pub clean : lastOf prefix (row 2 (c ∷ [])) ≡ prefix ++ (ascii "clean " ++ (decimalOf c ++ ascii "\n"))
+  pub left-open : lastOf prefix (row 16 (c ∷ s ∷ [])) ≡ prefix ++ (ascii "open " ++ (decimalOf s ++ ascii "\n"))
+  pub heading : headingText prefix ≡ prefix ++ ascii "kind start end cmd sn flags payload\n"
 
 -- of all values
 abbrev pub AllLinesSpelled : Type 0
-AllLinesSpelled = (before body : List ℕ) (c s e : ℕ) → LinesSpelled before body c s e
+AllLinesSpelled = (prefix body : List ℕ) (c s e : ℕ) → LinesSpelled prefix body c s e
 
--- ---- worked-before: a column before the word of each line, of the heading and of the last line; where an answer has
+-- ---- worked-prefix: a column before the word of each line, of the heading and of the last line; where an answer has
 -- no line it stands nowhere
-pub record WorkedBefore : Type 0 where
-  pub paper : listingOf (ascii "in ") frameLimit (offer frameLimit 3 (freshOf frameLimit) paperStream ++ ask ∷ [])
+pub record WorkedPrefix : Type 0 where
+  pub paper : listingOf (ascii "in ") frameLimit (offer frameLimit 3 (freshOf frameLimit) exampleStream ++ finish ∷ [])
       ≡ ascii "in kind start end cmd sn flags payload\nin frame 1 10 7 1 0 0\nin cut 10 17 - - - -\n"
       ++ ascii "in frame 15 25 7 243 0 0\nin clean 25\n"
-  pub quiet : listingOf (ascii "in ") frameLimit (give (0x00 ∷ []) ∷ ask ∷ [])
+  pub quiet : listingOf (ascii "in ") frameLimit (feed (0x00 ∷ []) ∷ finish ∷ [])
       ≡ ascii "in kind start end cmd sn flags payload\nin clean 1\n"
 
 -- ---- no-line: MORE, STATE and USED have none, and an end answered STATE has none
-pub record NoLine (before values body : List ℕ) : Type 0 where
-  pub more : answerText before (row 0 values) body ≡ []
-  pub state : answerText before (row 17 values) body ≡ []
-  pub used : answerText before (row 18 values) body ≡ []
-  pub end-state : lastOf before (row 17 values) ≡ []
+pub record NoLine (prefix values body : List ℕ) : Type 0 where
+  pub more : answerText prefix (row 0 values) body ≡ []
+  pub state : answerText prefix (row 17 values) body ≡ []
+  pub used : answerText prefix (row 18 values) body ≡ []
+  pub end-state : lastOf prefix (row 17 values) ≡ []
 
 -- of any values and body
 abbrev pub NoLines : Type 0
-NoLines = (before values body : List ℕ) → NoLine before values body
+NoLines = (prefix values body : List ℕ) → NoLine prefix values body
 
 -- ---- each-listed: of every list of calls of a fresh reader, the lines' text is that of the table's lines over the
--- bytes taken, in order: frame's claim `each-line` says that `linesOf` has them all, each once, nothing else
+-- bytes taken, in order: frame's claim `each-decision` says that `decisionsOf` has them all, each once, nothing else
 
 -- the text of the answers to bytes given, which stands between the heading and the last line
-abbrev pub givenIn : List ℕ → Call → Entry → List ℕ
-givenIn before (give bytes) e = answerText before (e .row) (e .after .body)
-givenIn before ask e = []
+abbrev pub feedTextIn : List ℕ → Call → Entry → List ℕ
+feedTextIn prefix (feed bytes) e = answerText prefix (e .row) (e .after .body)
+feedTextIn prefix finish e = []
 
 -- of a list of calls
-unfoldable pub givenText : List ℕ → List Entry → List ℕ
-givenText before [] = []
-givenText before (e ∷ es) = givenIn before (e .call) e ++ givenText before es
+unfoldable pub feedText : List ℕ → List Entry → List ℕ
+feedText prefix [] = []
+feedText prefix (e ∷ es) = feedTextIn prefix (e .call) e ++ feedText prefix es
 
 -- the text of a line over the stream: its number, its places and, at FRAME, the parts of its body
-abbrev pub lineText : List ℕ → Line → List ℕ
-lineText before l = answerText before (row (l .number) (0 ∷ l .start ∷ l .end ∷ [])) (l .body)
+abbrev pub decisionText : List ℕ → Decision → List ℕ
+decisionText prefix l = answerText prefix (row (l .number) (0 ∷ l .start ∷ l .end ∷ [])) (l .body)
 
 -- of several
-unfoldable pub linesText : List ℕ → List Line → List ℕ
-linesText before [] = []
-linesText before (l ∷ ls) = lineText before l ++ linesText before ls
+unfoldable pub decisionsText : List ℕ → List Decision → List ℕ
+decisionsText prefix [] = []
+decisionsText prefix (l ∷ ls) = decisionText prefix l ++ decisionsText prefix ls
 
 -- of every list of calls
 abbrev pub EachListed : Type 0
 EachListed =
-    (before : List ℕ) (limit : ℕ) → limit ≤ widest → (calls : List Call)
-    → givenText before (logOf limit (freshOf limit) calls)
-    ≡ linesText before (linesOf (logOf limit (freshOf limit) calls))
+    (prefix : List ℕ) (limit : ℕ) → limit ≤ widest → (calls : List Call)
+    → feedText prefix (logOf limit (freshOf limit) calls)
+    ≡ decisionsText prefix (decisionsOf (logOf limit (freshOf limit) calls))
 
 -- ---- whole-listing: the bytes taken alone decide the listing, in whatever pieces they were given
 
 -- the heading, lines, and the last line of an end asked
-abbrev pub listed : List ℕ → List Line → Row → List ℕ
-listed before ls end = headingText before ++ (linesText before ls ++ lastOf before end)
+abbrev pub listed : List ℕ → List Decision → Row → List ℕ
+listed prefix ls end = headingText prefix ++ (decisionsText prefix ls ++ lastOf prefix end)
 
 -- the text is the listing of the stream t: heading, the table's lines over t, and the last line, each behind `before`
-pub record IsListing (before : List ℕ) (limit : ℕ) (t text : List ℕ) : Type 0 where
-  pub lines : List Line
-  pub answers : Answers limit t lines
+pub record IsListing (prefix : List ℕ) (limit : ℕ) (t text : List ℕ) : Type 0 where
+  pub lines : List Decision
+  pub answers : ListsDecisions limit t lines
   pub left-open : (start : ℕ) → IsOpen limit t start
-      → text ≡ listed before lines (row 16 (length t ∷ start ∷ []))
+      → text ≡ listed prefix lines (row 16 (length t ∷ start ∷ []))
   pub left-clean : ((start : ℕ) → IsOpen limit t start → ⊥)
-      → text ≡ listed before lines (row 2 (length t ∷ []))
+      → text ≡ listed prefix lines (row 2 (length t ∷ []))
 
 -- the calls give bytes, and none asks the end
-abbrev pub OnlyGive : List Call → Type 0
-OnlyGive [] = Unit {0}
-OnlyGive (give bytes ∷ cs) = OnlyGive cs
-OnlyGive (ask ∷ cs) = ⊥
+abbrev pub OnlyFeed : List Call → Type 0
+OnlyFeed [] = Unit {0}
+OnlyFeed (feed bytes ∷ cs) = OnlyFeed cs
+OnlyFeed (finish ∷ cs) = ⊥
 
 -- of all calls that give bytes, with the end asked behind them
 abbrev pub WholeListing : Type 0
 WholeListing =
-    (before : List ℕ) (limit : ℕ) → limit ≤ widest → (calls : List Call) → OnlyGive calls
-    → IsListing before limit (stream (logOf limit (freshOf limit) calls)) (listingOf before limit (calls ++ ask ∷ []))
+    (prefix : List ℕ) (limit : ℕ) → limit ≤ widest → (calls : List Call) → OnlyFeed calls
+    → IsListing prefix limit (stream (logOf limit (freshOf limit) calls)) (listingOf prefix limit (calls ++ finish ∷ []))
 
 -- ---- one-listing: a stream has one listing
 abbrev pub OneListing : Type 0
 OneListing =
-    (before : List ℕ) (limit : ℕ) (t a b : List ℕ) → IsListing before limit t a → IsListing before limit t b → a ≡ b
+    (prefix : List ℕ) (limit : ℕ) (t a b : List ℕ) → IsListing prefix limit t a → IsListing prefix limit t b → a ≡ b
 
 -- ---- sent-listing: a sender that offers each piece until it is taken gets the listing of all its bytes, up to 2^62
 abbrev pub SentListing : Type 0
 SentListing =
-    (before : List ℕ) (limit : ℕ) → limit ≤ widest → (pieces : List (List ℕ)) → length (joined pieces) ≤ 2 ^ 62
-    → IsListing before limit (joined pieces) (listingOf before limit (send limit (freshOf limit) pieces ++ ask ∷ []))
+    (prefix : List ℕ) (limit : ℕ) → limit ≤ widest → (pieces : List (List ℕ)) → length (joined pieces) ≤ 2 ^ 62
+    → IsListing prefix limit (joined pieces) (listingOf prefix limit (send limit (freshOf limit) pieces ++ finish ∷ []))
 
 -- ---- any-cut: the same bytes have the same listing, however they are cut:
 -- into calls that took them, or into pieces that are sent
-pub record AnyCut (before : List ℕ) (limit : ℕ) : Type 0 where
+pub record AnyCut (prefix : List ℕ) (limit : ℕ) : Type 0 where
   pub calls : (ps qs : List Call)
-      → OnlyGive ps → OnlyGive qs → stream (logOf limit (freshOf limit) ps) ≡ stream (logOf limit (freshOf limit) qs)
-      → listingOf before limit (ps ++ ask ∷ []) ≡ listingOf before limit (qs ++ ask ∷ [])
+      → OnlyFeed ps → OnlyFeed qs → stream (logOf limit (freshOf limit) ps) ≡ stream (logOf limit (freshOf limit) qs)
+      → listingOf prefix limit (ps ++ finish ∷ []) ≡ listingOf prefix limit (qs ++ finish ∷ [])
   pub pieces : (ps qs : List (List ℕ)) → joined ps ≡ joined qs → length (joined ps) ≤ 2 ^ 62
-      → listingOf before limit (send limit (freshOf limit) ps ++ ask ∷ [])
-      ≡ listingOf before limit (send limit (freshOf limit) qs ++ ask ∷ [])
+      → listingOf prefix limit (send limit (freshOf limit) ps ++ finish ∷ [])
+      ≡ listingOf prefix limit (send limit (freshOf limit) qs ++ finish ∷ [])
 
 -- of every limit up to the widest
 abbrev pub AnyCuts : Type 0
-AnyCuts = (before : List ℕ) (limit : ℕ) → limit ≤ widest → AnyCut before limit
+AnyCuts = (prefix : List ℕ) (limit : ℕ) → limit ≤ widest → AnyCut prefix limit

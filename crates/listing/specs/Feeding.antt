@@ -5,7 +5,7 @@ use mathlib.Core.Bool.{Bool, cond, _||_}
 use mathlib.Core.List.{List, [], _++_}
 use lib.ListN.{length, drop}
 use lib.Dec.{eqb, ltb}
-use Rattle.base.specs.Outcomes.{Reply, onto}
+use Rattle.base.specs.Outcomes.{Outcome, onto}
 use Rattle.frame.specs.Table.{countOf}
 use Rattle.frame.specs.State.{State, stateOf}
 use Rattle.frame.specs.Calls.{feedOf}
@@ -47,31 +47,31 @@ abbrev pub refuses : ℕ → Bool
 refuses number = eqb number 17 || eqb number 18
 
 -- the line of what a call is answered, and of the body that the reader then holds
-abbrev pub lineAfter : List ℕ → Reply State → List ℕ
-lineAfter before y = answerText before (y .row) (y .state .body)
+abbrev pub lineAfter : List ℕ → Outcome State → List ℕ
+lineAfter prefix y = answerText prefix (y .row) (y .state .body)
 
 -- in at most n calls, each of what is left, with so much room left
 unfoldable pub listIn : ℕ → List ℕ → ℕ → State → List ℕ → ℕ → Run
-listIn limit before zero r bytes room = stopped r 0
-listIn limit before (suc n) r bytes room =
+listIn limit prefix zero r bytes room = stopped r 0
+listIn limit prefix (suc n) r bytes room =
     cond (eqb (length bytes) 0) (stopped r 0)
-    (cond (ltb room (length before + lineRoom)) (full r)
+    (cond (ltb room (length prefix + lineRoom)) (full r)
     (cond (refuses (feedOf limit r bytes .row .number))
     (stopped (feedOf limit r bytes .state) (feedOf limit r bytes .row .number))
-    (onward (countOf (feedOf limit r bytes .row)) (lineAfter before (feedOf limit r bytes))
-    (listIn limit before n (feedOf limit r bytes .state) (drop (countOf (feedOf limit r bytes .row)) bytes)
-    (room - length (lineAfter before (feedOf limit r bytes)))))))
+    (onward (countOf (feedOf limit r bytes .row)) (lineAfter prefix (feedOf limit r bytes))
+    (listIn limit prefix n (feedOf limit r bytes .state) (drop (countOf (feedOf limit r bytes .row)) bytes)
+    (room - length (lineAfter prefix (feedOf limit r bytes)))))))
 
 -- as many calls as there are bytes are enough: each takes one at least
 abbrev pub loopOf : ℕ → List ℕ → State → List ℕ → ℕ → Run
-loopOf limit before r bytes room = listIn limit before (length bytes) r bytes room
+loopOf limit prefix r bytes room = listIn limit prefix (length bytes) r bytes room
 
 -- "17 comes before all others": an empty call is made first, so that a reader out of range is answered STATE with no
 -- room and no bytes, too
 abbrev pub listOf : ℕ → List ℕ → State → List ℕ → ℕ → Run
-listOf limit before r bytes room =
+listOf limit prefix r bytes room =
     cond (refuses (feedOf limit r [] .row .number)) (stopped r (feedOf limit r [] .row .number))
-    (loopOf limit before r bytes room)
+    (loopOf limit prefix r bytes room)
 
 -- what a call of the loop returns and leaves, with the output afterwards
 pub record Left : Type 0 where

@@ -1,6 +1,6 @@
 // The desk's loop over bytes: each answer's line is put behind those before it, until the bytes or the room end.
 use super::lines::answer_line;
-use frame::Answer;
+use frame::FeedResult;
 use frame::Reader;
 ghost use mathlib.Core.Path.{_≡_};
 ghost use mathlib.Core.Bool.{true};
@@ -33,52 +33,52 @@ pub struct Listed {
 }
 
 // Whether the reader refuses the call, and would refuse it again.
-fn is_refusal(said: Answer) -> bool
-    ensures { λ r. ⌜ r ≡ refuses (rowOf said .number) ⌝ }
+fn is_refusal(answer: FeedResult) -> bool
+    ensures { λ r. ⌜ r ≡ refuses (rowOf answer .number) ⌝ }
 {
-    match said {
-        Answer::More { count: _ } => false,
-        Answer::Decided {
+    match answer {
+        FeedResult::More { count: _ } => false,
+        FeedResult::Decided {
             count: _,
             start: _,
             end: _,
             verdict: _,
         } => false,
-        Answer::State => true,
-        Answer::Used => true,
+        FeedResult::State => true,
+        FeedResult::Used => true,
     }
 }
 
 // Why a loop stops at a refusal; other answers do not stop one.
-fn refusal(said: Answer) -> Stop
-    ensures { λ r. ⌜ (refuses (rowOf said .number) ≡ true → stopOf r ≡ rowOf said .number) ⌝ }
+fn refusal(answer: FeedResult) -> Stop
+    ensures { λ r. ⌜ (refuses (rowOf answer .number) ≡ true → stopOf r ≡ rowOf answer .number) ⌝ }
 {
-    match said {
-        Answer::More { count: _ } => Stop::Done,
-        Answer::Decided {
+    match answer {
+        FeedResult::More { count: _ } => Stop::Done,
+        FeedResult::Decided {
             count: _,
             start: _,
             end: _,
             verdict: _,
         } => Stop::Done,
-        Answer::State => Stop::State,
-        Answer::Used => Stop::Used,
+        FeedResult::State => Stop::State,
+        FeedResult::Used => Stop::Used,
     }
 }
 
 // The line of an answer at a place of the output that has room for it; the place behind it.
-fn add_line(said: Answer, before: &[u8], body: &[u8], out: &mut [u8], at: usize) -> usize
-    requires { ⌜ at + length (now before) + lineRoom ≤ length (now out) ⌝ }
+fn add_line(answer: FeedResult, prefix: &[u8], body: &[u8], out: &mut [u8], at: usize) -> usize
+    requires { ⌜ at + length (now prefix) + lineRoom ≤ length (now out) ⌝ }
     ensures { λ r. ⌜ PutAt (now (out .entry)) at
-        (answerText (now (before .entry)) (rowOf said) (now (body .entry))) r (now (out .exit)) ⌝ }
+        (answerText (now (prefix .entry)) (rowOf answer) (now (body .entry))) r (now (out .exit)) ⌝ }
     ensures { λ r. ⌜ r ≤ length (now (out .entry)) ⌝ }
 {
-    at + answer_line(said, before, body, &mut out[at..]).count()
+    at + answer_line(answer, prefix, body, &mut out[at..]).count()
 }
 
 // Feeds bytes to a reader and puts the line of each answer.
-fn feed_all(reader: Reader, before: &[u8], bytes: &[u8], out: &mut [u8]) -> Listed
-    ensures { λ r. ⌜ leftOf r (now (out .exit)) ≡ leftBy (loopOf frameLimit (now (before .entry)) (stateOf reader)
+fn feed_all(reader: Reader, prefix: &[u8], bytes: &[u8], out: &mut [u8]) -> Listed
+    ensures { λ r. ⌜ leftOf r (now (out .exit)) ≡ leftBy (loopOf frameLimit (now (prefix .entry)) (stateOf reader)
         (now (bytes .entry)) (length (now (out .entry)))) (now (out .entry)) ⌝ }
 {
     let mut next = reader;
@@ -88,7 +88,7 @@ fn feed_all(reader: Reader, before: &[u8], bytes: &[u8], out: &mut [u8]) -> List
         if used == bytes.len() {
             break Stop::Done;
         }
-        if out.len() - written < before.len() + LINE_ROOM {
+        if out.len() - written < prefix.len() + LINE_ROOM {
             break Stop::Room;
         }
         let fed = frame::feed(next, &bytes[used..]);
@@ -98,7 +98,7 @@ fn feed_all(reader: Reader, before: &[u8], bytes: &[u8], out: &mut [u8]) -> List
             break refusal(answer);
         }
         used += answer.count();
-        written = add_line(answer, before, &next.body, out, written);
+        written = add_line(answer, prefix, &next.body, out, written);
     };
     Listed {
         reader: next,
@@ -111,12 +111,12 @@ fn feed_all(reader: Reader, before: &[u8], bytes: &[u8], out: &mut [u8]) -> List
 // Feeds bytes and puts the line of each answer. Where it stops for room, the caller writes the text out and calls again
 // with the bytes that are left: room is asked before the bytes are fed, so that no answer is lost. A reader that
 // is out of range is refused before all else.
-pub fn list(reader: Reader, before: &[u8], bytes: &[u8], out: &mut [u8]) -> Listed
-    ensures { λ r. ⌜ leftOf r (now (out .exit)) ≡ leftBy (listOf frameLimit (now (before .entry)) (stateOf reader)
+pub fn list(reader: Reader, prefix: &[u8], bytes: &[u8], out: &mut [u8]) -> Listed
+    ensures { λ r. ⌜ leftOf r (now (out .exit)) ≡ leftBy (listOf frameLimit (now (prefix .entry)) (stateOf reader)
         (now (bytes .entry)) (length (now (out .entry)))) (now (out .entry)) ⌝ }
 {
-    let asked = frame::feed(reader, b"");
-    let answer = asked.answer;
+    let probed = frame::feed(reader, b"");
+    let answer = probed.answer;
     if is_refusal(answer) {
         return Listed {
             reader,
@@ -125,5 +125,5 @@ pub fn list(reader: Reader, before: &[u8], bytes: &[u8], out: &mut [u8]) -> List
             stop: refusal(answer),
         };
     }
-    feed_all(reader, before, bytes, out)
+    feed_all(reader, prefix, bytes, out)
 }

@@ -10,4 +10,4 @@ pub use feeding::list;
 pub use lines::heading;
 pub use lines::last;
 pub use lines::line;
-pub use text::Lined;
+pub use text::LineResult;

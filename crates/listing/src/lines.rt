@@ -1,25 +1,25 @@
 // The listing's lines: the heading, the line of each answer, and the last line.
 // `before` stands before the word of each; what has no line puts nothing.
-use super::text::Lined;
+use super::text::LineResult;
 use super::text::put_line;
-use frame::Answer;
-use frame::Ending;
+use frame::FeedResult;
+use frame::FinishResult;
 use frame::Verdict;
 use frame::WirePlace;
 ghost use mathlib.Core.List.{_++_};
 ghost use Prim.Native.Nat.{_+_, _≤_};
 ghost use lib.ListN.{length};
-ghost use Rattle.frame.specs.Table.{rowOf, endRowOf, decidedRow};
-ghost use Rattle.listing.specs.Lines.{ascii, textOf, headingText, placesAt, partsOf, dashes};
+ghost use Rattle.frame.specs.Table.{rowOf, finishRowOf, decidedRow};
+ghost use Rattle.listing.specs.Lines.{ascii, textOf, headingText, placesAt, bodyColumns, dashes};
 ghost use Rattle.listing.specs.Lines.{answerText, lineRoom, lastOf};
 ghost use Rattle.listing.specs.Table.{Puts};
 
 // The heading.
-pub fn heading(before: &[u8], out: &mut [u8]) -> Lined
-    ensures { λ r. ⌜ Puts r (now (out .exit)) (headingText (now (before .entry))) (now (out .entry)) ⌝ }
+pub fn heading(prefix: &[u8], out: &mut [u8]) -> LineResult
+    ensures { λ r. ⌜ Puts r (now (out .exit)) (headingText (now (prefix .entry))) (now (out .entry)) ⌝ }
 {
     put_line(
-        before,
+        prefix,
         b"kind start end cmd sn flags payload\n",
         &[],
         b"",
@@ -28,19 +28,25 @@ pub fn heading(before: &[u8], out: &mut [u8]) -> Lined
 }
 
 // The line of a frame.
-fn frame_line(start: WirePlace, end: WirePlace, before: &[u8], body: &[u8], out: &mut [u8]) -> Lined
-    ensures { λ r. ⌜ Puts r (now (out .exit)) (textOf (now (before .entry)) (ascii "frame")
-        (placesAt (start .0) (end .0) ++ partsOf (now (body .entry))) (ascii "\n")) (now (out .entry)) ⌝ }
-    ensures { λ r. ⌜ length (textOf (now (before .entry)) (ascii "frame")
-        (placesAt (start .0) (end .0) ++ partsOf (now (body .entry))) (ascii "\n"))
-        ≤ length (now (before .entry)) + lineRoom ⌝ }
+fn frame_line(
+    start: WirePlace,
+    end: WirePlace,
+    prefix: &[u8],
+    body: &[u8],
+    out: &mut [u8],
+) -> LineResult
+    ensures { λ r. ⌜ Puts r (now (out .exit)) (textOf (now (prefix .entry)) (ascii "frame")
+        (placesAt (start .0) (end .0) ++ bodyColumns (now (body .entry))) (ascii "\n")) (now (out .entry)) ⌝ }
+    ensures { λ r. ⌜ length (textOf (now (prefix .entry)) (ascii "frame")
+        (placesAt (start .0) (end .0) ++ bodyColumns (now (body .entry))) (ascii "\n"))
+        ≤ length (now (prefix .entry)) + lineRoom ⌝ }
 {
     let command = frame::command(body) as u64;
     let number = frame::number(body) as u64;
     let flags = frame::flags(body) as u64;
     let size = frame::payload(body).len() as u64;
     let numbers = [start.0, end.0, command, number, flags, size];
-    put_line(before, b"frame", &numbers, b"\n", out)
+    put_line(prefix, b"frame", &numbers, b"\n", out)
 }
 
 // The line of a refused frame.
@@ -48,16 +54,16 @@ fn refused_line(
     name: &[u8],
     start: WirePlace,
     end: WirePlace,
-    before: &[u8],
+    prefix: &[u8],
     out: &mut [u8],
-) -> Lined
+) -> LineResult
     requires { ⌜ length (now name) ≤ 64 ⌝ }
-    ensures { λ r. ⌜ Puts r (now (out .exit)) (textOf (now (before .entry))
+    ensures { λ r. ⌜ Puts r (now (out .exit)) (textOf (now (prefix .entry))
         (now (name .entry)) (placesAt (start .0) (end .0)) dashes) (now (out .entry)) ⌝ }
-    ensures { λ r. ⌜ length (textOf (now (before .entry)) (now (name .entry)) (placesAt (start .0) (end .0)) dashes)
-        ≤ length (now (before .entry)) + lineRoom ⌝ }
+    ensures { λ r. ⌜ length (textOf (now (prefix .entry)) (now (name .entry)) (placesAt (start .0) (end .0)) dashes)
+        ≤ length (now (prefix .entry)) + lineRoom ⌝ }
 {
-    put_line(before, name, &[start.0, end.0], b" - - - -\n", out)
+    put_line(prefix, name, &[start.0, end.0], b" - - - -\n", out)
 }
 
 // The line of a decided frame, and of the body that the reader holds.
@@ -65,62 +71,73 @@ fn decided_line(
     verdict: Verdict,
     start: WirePlace,
     end: WirePlace,
-    before: &[u8],
+    prefix: &[u8],
     body: &[u8],
     out: &mut [u8],
-) -> Lined
-    ensures { λ r. ⌜ Puts r (now (out .exit)) (answerText (now (before .entry))
+) -> LineResult
+    ensures { λ r. ⌜ Puts r (now (out .exit)) (answerText (now (prefix .entry))
         (decidedRow verdict 0 (start .0) (end .0)) (now (body .entry))) (now (out .entry)) ⌝ }
-    ensures { λ r. ⌜ length (answerText (now (before .entry)) (decidedRow verdict 0 (start .0) (end .0))
-        (now (body .entry))) ≤ length (now (before .entry)) + lineRoom ⌝ }
+    ensures { λ r. ⌜ length (answerText (now (prefix .entry)) (decidedRow verdict 0 (start .0) (end .0))
+        (now (body .entry))) ≤ length (now (prefix .entry)) + lineRoom ⌝ }
 {
     match verdict {
-        Verdict::Frame => frame_line(start, end, before, body, out),
-        Verdict::Short => refused_line(b"short", start, end, before, out),
-        Verdict::Long => refused_line(b"long", start, end, before, out),
-        Verdict::Stuff => refused_line(b"stuff", start, end, before, out),
-        Verdict::Cut => refused_line(b"cut", start, end, before, out),
-        Verdict::Sum => refused_line(b"sum", start, end, before, out),
+        Verdict::Frame => frame_line(start, end, prefix, body, out),
+        Verdict::Short => refused_line(b"short", start, end, prefix, out),
+        Verdict::Long => refused_line(b"long", start, end, prefix, out),
+        Verdict::Stuff => refused_line(b"stuff", start, end, prefix, out),
+        Verdict::Cut => refused_line(b"cut", start, end, prefix, out),
+        Verdict::Sum => refused_line(b"sum", start, end, prefix, out),
     }
 }
 
 // The line of an answer, and how long it can be; MORE, STATE and USED have none.
-pub(crate) fn answer_line(said: Answer, before: &[u8], body: &[u8], out: &mut [u8]) -> Lined
+pub(crate) fn answer_line(
+    answer: FeedResult,
+    prefix: &[u8],
+    body: &[u8],
+    out: &mut [u8],
+) -> LineResult
     ensures { λ r. ⌜ Puts r (now (out .exit))
-        (answerText (now (before .entry)) (rowOf said) (now (body .entry))) (now (out .entry)) ⌝ }
-    ensures { λ r. ⌜ length (answerText (now (before .entry)) (rowOf said) (now (body .entry)))
-        ≤ length (now (before .entry)) + lineRoom ⌝ }
+        (answerText (now (prefix .entry)) (rowOf answer) (now (body .entry))) (now (out .entry)) ⌝ }
+    ensures { λ r. ⌜ length (answerText (now (prefix .entry)) (rowOf answer) (now (body .entry)))
+        ≤ length (now (prefix .entry)) + lineRoom ⌝ }
 {
-    match said {
-        Answer::Decided {
+    match answer {
+        FeedResult::Decided {
             count: _,
             start,
             end,
             verdict,
-        } => decided_line(verdict, start, end, before, body, out),
-        Answer::More { count: _ } => Lined::Wrote { count: 0 },
-        Answer::State => Lined::Wrote { count: 0 },
-        Answer::Used => Lined::Wrote { count: 0 },
+        } => decided_line(verdict, start, end, prefix, body, out),
+        FeedResult::More { count: _ } => LineResult::Wrote { count: 0 },
+        FeedResult::State => LineResult::Wrote { count: 0 },
+        FeedResult::Used => LineResult::Wrote { count: 0 },
     }
 }
 
 // The line of what the reader said, and of the body that it holds.
 // Of another body than the one held the contract still says what is listed; paper 01 leaves that free.
-pub fn line(said: Answer, before: &[u8], body: &[u8], out: &mut [u8]) -> Lined
+pub fn line(answer: FeedResult, prefix: &[u8], body: &[u8], out: &mut [u8]) -> LineResult
     ensures { λ r. ⌜ Puts r (now (out .exit))
-        (answerText (now (before .entry)) (rowOf said) (now (body .entry))) (now (out .entry)) ⌝ }
+        (answerText (now (prefix .entry)) (rowOf answer) (now (body .entry))) (now (out .entry)) ⌝ }
 {
-    answer_line(said, before, body, out)
+    answer_line(answer, prefix, body, out)
 }
 
 // The last line.
-pub fn last(said: Ending, before: &[u8], out: &mut [u8]) -> Lined
+pub fn last(answer: FinishResult, prefix: &[u8], out: &mut [u8]) -> LineResult
     ensures { λ r. ⌜ Puts r (now (out .exit))
-        (lastOf (now (before .entry)) (endRowOf said)) (now (out .entry)) ⌝ }
+        (lastOf (now (prefix .entry)) (finishRowOf answer)) (now (out .entry)) ⌝ }
 {
-    match said {
-        Ending::Clean { taken } => put_line(before, b"clean", &[taken.0], b"\n", out),
-        Ending::Open { taken: _, start } => put_line(before, b"open", &[start.0], b"\n", out),
-        Ending::State => Lined::Wrote { count: 0 },
+    match answer {
+        FinishResult::Clean { consumed } => put_line(prefix, b"clean", &[consumed.0], b"\n", out),
+        FinishResult::Open { consumed: _, start } => put_line(
+            prefix,
+            b"open",
+            &[start.0],
+            b"\n",
+            out,
+        ),
+        FinishResult::State => LineResult::Wrote { count: 0 },
     }
 }

@@ -8,22 +8,22 @@ ghost use Rattle.base.specs.Stores.{PutAt};
 ghost use Rattle.base.specs.Outcomes.{writtenIn};
 ghost use Rattle.listing.specs.Decimal.{columnsOf};
 ghost use Rattle.listing.specs.Lines.{textOf};
-ghost use Rattle.listing.specs.Table.{linedRowOf, Puts};
+ghost use Rattle.listing.specs.Table.{lineRowOf, Puts};
 
 // What a text to be put at the front of an output is answered.
-pub enum Lined {
+pub enum LineResult {
     Wrote { count: usize },
     Room,
 }
 
-impl Lined {
+impl LineResult {
     // The bytes that were written.
     pub fn count(self) -> usize
-        ensures { λ r. ⌜ r ≡ writtenIn (linedRowOf self) ⌝ }
+        ensures { λ r. ⌜ r ≡ writtenIn (lineRowOf self) ⌝ }
     {
         match self {
-            Lined::Wrote { count } => count,
-            Lined::Room => 0,
+            LineResult::Wrote { count } => count,
+            LineResult::Room => 0,
         }
     }
 }
@@ -72,28 +72,28 @@ fn put_bytes(out: &mut [u8], at: usize, bytes: &[u8]) -> usize
 
 // A line at the front of the output, or refused with the output as it was.
 pub(crate) fn put_line(
-    before: &[u8],
+    prefix: &[u8],
     word: &[u8],
     numbers: &[u64],
     rest: &[u8],
     out: &mut [u8],
-) -> Lined
+) -> LineResult
     requires { ⌜ (length (now word) ≤ 64) × (length (now numbers) ≤ 16) × (length (now rest) ≤ 64) ⌝ }
-    ensures { λ r. ⌜ Puts r (now (out .exit)) (textOf (now (before .entry))
+    ensures { λ r. ⌜ Puts r (now (out .exit)) (textOf (now (prefix .entry))
         (now (word .entry)) (now (numbers .entry)) (now (rest .entry))) (now (out .entry)) ⌝ }
-    ensures { λ r. ⌜ length (textOf (now (before .entry))
+    ensures { λ r. ⌜ length (textOf (now (prefix .entry))
         (now (word .entry)) (now (numbers .entry)) (now (rest .entry)))
-        ≤ length (now (before .entry)) + length (now (word .entry)) + 21 * length (now (numbers .entry))
+        ≤ length (now (prefix .entry)) + length (now (word .entry)) + 21 * length (now (numbers .entry))
         + length (now (rest .entry)) ⌝ }
 {
-    let size = before.len() + word.len() + columns_width(numbers) + rest.len();
+    let size = prefix.len() + word.len() + columns_width(numbers) + rest.len();
     if out.len() < size {
-        return Lined::Room;
+        return LineResult::Room;
     }
-    let at_word = put_bytes(out, 0, before);
-    let behind_word = put_bytes(out, at_word, word);
-    let behind_numbers = put_columns(out, behind_word, numbers);
-    Lined::Wrote {
-        count: put_bytes(out, behind_numbers, rest),
+    let at_word = put_bytes(out, 0, prefix);
+    let after_word = put_bytes(out, at_word, word);
+    let after_numbers = put_columns(out, after_word, numbers);
+    LineResult::Wrote {
+        count: put_bytes(out, after_numbers, rest),
     }
 }

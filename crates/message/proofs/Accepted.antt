@@ -7,7 +7,7 @@ use Rattle.base.specs.Rows.{Row, row}
 use Rattle.message.specs.Commands.{isListed, kindOf, sizeFits, allowed, valuesOf, partsIn}
 use Rattle.message.specs.Reading.{Read, got, refusal, decodeAs, decodeOf}
 use Rattle.message.specs.Writing.{commandIn, messageIn, readIn}
-use Rattle.message.specs.Claims.{lentParts, Decodes}
+use Rattle.message.specs.Claims.{opaqueParts, Decodes}
 use Rattle.message.specs.Parts.{bytesIn}
 use Rattle.message.specs.declared.kind.Kind.{Kind}
 use Rattle.message.specs.declared.values.Message.{Message}
@@ -37,14 +37,14 @@ module _ {k : Kind} {command : ℕ} {p vs : List ℕ} where
 -- ---- what was written, with some lent bytes
 
 -- the payload is accepted with these values, and has the lent parts
-pub record Back (k : Kind) (command : ℕ) (p vs lent : List ℕ) : Type 0 where
+pub record Back (k : Kind) (command : ℕ) (p vs opaque : List ℕ) : Type 0 where
   pub values : Accepted k command p vs
-  pub parts : bytesIn (partsIn k p) p ≡ lentParts command lent
+  pub parts : bytesIn (partsIn k p) p ≡ opaqueParts command opaque
 
 -- what is accepted is read
 pub read-back :
-    (m : Message) (lent : List ℕ) {p : List ℕ}
-    → Back (kindOf (commandIn m)) (commandIn m) p (readIn m) lent → Decodes m lent (commandIn m) p
-read-back m lent {p} b =
+    (m : Message) (opaque : List ℕ) {p : List ℕ}
+    → Back (kindOf (commandIn m)) (commandIn m) p (readIn m) opaque → Decodes m opaque (commandIn m) p
+read-back m opaque {p} b =
     let read : decodeOf (commandIn m) p ≡ got (readIn m) (partsIn (kindOf (commandIn m)) p) = accept (b .values) in
     record { message = ap (λ (r : Read). r .row) read; parts = ap (λ (r : Read). bytesIn (r .parts) p) read ∙ b .parts }

@@ -10,11 +10,11 @@ use lib.ListN.{length, getD, take, drop, length-drop, drop-of-length-le}
 use lib.Seq.{length-take-le, take-all, take-nil, drop-nil, drop-at}
 use Rattle.base.specs.Numbers.{twoAt}
 use Rattle.base.specs.Keys.{among}
-use Rattle.message.specs.Commands.{kindOf, table, lineIn, fits, sizeFits, valuesOf, partsIn}
+use Rattle.message.specs.Commands.{kindOf, table, profileIn, fits, sizeFits, valuesOf, partsIn}
 use Rattle.message.specs.Counter.{controlValues, controlIn}
 use Rattle.message.specs.Parts.{place, nowhere, bytesOf, bytesIn}
 use Rattle.message.specs.Writing.{commandIn, messageIn, readIn}
-use Rattle.message.specs.Claims.{lentOf, lentParts, Decodes}
+use Rattle.message.specs.Claims.{opaqueOf, opaqueParts, Decodes}
 use Rattle.message.specs.declared.counter.Control.{Control}
 use Rattle.message.specs.declared.kind.Kind.{Kind}
 use Rattle.message.specs.declared.kind.Kind.the-variants as kind
@@ -22,7 +22,7 @@ use Rattle.message.specs.declared.values.Message.{Message}
 use Rattle.message.specs.declared.values.Message.the-variants as message
 use Rattle.base.proofs.Tests.{either-way, both, cond-same}
 use Rattle.base.proofs.Keys.{among-holds}
-use Rattle.message.proofs.Lines.{by-kind}
+use Rattle.message.proofs.Profiles.{by-kind}
 use Rattle.message.proofs.Numbers.{value}
 use Rattle.message.proofs.Fields.{effective-control}
 use Rattle.message.proofs.Information.{in-front}
@@ -48,8 +48,8 @@ empty-payload =
     (λ p h e. absurd (cons≢nil e))
     (λ p h e. absurd (cons≢nil e))
 
-pub lent-none : (c : ℕ) → lentOf c [] ≡ []
-lent-none c = simp (take-nil, drop-nil, cond-same)
+pub opaque-none : (c : ℕ) → opaqueOf c [] ≡ []
+opaque-none c = simp (take-nil, drop-nil, cond-same)
 
 -- ---- values
 
@@ -73,18 +73,18 @@ record Sized (n : ℕ) : Type 0 where
 
 module _ (p : List ℕ) (s : Sized (length p)) where
   text : (start count : ℕ) → start + count ≤ 64 → bytesOf (place start count) p ≡ take count
-      (drop start (lentOf 0x02 p))
+      (drop start (opaqueOf 0x02 p))
   text start count h = sym (in-front p (drop 74 p) 64 start count h (omega arith))
 
   -- all bytes behind the numbers are lent
-  last : bytesOf (cond (eqb (length p) 106) (place 74 32) nowhere) p ≡ drop 64 (lentOf 0x02 p)
+  last : bytesOf (cond (eqb (length p) 106) (place 74 32) nowhere) p ≡ drop 64 (opaqueOf 0x02 p)
   last =
       rw (drop-at (take 64 p) (drop 74 p) 64 (length-take-le 64 p (omega arith)))
       (either-way (eqb (length p) 106)
       (λ e. rw e (take-all 32 (drop 74 p) (omega (arith, length-drop 74 p))))
       (λ e. rw e (sym (drop-of-length-le p {i = 74} (s .short (eqb-false _ _ e))))))
 
-  information-same : bytesIn (partsIn kind.Information p) p ≡ lentParts 0x02 (lentOf 0x02 p)
+  information-same : bytesIn (partsIn kind.Information p) p ≡ opaqueParts 0x02 (opaqueOf 0x02 p)
   information-same =
       cc (
         text 0 8 (omega arith),
@@ -100,13 +100,13 @@ module _ (p : List ℕ) (s : Sized (length p)) where
 -- only a control has values that may be ignored, and each part is lent
 record Same (p : List ℕ) (m : Message) : Type 0 where
   values : readIn m ≡ messageIn m
-  parts : bytesIn (partsIn (kindOf (commandIn m)) p) p ≡ lentParts (commandIn m) (lentOf (commandIn m) p)
+  parts : bytesIn (partsIn (kindOf (commandIn m)) p) p ≡ opaqueParts (commandIn m) (opaqueOf (commandIn m) p)
 
 same : (p : List ℕ) (m : Message) → Accepted (kindOf (commandIn m)) (commandIn m) p (messageIn m) → Same p m
-unfolding table lineIn among sizeFits fits
+unfolding table profileIn among sizeFits fits
 same p (message.Empty c) a =
     let e : p ≡ [] = empty-payload (kindOf c) p (a .sized) (tail-eq-of-cons-eq (a .values)) in
-    record { values = refl; parts = rw e (no-parts (partsIn (kindOf c) []) c ∙ ap (lentParts c) (sym (lent-none c))) }
+    record { values = refl; parts = rw e (no-parts (partsIn (kindOf c) []) c ∙ ap (opaqueParts c) (sym (opaque-none c))) }
 same p (message.Information timeout more) a =
     let size = both (among (length p) (66 ∷ 74 ∷ 106 ∷ [])) (a .sized) .0 in
     record {
@@ -143,7 +143,7 @@ same p (message.Piece index total) a =
 -- the payload has what a reader of its message is to find
 pub read-again :
     (p : List ℕ) (m : Message) → Accepted (kindOf (commandIn m)) (commandIn m) p (messageIn m)
-    → Decodes m (lentOf (commandIn m) p) (commandIn m) p
+    → Decodes m (opaqueOf (commandIn m) p) (commandIn m) p
 read-again p m a =
     let s = same p m a in
-    read-back m (lentOf (commandIn m) p) (record { values = rw (s .values) a; parts = s .parts })
+    read-back m (opaqueOf (commandIn m) p) (record { values = rw (s .values) a; parts = s .parts })

@@ -11,22 +11,22 @@ use Rattle.message.proofs.Written.{written-read}
 use Rattle.message.proofs.MessageRound.{sent}
 
 pub message-read-anywhere : MessageReadAnywhere
-message-read-anywhere limit h m number flags count lent out e calls before after all =
-    let s = sent limit m number flags count lent out e in
-    let made = made-good limit (commandIn m) number flags (payloadIn m lent) (s .frame .fits) in
+message-read-anywhere limit h m number flags count opaque out e calls before after all =
+    let s = sent limit m number flags count opaque out e in
+    let made = made-good limit (commandIn m) number flags (payloadIn m opaque) (s .frame .fits) in
     record {
       found =
           record {
             start = length before;
-            end = length before + length (wire (bodyOf (commandIn m) number flags (payloadIn m lent)));
-            body = bodyOf (commandIn m) number flags (payloadIn m lent);
+            end = length before + length (wire (bodyOf (commandIn m) number flags (payloadIn m opaque)));
+            body = bodyOf (commandIn m) number flags (payloadIn m opaque);
           };
-      handed-out =
-          read-anywhere limit h (commandIn m) number flags (payloadIn m lent) (s .frame .fits) calls before after
+      is-delivered =
+          read-anywhere limit h (commandIn m) number flags (payloadIn m opaque) (s .frame .fits) calls before after
           (all ∙ ap (λ (w : List ℕ). before ++ (w ++ after)) (s .frame .front));
       start-is = refl;
       end-is = ap (λ (n : ℕ). length before + n) (s .frame .counted);
       number-is = made .number-is;
       flags-are = made .flags-are;
-      message = rw (made .command-is, made .payload-is) (written-read m lent (s .writable));
+      message = rw (made .command-is, made .payload-is) (written-read m opaque (s .writable));
     }

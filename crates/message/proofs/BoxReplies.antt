@@ -8,7 +8,7 @@ use borrow.Author.Tests.{le-ltb, lt-ltb, eqb-true, ne-eqb}
 use lib.Dec.{eqb, ltb}
 use lib.ListN.{length, getD}
 use Rattle.base.specs.Rows.{row}
-use Rattle.base.specs.Outcomes.{Write, outcome}
+use Rattle.base.specs.Outcomes.{Output, output}
 use Rattle.base.specs.Sums.{total}
 use Rattle.base.specs.Keys.{among}
 use Rattle.base.proofs.Keys.{agree}
@@ -16,30 +16,30 @@ use Rattle.base.proofs.Tests.{either-way}
 use Rattle.frame.specs.Wire.{stuff, bodyOf, commandOf, numberOf, payloadOf}
 use Rattle.frame.specs.Calls.{writeOf}
 use Rattle.frame.proofs.Round.{round-trip}
-use Rattle.message.specs.Commands.{table, lineIn, kindOf, sizeFits, fits, fromBox, owedOf, codeNumber}
+use Rattle.message.specs.Commands.{table, profileIn, kindOf, sizeFits, fits, fromBox, owedOf, codeNumber}
 use Rattle.message.specs.Table.{causeNumber}
 use Rattle.message.specs.Reading.{readOf}
-use Rattle.message.specs.Answers.{dueFor, dueOf, codeFor, rejectOf, answerFrameOf}
+use Rattle.message.specs.Replies.{owedFor, owedTo, codeFor, rejectOf, replyFrameOf}
 use Rattle.message.specs.Claims.{boxCommands}
-use Rattle.message.specs.BoxReplies.{answerWire, Answered, RejectedWith, ReplyExact, RepliesExact, RepliesTabled}
+use Rattle.message.specs.BoxReplies.{replyWire, Replied, RejectedWith, ReplyExact, RepliesExact, RepliesTabled}
 use Rattle.message.specs.BoxReplies.{SilentElse}
 use Rattle.message.specs.declared.kind.Cause.{Cause}
 use Rattle.message.specs.declared.kind.Cause.the-variants as cause
-use Rattle.message.specs.declared.kind.Due.the-variants as due
-use Rattle.message.proofs.Lines.{paper-lists}
+use Rattle.message.specs.declared.kind.Owed.the-variants as owes
+use Rattle.message.proofs.Profiles.{command-lists}
 use Rattle.message.proofs.Numbers.{value}
 use Rattle.message.proofs.Accepted.{Accepted, accepted}
-use Rattle.message.proofs.Examples.{faults-answered}
+use Rattle.message.proofs.Examples.{faults-rejected}
 
 pub replies-tabled : RepliesTabled
-unfolding stuff total bodyOf among table lineIn sizeFits fits
+unfolding stuff total bodyOf among table profileIn sizeFits fits
 replies-tabled = record { no-byte = refl; one-byte = refl; wrong-sum = refl; payloads = refl }
 
 -- ---- answers are messages
 
 reject-read : (why : Cause)
     → readOf 0x12 (codeNumber (codeFor why) ∷ []) ≡ row 0 (0x12 ∷ codeNumber (codeFor why) ∷ [])
-unfolding among table lineIn sizeFits fits
+unfolding among table profileIn sizeFits fits
 reject-read cause.Sum = refl
 reject-read cause.Command = refl
 reject-read cause.Size = refl
@@ -47,15 +47,15 @@ reject-read cause.Field = refl
 reject-read cause.BoxCommand = refl
 
 -- the commands that their lines say are acknowledged, and a control
-abbrev lines : List ℕ
-lines = 0x07 ∷ 0x0D ∷ 0x0F ∷ []
+abbrev profiles : List ℕ
+profiles = 0x07 ∷ 0x0D ∷ 0x0F ∷ []
 
 abbrev acknowledgedOnes : List ℕ
-acknowledgedOnes = 0x03 ∷ lines
+acknowledgedOnes = 0x03 ∷ profiles
 
 acknowledgement-read : (command : ℕ) → among command acknowledgedOnes ≡ true
     → readOf (command + 1) [] ≡ row 0 ((command + 1) ∷ [])
-unfolding among table lineIn sizeFits fits
+unfolding among table profileIn sizeFits fits
 acknowledgement-read command h =
     agree (λ c. readOf (c + 1) []) (λ c. row 0 ((c + 1) ∷ [])) acknowledgedOnes command refl h
 
@@ -67,11 +67,11 @@ module _ (limit number : ℕ) (out : List ℕ) (least : 6 ≤ limit) where
     small = le-ltb limit (length payload + 5) (omega arith)
 
     acknowledged : readOf command payload ≡ row 0 (command ∷ payload)
-        → Answered limit number command payload [] out (writeOf limit command number 0 payload out)
+        → Replied limit number command payload [] out (writeOf limit command number 0 payload out)
     acknowledged read =
         record {
-          fits = λ h. rw (small, le-ltb (length out) (length (answerWire number command payload)) h);
-          room = λ h. rw (small, lt-ltb (length out) (length (answerWire number command payload)) h);
+          fits = λ h. rw (small, le-ltb (length out) (length (replyWire number command payload)) h);
+          room = λ h. rw (small, lt-ltb (length out) (length (replyWire number command payload)) h);
           message = read;
           back = λ wide earlier later all.
               round-trip limit wide command number 0 payload (omega arith) earlier later all;
@@ -91,11 +91,11 @@ module _ (limit number : ℕ) (out : List ℕ) (least : 6 ≤ limit) where
   -- ---- to a frame
 
   module _ (command : ℕ) (p : List ℕ) where
-    abbrev w : Write
-    w = answerFrameOf limit command number p out
+    abbrev w : Output
+    w = replyFrameOf limit command number p out
 
     by-box : {b : Bool} → among command boxCommands ≡ b → fromBox command ≡ b
-    by-box h = paper-lists .from-box command ∙ h
+    by-box h = command-lists .from-box command ∙ h
 
     -- what is read has its command first, and is due what its values say
     first : (values : List ℕ) → readOf command p ≡ row 0 values → command ≡ getD values 0 0
@@ -103,56 +103,56 @@ module _ (limit number : ℕ) (out : List ℕ) (least : 6 ≤ limit) where
         let a : Accepted (kindOf command) command p values = accepted e in
         value 0 (a .values)
 
-    due-read : (values : List ℕ) → among (getD values 0 0) boxCommands ≡ false → readOf command p ≡ row 0 values
-        → dueOf command p ≡ dueFor values
-    due-read values h e = rw (by-box (ap (λ (c : ℕ). among c boxCommands) (first values e) ∙ h), e)
+    owes-read : (values : List ℕ) → among (getD values 0 0) boxCommands ≡ false → readOf command p ≡ row 0 values
+        → owedTo command p ≡ owedFor values
+    owes-read values h e = rw (by-box (ap (λ (c : ℕ). among c boxCommands) (first values e) ∙ h), e)
 
-    due-line : (values : List ℕ) → among command boxCommands ≡ false → eqb command 0x03 ≡ false
-        → readOf command p ≡ row 0 values → dueOf command p ≡ owedOf command
-    due-line values h no-control e =
+    owed-profile : (values : List ℕ) → among command boxCommands ≡ false → eqb command 0x03 ≡ false
+        → readOf command p ≡ row 0 values → owedTo command p ≡ owedOf command
+    owed-profile values h no-control e =
         let is : getD values 0 0 ≡ command = sym (first values e) in
-        due-read values (rw is h) e ∙ rw (is, no-control)
+        owes-read values (rw is h) e ∙ rw (is, no-control)
 
     -- ---- what is owed without a fault
 
-    acknowledges : (c : ℕ) → among c acknowledgedOnes ≡ true → dueOf command p ≡ due.Acknowledge (c + 1)
-        → Answered limit number (c + 1) [] [] out w
+    acknowledges : (c : ℕ) → among c acknowledgedOnes ≡ true → owedTo command p ≡ owes.Acknowledge (c + 1)
+        → Replied limit number (c + 1) [] [] out w
     acknowledges c h e = rw e (acknowledged (c + 1) [] (omega arith) (acknowledgement-read c h))
 
-    by-line : (values : List ℕ) → among command lines ≡ true → readOf command p ≡ row 0 values
-        → Answered limit number (command + 1) [] [] out w
+    by-profile : (values : List ℕ) → among command profiles ≡ true → readOf command p ≡ row 0 values
+        → Replied limit number (command + 1) [] [] out w
     unfolding among
-    by-line values h e =
-        let all : (f : ℕ → Bool) (b : Bool) → map f lines ≡ map (λ _. b) lines → f command ≡ b =
-        λ f b same. agree f (λ _. b) lines command same h in
+    by-profile values h e =
+        let all : (f : ℕ → Bool) (b : Bool) → map f profiles ≡ map (λ _. b) profiles → f command ≡ b =
+        λ f b same. agree f (λ _. b) profiles command same h in
         let one : among command acknowledgedOnes ≡ true = all (λ c. among c acknowledgedOnes) true refl in
-        let owed : dueOf command p ≡ owedOf command =
-        due-line values (all (λ c. among c boxCommands) false refl) (all (λ c. eqb c 0x03) false refl) e in
-        acknowledges command one (owed ∙ paper-lists .acknowledged command one)
+        let owed : owedTo command p ≡ owedOf command =
+        owed-profile values (all (λ c. among c boxCommands) false refl) (all (λ c. eqb c 0x03) false refl) e in
+        acknowledges command one (owed ∙ command-lists .acknowledged command one)
 
     silent : (values : List ℕ) → among command boxCommands ≡ false
         → among command (0x01 ∷ 0x03 ∷ 0x07 ∷ 0x0D ∷ 0x0F ∷ []) ≡ false → readOf command p ≡ row 0 values
-        → w ≡ outcome (row 0 []) out
+        → w ≡ output (row 0 []) out
     unfolding among
     silent values inward h e =
         let no-control : eqb command 0x03 ≡ false = either-way (eqb command 0x03)
         (λ t. absurd (true≢false (rw (eqb-true command 0x03 t) at h))) (λ q. q) in
-        rw (due-line values inward no-control e, paper-lists .no-answer command h)
+        rw (owed-profile values inward no-control e, command-lists .no-reply command h)
 
     exact : ReplyExact limit command number p out w
     unfolding among
     exact =
-        let fault = faults-answered command p in
+        let fault = faults-rejected command p in
         record {
           box-only = λ h. rw (fault .box-only (by-box h) .cause-is) (rejected cause.BoxCommand);
           unlisted = λ e. rw (fault .unlisted e .cause-is) (rejected cause.Command);
           size = λ h e. rw (fault .size (by-box h) e .cause-is) (rejected cause.Size);
           field = λ h e. rw (fault .field (by-box h) e .cause-is) (rejected cause.Field);
-          acknowledged = by-line;
+          acknowledged = by-profile;
           control = λ values e.
-              acknowledges 0x03 refl (due-read (0x03 ∷ 1 ∷ values) refl e ∙ paper-lists .control values);
-          query = λ values e. rw (due-read (0x03 ∷ 2 ∷ values) refl e ∙ paper-lists .query values);
-          information = λ values e. rw (due-read (0x01 ∷ values) refl e ∙ paper-lists .asked);
+              acknowledges 0x03 refl (owes-read (0x03 ∷ 1 ∷ values) refl e ∙ command-lists .control values);
+          query = λ values e. rw (owes-read (0x03 ∷ 2 ∷ values) refl e ∙ command-lists .query values);
+          information = λ values e. rw (owes-read (0x01 ∷ values) refl e ∙ command-lists .information);
           silent = silent;
         }
 
@@ -161,9 +161,9 @@ replies-exact limit least out =
     record {
       frames = λ command number p. exact limit number out least command p;
       readings = λ command number p. exact limit number out least command p;
-      handed-out = λ v body. exact limit (numberOf body) out least (commandOf body) (payloadOf body);
+      is-delivered = λ v body. exact limit (numberOf body) out least (commandOf body) (payloadOf body);
       wrong-sum = λ v body. rejected limit (numberOf body) out least cause.Sum;
     }
 
 pub silent-else : SilentElse
-silent-else limit said body out f s = rw (ne-eqb (said .number) 1 f, ne-eqb (said .number) 15 s)
+silent-else limit answer body out f s = rw (ne-eqb (answer .number) 1 f, ne-eqb (answer .number) 15 s)

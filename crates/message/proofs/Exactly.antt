@@ -14,7 +14,7 @@ use Rattle.base.specs.Numbers.{twoAt}
 use Rattle.base.proofs.Keys.{among-none, among-next}
 use Rattle.base.proofs.Lists.{all-same}
 use Rattle.base.proofs.Tests.{by-test, either-way}
-use Rattle.message.specs.Commands.{table, lineIn, fits, from, exactly, counted, kindOf, isListed, sizesOf}
+use Rattle.message.specs.Commands.{table, profileIn, fits, from, exactly, counted, kindOf, isListed, sizesOf}
 use Rattle.message.specs.Commands.{chosenOf, sizeFits, allowed, valuesOf, ninth, statusAllowedAfter, codeAllowed}
 use Rattle.message.specs.Counter.{statusValues, statusAllowed, controlValues, controlAllowed}
 use Rattle.message.specs.Reading.{decodeAs, readOf}
@@ -23,7 +23,7 @@ use Rattle.message.specs.Exactly.{NetworkRead, TimeRead, AnnouncementRea
 use Rattle.message.specs.Exactly.{controlled, nineBytes, attributesIn}
 use Rattle.message.specs.declared.kind.Kind.{Kind}
 use Rattle.message.specs.declared.kind.Kind.the-variants as kind
-use Rattle.message.proofs.Lines.{paper-lists}
+use Rattle.message.proofs.Profiles.{command-lists}
 use Rattle.message.proofs.Tests.{and-false}
 use Rattle.message.proofs.Reading.{size-fits, fits-any, fits-some, fits-from, fits-exactly, sized-one}
 use Rattle.message.proofs.Reading.{sized-counted, whole}
@@ -70,7 +70,7 @@ empty command is =
 -- ---- 02
 
 information : (p : List ℕ) → InformationRead p
-unfolding table lineIn among
+unfolding table profileIn among
 information p =
     let two-sizes : (n : ℕ) → eqb n 66 ≡ false → length p ≡ n → among n (66 ∷ 74 ∷ 106 ∷ []) ≡ true
     → readOf 0x02 p ≡ row 0 (0x02 ∷ n ∷ (getD p 64 0 * 256 + getD p 65 0) ∷ attributesIn p ∷ []) =
@@ -113,7 +113,7 @@ module _ (f v h l : ℕ) where
       (λ t. rw t (and-false (ltb f 8)))
 
   control : ControlRead f v h l
-  unfolding table lineIn among fits sizeFits
+  unfolding table profileIn among fits sizeFits
   control =
       record {
         read = λ a b c. read kind.Action 0x03 (controlled f v h l) refl refl (allows a b c)
@@ -124,7 +124,7 @@ module _ (f v h l : ℕ) where
       }
 
 action : ActionRead
-unfolding table lineIn among fits sizeFits
+unfolding table profileIn among fits sizeFits
 action =
     record {
       control = control;
@@ -253,7 +253,7 @@ module _
 -- ---- 0D
 
 network : NetworkRead
-unfolding table lineIn among fits sizeFits
+unfolding table profileIn among fits sizeFits
 network =
     record {
       read = λ h l small. ap (λ (vs : List ℕ). row 0 (0x0D ∷ vs)) (all-same _ _ (omega arith));
@@ -262,16 +262,16 @@ network =
 
 -- ---- 19 and 1B
 
-module _ (k : Kind) (before behind : ℕ) (p : List ℕ) where
+module _ (k : Kind) (before after : ℕ) (p : List ℕ) where
   abbrev counts : ℕ
-  counts = before + 2 + behind + twoAt p before
+  counts = before + 2 + after + twoAt p before
 
-  module _ (any : chosenOf k (getD p 0 0) ≡ from 0) (sizes : sizesOf k ≡ counted before behind) where
+  module _ (any : chosenOf k (getD p 0 0) ≡ from 0) (sizes : sizesOf k ≡ counted before after) where
     as-counted : length p ≡ counts → sizeFits k p ≡ true
-    as-counted h = sym (sized-counted k p any before behind sizes) ∙ eq-eqb (length p) counts h
+    as-counted h = sym (sized-counted k p any before after sizes) ∙ eq-eqb (length p) counts h
 
     miscounted : length p ≢ counts → sizeFits k p ≡ false
-    miscounted h = sym (sized-counted k p any before behind sizes) ∙ ne-eqb (length p) counts h
+    miscounted h = sym (sized-counted k p any before after sizes) ∙ ne-eqb (length p) counts h
 
 pub announced : (w x y z h l : ℕ) (p : List ℕ) → length p ≡ h * 256 + l
     → sizeFits kind.Announcement (w ∷ x ∷ y ∷ z ∷ h ∷ l ∷ p) ≡ true
@@ -279,7 +279,7 @@ announced w x y z h l p e =
     as-counted kind.Announcement 4 0 (w ∷ x ∷ y ∷ z ∷ h ∷ l ∷ p) refl refl (omega arith)
 
 announcement : AnnouncementRead
-unfolding table lineIn
+unfolding table profileIn
 announcement =
     record {
       read = λ w x y z h l p e. read kind.Announcement 0x19 (w ∷ x ∷ y ∷ z ∷ h ∷ l ∷ p) refl
@@ -291,20 +291,20 @@ announcement =
     }
 
 -- a byte behind the count
-behind-count : (h l n : ℕ) (p : List ℕ) → getD (h ∷ l ∷ p) (2 + n) 0 ≡ getD p n 0
-behind-count h l n p = let two : 2 + n ≡ suc (suc n) = omega arith in rw two
+after-count : (h l n : ℕ) (p : List ℕ) → getD (h ∷ l ∷ p) (2 + n) 0 ≡ getD p n 0
+after-count h l n p = let two : 2 + n ≡ suc (suc n) = omega arith in rw two
 
 pub ready-sized : (h l : ℕ) (p : List ℕ) → length p ≡ h * 256 + l + 2 → sizeFits kind.Ready (h ∷ l ∷ p) ≡ true
 ready-sized h l p e = as-counted kind.Ready 0 2 (h ∷ l ∷ p) refl refl (omega arith)
 
 ready : ReadyRead
-unfolding table lineIn
+unfolding table profileIn
 ready =
     record {
       read = λ h l p e.
           let next : 2 + (h * 256 + l) + 1 ≡ 2 + (h * 256 + l + 1) = omega arith in
           read kind.Ready 0x1B (h ∷ l ∷ p) refl (ready-sized h l p e) refl
-          (rw (next, behind-count h l (h * 256 + l) p, behind-count h l (h * 256 + l + 1) p));
+          (rw (next, after-count h l (h * 256 + l) p, after-count h l (h * 256 + l + 1) p));
       size = λ h l p e. size kind.Ready 0x1B (h ∷ l ∷ p) refl
           (miscounted kind.Ready 0 2 (h ∷ l ∷ p) refl refl (λ q. e (omega arith)));
       short = λ p h. size kind.Ready 0x1B p refl (miscounted kind.Ready 0 2 p refl refl (λ q. omega arith));
@@ -317,7 +317,7 @@ piece-sized a b c d p =
     simp (size-fits, fits-any, fits-from, le-leb 4 (length (a ∷ b ∷ c ∷ d ∷ p)) (omega arith))
 
 piece : PieceRead
-unfolding table lineIn
+unfolding table profileIn
 piece =
     record {
       read = λ a b c d p. read kind.Piece 0x1D (a ∷ b ∷ c ∷ d ∷ p) refl (piece-sized a b c d p) refl refl;
@@ -327,7 +327,7 @@ piece =
 -- ---- 18
 
 time : TimeRead
-unfolding table lineIn among fits sizeFits
+unfolding table profileIn among fits sizeFits
 time =
     record {
       read = λ a b m d h n s. refl;
@@ -342,11 +342,11 @@ neither : {a b c : Bool} → c ≡ (a || b) → a ≡ false → b ≡ false → 
 neither e p q = e ∙ rw (p, q)
 
 pub reads-exactly : ReadsExactly
-unfolding table lineIn among fits sizeFits
+unfolding table profileIn among fits sizeFits
 reads-exactly =
     record {
-      unlisted = λ c p g h. unlisted (kindOf c) c p (neither (paper-lists .listed c) g h);
-      empty = λ c h. empty c (paper-lists .empty c h);
+      unlisted = λ c p g h. unlisted (kindOf c) c p (neither (command-lists .listed c) g h);
+      empty = λ c h. empty c (command-lists .empty c h);
       information = information;
       action = action;
       acknowledged = refl;

@@ -11,19 +11,19 @@ use Rattle.base.specs.Rows.{Row, row}
 use Rattle.base.specs.Keys.{among}
 use Rattle.base.proofs.Tests.{by-test, either-way}
 use Rattle.frame.specs.Wire.{stuff, bodyOf}
-use Rattle.message.specs.Commands.{table, lineIn, kindOf, isListed, fromBox, sizeFits, fits, allowed}
+use Rattle.message.specs.Commands.{table, profileIn, kindOf, isListed, fromBox, sizeFits, fits, allowed}
 use Rattle.message.specs.Reading.{Read, decodeAs, readOf}
-use Rattle.message.specs.Claims.{Example4, WorkedPayloads, NamedNumbers, WorkedAnswers, WorkedReplies}
-use Rattle.message.specs.Claims.{FaultsAnswered}
+use Rattle.message.specs.Claims.{Example4, WorkedPayloads, NamedNumbers, WorkedDecisions, WorkedReplies}
+use Rattle.message.specs.Claims.{FaultsRejected}
 use Rattle.message.specs.declared.kind.Kind.{Kind}
-use Rattle.message.proofs.Lines.{box-listed}
+use Rattle.message.proofs.Profiles.{box-listed}
 
 pub example-4 : Example4
-unfolding stuff total bodyOf among table lineIn
+unfolding stuff total bodyOf among table profileIn
 example-4 limit l out h = rw (le-ltb limit 14 l, le-ltb (length out) 19 h)
 
 pub worked-payloads : WorkedPayloads
-unfolding among table lineIn sizeFits fits
+unfolding among table profileIn sizeFits fits
 worked-payloads =
     record {
       time = refl;
@@ -39,9 +39,9 @@ worked-payloads =
 pub named-numbers : NamedNumbers
 named-numbers = record { modes = refl; ways = refl; codes = refl; causes = refl }
 
-pub worked-answers : WorkedAnswers
-unfolding among table lineIn sizeFits fits
-worked-answers limit number v body out =
+pub worked-decisions : WorkedDecisions
+unfolding among table profileIn sizeFits fits
+worked-decisions limit number v body out =
     record {
       wants-information = refl;
       wants-status = refl;
@@ -53,7 +53,7 @@ worked-answers limit number v body out =
     }
 
 pub worked-replies : WorkedReplies
-unfolding stuff total bodyOf among table lineIn sizeFits fits
+unfolding stuff total bodyOf among table profileIn sizeFits fits
 worked-replies limit l v out h =
     record {
       acknowledged = rw (le-ltb limit 5 (omega (arith, l)), le-ltb (length out) 9 (omega (arith, h)));
@@ -77,11 +77,11 @@ inward command p e =
     (λ h. absurd (known (kindOf command) command p (box-listed command h) (ap (λ (r : Row). r .number) e)))
     (λ h. h)
 
-pub faults-answered : FaultsAnswered
-faults-answered command p =
+pub faults-rejected : FaultsRejected
+faults-rejected command p =
     record {
-      box-only = λ h. record { cause-is = rw h; told-is = refl; code-is = refl };
-      unlisted = λ e. record { cause-is = rw (inward command p e, e); told-is = refl; code-is = refl };
-      size = λ h e. record { cause-is = rw (h, e); told-is = refl; code-is = refl };
-      field = λ h e. record { cause-is = rw (h, e); told-is = refl; code-is = refl };
+      box-only = λ h. record { cause-is = rw h; shown-is = refl; code-is = refl };
+      unlisted = λ e. record { cause-is = rw (inward command p e, e); shown-is = refl; code-is = refl };
+      size = λ h e. record { cause-is = rw (h, e); shown-is = refl; code-is = refl };
+      field = λ h e. record { cause-is = rw (h, e); shown-is = refl; code-is = refl };
     }

@@ -13,13 +13,13 @@ use Rattle.message.specs.Numbers.{eightAt, eight}
 use Rattle.base.specs.Keys.{among}
 use Rattle.message.specs.Commands.{sizeFits, fits, partsIn}
 use Rattle.message.specs.Parts.{place, nowhere, bytesOf, bytesIn}
-use Rattle.message.specs.Writing.{informationIn, informationBytes, informationNumbers, informationLent}
-use Rattle.message.specs.Claims.{lentParts}
+use Rattle.message.specs.Writing.{informationIn, informationBytes, informationNumbers, informationOpaque}
+use Rattle.message.specs.Claims.{opaqueParts}
 use Rattle.message.specs.declared.kind.Kind.the-variants as kind
 use Rattle.message.specs.declared.values.Extra.{Extra}
 use Rattle.message.specs.declared.values.Extra.the-variants as extra
-use Rattle.base.proofs.Numbers.{two-behind}
-use Rattle.message.proofs.Numbers.{eight-behind}
+use Rattle.base.proofs.Numbers.{two-after}
+use Rattle.message.proofs.Numbers.{eight-after}
 use Rattle.message.proofs.Accepted.{Accepted, Back}
 
 -- what lies in the first of two lists
@@ -37,16 +37,16 @@ in-front l q n start size h e =
     ∙ ap (λ (m : List ℕ). take size (drop start m)) (take-append-drop n l)
 
 -- how many bytes there are
-record Shape (timeout : ℕ) (more lent : List ℕ) (size : ℕ) : Type 0 where
-  enough : 64 ≤ length lent
-  sized : 2 + length more + length lent ≡ size
+record Shape (timeout : ℕ) (more opaque : List ℕ) (size : ℕ) : Type 0 where
+  enough : 64 ≤ length opaque
+  sized : 2 + length more + length opaque ≡ size
 
-module _ {timeout size : ℕ} {more lent : List ℕ} (s : Shape timeout more lent size) where
+module _ {timeout size : ℕ} {more opaque : List ℕ} (s : Shape timeout more opaque size) where
   abbrev payload : List ℕ
-  payload = informationBytes (two timeout more) lent
+  payload = informationBytes (two timeout more) opaque
 
-  front : length (take 64 lent) ≡ 64
-  front = length-take-le 64 lent (s .enough)
+  front : length (take 64 opaque) ≡ 64
+  front = length-take-le 64 opaque (s .enough)
 
   payload-length : length payload ≡ size
   payload-length = simp (length-append, length-drop, front) (omega arith)
@@ -63,34 +63,34 @@ module _ {timeout size : ℕ} {more lent : List ℕ} (s : Shape timeout more len
         listed = refl;
         sized = rw (payload-length, listed) (le-leb 0 size (omega arith));
         allows = refl;
-        values = rw (payload-length, two-behind (take 64 lent) front timeout (more ++ drop 64 lent))
+        values = rw (payload-length, two-after (take 64 opaque) front timeout (more ++ drop 64 opaque))
             (ap (λ (l : List ℕ). 0x02 ∷ size ∷ timeout ∷ l) rest);
       }
 
   attributes-back : (attributes : ℕ) → more ≡ eight attributes [] → eightAt payload 66 ≡ attributes
   attributes-back attributes e =
-      rw (e, ← append-assoc (take 64 lent) (two timeout []) (eight attributes (drop 64 lent)))
-      (eight-behind (take 64 lent ++ two timeout []) (simp (length-append, front)) attributes (drop 64 lent))
+      rw (e, ← append-assoc (take 64 opaque) (two timeout []) (eight attributes (drop 64 opaque)))
+      (eight-after (take 64 opaque ++ two timeout []) (simp (length-append, front)) attributes (drop 64 opaque))
 
   -- ---- parts
 
-  text : (start count : ℕ) → start + count ≤ 64 → bytesOf (place start count) payload ≡ take count (drop start lent)
-  text start count h = in-front lent _ 64 start count h (s .enough)
+  text : (start count : ℕ) → start + count ≤ 64 → bytesOf (place start count) payload ≡ take count (drop start opaque)
+  text start count h = in-front opaque _ 64 start count h (s .enough)
 
   abbrev secret : List ℕ
   secret = bytesOf (cond (eqb (length payload) 106) (place 74 32) nowhere) payload
 
-  no-secret : eqb size 106 ≡ false → length lent ≡ 64 → secret ≡ drop 64 lent
-  no-secret short e = rw (payload-length, short) (sym (drop-of-length-le lent {i = 64} (omega arith)))
+  no-secret : eqb size 106 ≡ false → length opaque ≡ 64 → secret ≡ drop 64 opaque
+  no-secret short e = rw (payload-length, short) (sym (drop-of-length-le opaque {i = 64} (omega arith)))
 
-  secret-back : eqb size 106 ≡ true → length lent ≡ 96 → secret ≡ drop 64 lent
+  secret-back : eqb size 106 ≡ true → length opaque ≡ 96 → secret ≡ drop 64 opaque
   secret-back e n =
-      rw (payload-length, e, ← append-assoc (take 64 lent) (two timeout more) (drop 64 lent))
-      (rw (drop-at (take 64 lent ++ two timeout more) (drop 64 lent) 74
+      rw (payload-length, e, ← append-assoc (take 64 opaque) (two timeout more) (drop 64 opaque))
+      (rw (drop-at (take 64 opaque ++ two timeout more) (drop 64 opaque) 74
       (simp (length-append, front) (omega (arith, eqb-true))))
-      (take-all 32 (drop 64 lent) (omega (arith, length-drop 64 lent))))
+      (take-all 32 (drop 64 opaque) (omega (arith, length-drop 64 opaque))))
 
-  parts-back : secret ≡ drop 64 lent → bytesIn (partsIn kind.Information payload) payload ≡ lentParts 0x02 lent
+  parts-back : secret ≡ drop 64 opaque → bytesIn (partsIn kind.Information payload) payload ≡ opaqueParts 0x02 opaque
   parts-back e =
       cc (
         text 0 8 (omega arith),
@@ -103,24 +103,24 @@ module _ {timeout size : ℕ} {more lent : List ℕ} (s : Shape timeout more len
 -- ---- each shape
 
 pub information-back :
-    (timeout : ℕ) (more : Extra) (lent : List ℕ) → eqb (length lent) (informationLent more) ≡ true
-    → Back kind.Information 0x02 (informationBytes (informationNumbers timeout more) lent)
-    (0x02 ∷ informationIn timeout more) lent
+    (timeout : ℕ) (more : Extra) (opaque : List ℕ) → eqb (length opaque) (informationOpaque more) ≡ true
+    → Back kind.Information 0x02 (informationBytes (informationNumbers timeout more) opaque)
+    (0x02 ∷ informationIn timeout more) opaque
 unfolding among
-information-back timeout extra.Absent lent h =
-    let n : length lent ≡ 64 = eqb-true _ _ h in
-    let s : Shape timeout [] lent 66 = omega arith in
+information-back timeout extra.Absent opaque h =
+    let n : length opaque ≡ 64 = eqb-true _ _ h in
+    let s : Shape timeout [] opaque 66 = omega arith in
     record { values = values-back s refl refl; parts = parts-back s (no-secret s refl n) }
-information-back timeout (extra.Attributes attributes) lent h =
-    let n : length lent ≡ 64 = eqb-true _ _ h in
-    let s : Shape timeout (eight attributes []) lent 74 = omega arith in
+information-back timeout (extra.Attributes attributes) opaque h =
+    let n : length opaque ≡ 64 = eqb-true _ _ h in
+    let s : Shape timeout (eight attributes []) opaque 74 = omega arith in
     record {
       values = values-back s refl (rw (attributes-back s attributes refl));
       parts = parts-back s (no-secret s refl n);
     }
-information-back timeout (extra.AttributesAndSecret attributes) lent h =
-    let n : length lent ≡ 96 = eqb-true _ _ h in
-    let s : Shape timeout (eight attributes []) lent 106 = omega arith in
+information-back timeout (extra.AttributesAndSecret attributes) opaque h =
+    let n : length opaque ≡ 96 = eqb-true _ _ h in
+    let s : Shape timeout (eight attributes []) opaque 106 = omega arith in
     record {
       values = values-back s refl (rw (attributes-back s attributes refl));
       parts = parts-back s (secret-back s refl n);

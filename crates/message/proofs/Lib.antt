@@ -1,9 +1,9 @@
 -- The laws, from bits and tables up to the claims of specs/.
-pub mod Lines
+pub mod Profiles
 pub mod Reading
 pub mod Rows
 pub mod Spans
-pub mod Answers
+pub mod RepliesRead
 pub mod Examples
 pub mod Sends
 pub mod Tests

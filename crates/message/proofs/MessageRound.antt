@@ -9,11 +9,11 @@ use lib.ListN.{length, getD, take, drop}
 use lib.Seq.{take-at}
 use Rattle.frame.specs.Wire.{wire, bodyOf}
 use Rattle.base.specs.Rows.{Row, row}
-use Rattle.base.specs.Outcomes.{Write, outcome, onto}
+use Rattle.base.specs.Outcomes.{Output, output, onto}
 use Rattle.frame.specs.Calls.{writeOf}
 use Rattle.frame.proofs.Round.{round-trip}
 use Rattle.message.specs.Commands.{isListed, kindOf}
-use Rattle.message.specs.Writing.{commandIn, payloadIn, lentFits, allowedIn, sendOf}
+use Rattle.message.specs.Writing.{commandIn, payloadIn, opaqueFits, allowedIn, sendOf}
 use Rattle.message.specs.Claims.{Writable, MessageRoundTrip}
 use Rattle.message.specs.declared.values.Message.{Message}
 use Rattle.base.proofs.Rows.{refused}
@@ -21,7 +21,7 @@ use Rattle.message.proofs.Tests.{passed}
 use Rattle.message.proofs.Written.{written-read}
 
 -- a call that wrote so many bytes of a frame
-pub record Wrote (limit : ℕ) (payload w : List ℕ) (count : ℕ) (o : Write) : Type 0 where
+pub record Wrote (limit : ℕ) (payload w : List ℕ) (count : ℕ) (o : Output) : Type 0 where
   pub fits : length payload + 5 ≤ limit
   pub counted : length w ≡ count
   pub front : take count (o .out) ≡ w
@@ -37,9 +37,9 @@ wrote limit command number flags payload out count e = go (ltb limit (length pay
     w : List ℕ
     w = wire (bodyOf command number flags payload)
 
-    written : Bool → Bool → Write
-    written large narrow = cond large (outcome (row 21 (0 ∷ [])) out)
-        (cond narrow (outcome (row 22 (0 ∷ [])) out) (outcome (row 0 (length w ∷ [])) (onto w out)))
+    written : Bool → Bool → Output
+    written large narrow = cond large (output (row 21 (0 ∷ [])) out)
+        (cond narrow (output (row 22 (0 ∷ [])) out) (output (row 0 (length w ∷ [])) (onto w out)))
 
     go : (large narrow : Bool) → ltb limit (length payload + 5) ≡ large → written large narrow .row ≡ row 0 (count ∷ [])
         → Wrote limit payload w count (written large narrow)
@@ -52,26 +52,26 @@ wrote limit command number flags payload out count e = go (ltb limit (length pay
       front = take-at w (drop (length w) out) count (ap (λ (r : Row). getD (r .values) 0 0) e);
     }
 
-module _ (limit : ℕ) (m : Message) (number flags count : ℕ) (lent out : List ℕ) where
-  pub record Sent (o : Write) : Type 0 where
-    pub writable : Writable m lent
-    pub frame : Wrote limit (payloadIn m lent) (wire (bodyOf (commandIn m) number flags (payloadIn m lent))) count o
+module _ (limit : ℕ) (m : Message) (number flags count : ℕ) (opaque out : List ℕ) where
+  pub record SendResult (o : Output) : Type 0 where
+    pub writable : Writable m opaque
+    pub frame : Wrote limit (payloadIn m opaque) (wire (bodyOf (commandIn m) number flags (payloadIn m opaque))) count o
 
-  pub sent : sendOf limit m number flags lent out .row ≡ row 0 (count ∷ [])
-      → Sent (sendOf limit m number flags lent out)
+  pub sent : sendOf limit m number flags opaque out .row ≡ row 0 (count ∷ [])
+      → SendResult (sendOf limit m number flags opaque out)
   sent e =
-      let o : Write = writeOf limit (commandIn m) number flags (payloadIn m lent) out in
-      let t = passed (λ (w : Write). w .row) (λ n. outcome (row n []) out) (λ n. refl) (isListed (kindOf (commandIn m)))
-      (lentFits m (length lent)) (allowedIn m) o e in
-      let written : o .row ≡ row 0 (count ∷ []) = ap (λ (w : Write). w .row) (sym (t .3)) ∙ e in
+      let o : Output = writeOf limit (commandIn m) number flags (payloadIn m opaque) out in
+      let t = passed (λ (w : Output). w .row) (λ n. output (row n []) out) (λ n. refl) (isListed (kindOf (commandIn m)))
+      (opaqueFits m (length opaque)) (allowedIn m) o e in
+      let written : o .row ≡ row 0 (count ∷ []) = ap (λ (w : Output). w .row) (sym (t .3)) ∙ e in
       record {
         writable = record { listed = t .0; sized = t .1; allows = t .2 };
-        frame = rw (t .3) (wrote limit (commandIn m) number flags (payloadIn m lent) out count written);
+        frame = rw (t .3) (wrote limit (commandIn m) number flags (payloadIn m opaque) out count written);
       }
 
 pub message-round-trip : MessageRoundTrip
-message-round-trip limit h m number flags count lent out e earlier later all =
-    let s = sent limit m number flags count lent out e in
-    let back = round-trip limit h (commandIn m) number flags (payloadIn m lent) (s .frame .fits) earlier later
+message-round-trip limit h m number flags count opaque out e earlier later all =
+    let s = sent limit m number flags count opaque out e in
+    let back = round-trip limit h (commandIn m) number flags (payloadIn m opaque) (s .frame .fits) earlier later
     (all ∙ s .frame .front) in
-    record { frame = back; message = rw (back .command-is, back .payload-is) (written-read m lent (s .writable)) }
+    record { frame = back; message = rw (back .command-is, back .payload-is) (written-read m opaque (s .writable)) }

@@ -19,8 +19,8 @@ pub value : {l r : List ℕ} (i : ℕ) → l ≡ r → getD l i 0 ≡ getD r i 0
 value i e = ap (λ (l : List ℕ). getD l i 0) e
 
 -- a number of eight bytes, behind others
-pub eight-behind : (f : List ℕ) {k : ℕ} → length f ≡ k → (n : ℕ) (r : List ℕ) → eightAt (f ++ eight n r) k ≡ n
-eight-behind f e n r = rw (← e) (simp (add-assoc, getD-append-add, getD-append-seam) (omega arith))
+pub eight-after : (f : List ℕ) {k : ℕ} → length f ≡ k → (n : ℕ) (r : List ℕ) → eightAt (f ++ eight n r) k ≡ n
+eight-after f e n r = rw (← e) (simp (add-assoc, getD-append-add, getD-append-seam) (omega arith))
 
 -- ---- bits
 

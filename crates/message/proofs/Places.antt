@@ -8,7 +8,7 @@ use native.Mathlib.Omega.{arith}
 use lib.ListN.{length, replicate}
 use Rattle.base.specs.Keys.{among}
 use Rattle.base.proofs.Tests.{by-test, cond-same}
-use Rattle.message.specs.Commands.{table, lineIn, kindOf, isListed}
+use Rattle.message.specs.Commands.{table, profileIn, kindOf, isListed}
 use Rattle.message.specs.Commands.{sizeFits, allowed, partsIn}
 use Rattle.message.specs.Parts.{noParts}
 use Rattle.message.specs.Reading.{Read, decodeAs}
@@ -16,8 +16,8 @@ use Rattle.message.specs.Worked.{placesIn}
 use Rattle.message.specs.Places.{PartsExactly}
 use Rattle.message.specs.declared.kind.Kind.{Kind}
 use Rattle.message.specs.declared.kind.Kind.the-variants as kind
-use Rattle.message.specs.declared.kind.Line.{Line}
-use Rattle.message.proofs.Lines.{every, unless}
+use Rattle.message.specs.declared.kind.Profile.{Profile}
+use Rattle.message.proofs.Profiles.{every, unless}
 use Rattle.message.proofs.Reading.{size-fits, fits-any, fits-exactly}
 use Rattle.message.proofs.Exactly.{announced, ready-sized, piece-sized}
 
@@ -48,15 +48,15 @@ abbrev parted : List ℕ
 parted = 0x02 ∷ 0x19 ∷ 0x1B ∷ 0x1D ∷ []
 
 no-part : (c : ℕ) (p : List ℕ) → among c parted ≡ false → partsIn (kindOf c) p ≡ noParts
-unfolding among table lineIn
+unfolding among table profileIn
 no-part c p h =
     unless noParts h
     (every (λ c. cond (among c parted) noParts (partsIn (kindOf c) p)) (λ _. noParts) refl
-    (λ c none _. ap (λ (l : Line). cond (among c parted) noParts (partsIn (l .kind) p)) none ∙ cond-same
+    (λ c none _. ap (λ (l : Profile). cond (among c parted) noParts (partsIn (l .kind) p)) none ∙ cond-same
     (among c parted) noParts) c)
 
 pub parts-exactly : PartsExactly
-unfolding table lineIn among
+unfolding table profileIn among
 parts-exactly =
     let informed : (n : ℕ) (p : List ℕ) → length p ≡ n → among n (66 ∷ 74 ∷ 106 ∷ []) ≡ true
     → placesIn (decodeAs kind.Information 0x02 p .parts) ≡ placesIn (partsIn kind.Information p) =
@@ -70,8 +70,8 @@ parts-exactly =
           (read-parts kind.Announcement 0x19 (w ∷ x ∷ y ∷ z ∷ h ∷ l ∷ p) refl (announced w x y z h l p e) refl);
       ready = λ h l p e. ap placesIn (read-parts kind.Ready 0x1B (h ∷ l ∷ p) refl (ready-sized h l p e) refl);
       piece = λ a b c d p.
-          let behind : length (a ∷ b ∷ c ∷ d ∷ p) - 4 ≡ length p = omega arith in
-          ap placesIn (read-parts kind.Piece 0x1D (a ∷ b ∷ c ∷ d ∷ p) refl (piece-sized a b c d p) refl) ∙ rw behind;
+          let after : length (a ∷ b ∷ c ∷ d ∷ p) - 4 ≡ length p = omega arith in
+          ap placesIn (read-parts kind.Piece 0x1D (a ∷ b ∷ c ∷ d ∷ p) refl (piece-sized a b c d p) refl) ∙ rw after;
       refused = λ c p. refused-parts (kindOf c) c p;
       others = λ c p h. no-parts (kindOf c) c p (no-part c p h);
     }

@@ -9,39 +9,39 @@ use lib.Dec.{eqb}
 use lib.ListN.{length, getD, take, drop, length-append, length-take, length-drop}
 use Rattle.base.proofs.Tests.{both}
 use Rattle.base.specs.Numbers.{twoAt}
-use Rattle.message.specs.Commands.{kindOf, table, lineIn, sizeFits, fits}
+use Rattle.message.specs.Commands.{kindOf, table, profileIn, sizeFits, fits}
 use Rattle.base.specs.Keys.{among}
 use Rattle.message.specs.Writing.{commandIn, messageIn}
-use Rattle.message.specs.Claims.{Writable, lentOf, ReadWritten, ReadsWritten}
+use Rattle.message.specs.Claims.{Writable, opaqueOf, ReadWritten, ReadsWritten}
 use Rattle.message.specs.declared.values.Extra.the-variants as extra
 use Rattle.message.specs.declared.values.Message.{Message}
 use Rattle.message.specs.declared.values.Message.the-variants as message
 use Rattle.message.proofs.Numbers.{value}
 use Rattle.message.proofs.Accepted.{Accepted, accepted}
 use Rattle.message.proofs.Written.{written-read}
-use Rattle.message.proofs.Again.{empty-payload, lent-none, read-again}
+use Rattle.message.proofs.Again.{empty-payload, opaque-none, read-again}
 
 -- ---- lent bytes of device information
-lent-length : (p : List ℕ) (size : ℕ) → length p ≡ size
-    → eqb (length (lentOf 0x02 p)) (min 64 size + (size - 74)) ≡ true
-lent-length p size e = eq-eqb (length (lentOf 0x02 p)) (min 64 size + (size - 74))
+opaque-length : (p : List ℕ) (size : ℕ) → length p ≡ size
+    → eqb (length (opaqueOf 0x02 p)) (min 64 size + (size - 74)) ≡ true
+opaque-length p size e = eq-eqb (length (opaqueOf 0x02 p)) (min 64 size + (size - 74))
     (simp (length-append, length-take, length-drop, e))
 
 -- ---- each message
 
 module _ (p : List ℕ) (bytes : (i : ℕ) → getD p i 0 < 256) where
   may-write : (m : Message) → Accepted (kindOf (commandIn m)) (commandIn m) p (messageIn m)
-      → Writable m (lentOf (commandIn m) p)
-  unfolding table lineIn among sizeFits fits
+      → Writable m (opaqueOf (commandIn m) p)
+  unfolding table profileIn among sizeFits fits
   may-write (message.Empty c) a =
       let e : p ≡ [] = empty-payload (kindOf c) p (a .sized) (tail-eq-of-cons-eq (a .values)) in
-      record { listed = a .listed; sized = rw (e, lent-none c) (rw e at (a .sized)); allows = refl }
+      record { listed = a .listed; sized = rw (e, opaque-none c) (rw e at (a .sized)); allows = refl }
   may-write (message.Information timeout extra.Absent) a = record
-      { listed = refl; sized = lent-length p 66 (value 1 (a .values)); allows = refl }
+      { listed = refl; sized = opaque-length p 66 (value 1 (a .values)); allows = refl }
   may-write (message.Information timeout (extra.Attributes attributes)) a = record
-      { listed = refl; sized = lent-length p 74 (value 1 (a .values)); allows = refl }
+      { listed = refl; sized = opaque-length p 74 (value 1 (a .values)); allows = refl }
   may-write (message.Information timeout (extra.AttributesAndSecret attributes)) a = record
-      { listed = refl; sized = lent-length p 106 (value 1 (a .values)); allows = refl }
+      { listed = refl; sized = opaque-length p 106 (value 1 (a .values)); allows = refl }
   may-write (message.Control control) a = record { listed = refl; sized = refl; allows = refl }
   may-write message.Query a = record { listed = refl; sized = refl; allows = refl }
   may-write (message.Status status) a = record { listed = refl; sized = refl; allows = refl }
@@ -69,8 +69,8 @@ module _ (p : List ℕ) (bytes : (i : ℕ) → getD p i 0 < 256) where
   -- the payload and what is written again are read alike
   again : (m : Message) → Accepted (kindOf (commandIn m)) (commandIn m) p (messageIn m) → ReadWritten (commandIn m) p m
   again m a =
-      let w : Writable m (lentOf (commandIn m) p) = may-write m a in
-      let written = written-read m (lentOf (commandIn m) p) w in
+      let w : Writable m (opaqueOf (commandIn m) p) = may-write m a in
+      let written = written-read m (opaqueOf (commandIn m) p) w in
       let read = read-again p m a in
       record {
         command-is = refl;

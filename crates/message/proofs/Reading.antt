@@ -10,14 +10,14 @@ use Rattle.base.proofs.Keys.{among-none, among-next}
 use Rattle.base.proofs.Tests.{tests}
 use Rattle.base.specs.Numbers.{twoAt}
 use Rattle.message.specs.Commands.{exactly, from, counted, fits, sizesOf, chosenOf, sizeFits, isListed, allowed}
-use Rattle.message.specs.Commands.{valuesOf, partsIn, kindOf, lineOf}
+use Rattle.message.specs.Commands.{valuesOf, partsIn, kindOf, profileOf}
 use Rattle.base.specs.Keys.{among}
 use Rattle.message.specs.Parts.{noParts}
-use Rattle.message.specs.Reading.{Read, judgedOf, decodeAs, decodeOf}
+use Rattle.message.specs.Reading.{Read, checkedOf, decodeAs, decodeOf}
 use Rattle.message.specs.declared.parts.Parts.{Parts}
 use Rattle.message.specs.declared.kind.Kind.{Kind}
-use Rattle.message.specs.declared.kind.Line.{Line}
-use Rattle.message.proofs.Lines.{soleOf, only}
+use Rattle.message.specs.declared.kind.Profile.{Profile}
+use Rattle.message.proofs.Profiles.{soleOf, only}
 use Rattle.message.proofs.Tests.{and-true}
 
 -- ---- a payload's size, as tests of its length
@@ -42,10 +42,10 @@ pub fits-some : (p : List ℕ) → fits (from 1) p ≡ not (eqb (length p) 0)
 unfolding fits
 fits-some p = nonempty (length p)
 
-pub fits-counted : (before behind : ℕ) (p : List ℕ)
-    → fits (counted before behind) p ≡ eqb (length p) (before + 2 + behind + twoAt p before)
+pub fits-counted : (before after : ℕ) (p : List ℕ)
+    → fits (counted before after) p ≡ eqb (length p) (before + 2 + after + twoAt p before)
 unfolding fits
-fits-counted before behind p = ap (eqb (length p)) (omega arith)
+fits-counted before after p = ap (eqb (length p)) (omega arith)
 
 pub size-fits : (k : Kind) (p : List ℕ) → sizeFits k p ≡ (fits (sizesOf k) p && fits (chosenOf k (getD p 0 0)) p)
 unfolding sizeFits
@@ -69,21 +69,21 @@ module _ (k : Kind) (p : List ℕ) (any : chosenOf k (getD p 0 0) ≡ from 0) wh
   pub sized-one : (n : ℕ) → sizesOf k ≡ exactly (n ∷ []) → eqb (length p) n ≡ sizeFits k p
   sized-one n e = sym (simp (size-fits, any, e, fits-any, fits-exactly, among-next, among-none, and-true, whole))
 
-  pub sized-counted : (before behind : ℕ) → sizesOf k ≡ counted before behind
-      → eqb (length p) (before + 2 + behind + twoAt p before) ≡ sizeFits k p
-  sized-counted before behind e = sym (simp (size-fits, any, e, fits-any, fits-counted, and-true))
+  pub sized-counted : (before after : ℕ) → sizesOf k ≡ counted before after
+      → eqb (length p) (before + 2 + after + twoAt p before) ≡ sizeFits k p
+  sized-counted before after e = sym (simp (size-fits, any, e, fits-any, fits-counted, and-true))
 
 -- ---- a layout that the first byte chooses
 
 -- only allowed values matter
 pub where-allowed : (sized allows : Bool) {values others : List ℕ} (parts : Parts) → (allows ≡ true → values ≡ others)
-    → judgedOf sized allows values parts ≡ judgedOf sized allows others parts
+    → checkedOf sized allows values parts ≡ checkedOf sized allows others parts
 where-allowed sized true parts same = rw (same refl)
 where-allowed sized false parts same = refl
 
 -- a payload of one of its line's sizes is judged by the size of that layout
 pub chosen : (k : Kind) (command n : ℕ) (p : List ℕ) {r : Read} (a : Bool) (values : List ℕ)
-    → r ≡ judgedOf (eqb (length p) n) a (command ∷ values) (partsIn k p)
+    → r ≡ checkedOf (eqb (length p) n) a (command ∷ values) (partsIn k p)
     → isListed k ≡ true → fits (sizesOf k) p ≡ true → chosenOf k (getD p 0 0) ≡ exactly (n ∷ []) → a ≡ allowed k p
     → (a ≡ true → values ≡ valuesOf k p)
     → r ≡ decodeAs k command p
@@ -94,40 +94,40 @@ chosen k command n p a values f listed size layout allows e =
 -- ---- a kind that has one size and no parts
 
 -- judged by its size
-pub judged-one :
+pub checked-one :
     (k : Kind) (command n : ℕ) (p : List ℕ) {r : Read} (a : Bool) (values : List ℕ)
-    → r ≡ judgedOf (eqb (length p) n) a (command ∷ values) noParts → sizesOf k ≡ exactly (n ∷ [])
+    → r ≡ checkedOf (eqb (length p) n) a (command ∷ values) noParts → sizesOf k ≡ exactly (n ∷ [])
     → chosenOf k (getD p 0 0) ≡ from 0 → isListed k ≡ true → partsIn k p ≡ noParts
     → a ≡ allowed k p → values ≡ valuesOf k p
     → r ≡ decodeAs k command p
-judged-one k command n p a values f size any listed none allows e =
+checked-one k command n p a values f size any listed none allows e =
     f ∙ simp (listed, sized-one k p any n size, none, allows, e)
 
 -- one byte, which was tested and stands for a value
-pub judged-byte :
+pub checked-byte :
     (k : Kind) (command n : ℕ) (p : List ℕ) {r : Read} (byte number : ℕ) (a : Bool)
-    → r ≡ judgedOf (eqb (length p) n) a (command ∷ number ∷ []) noParts → byte ≡ getD p 0 0 → a ≡ allowed k (byte ∷ [])
+    → r ≡ checkedOf (eqb (length p) n) a (command ∷ number ∷ []) noParts → byte ≡ getD p 0 0 → a ≡ allowed k (byte ∷ [])
     → (allowed k (byte ∷ []) ≡ true → number ≡ byte)
     → sizesOf k ≡ exactly (n ∷ []) → chosenOf k (getD p 0 0) ≡ from 0 → isListed k ≡ true → partsIn k p ≡ noParts
     → allowed k p ≡ allowed k (getD p 0 0 ∷ []) → valuesOf k p ≡ getD p 0 0 ∷ [] → r ≡ decodeAs k command p
-judged-byte k command n p byte number a f e q stands size any listed none allows values =
-    judged-one k command n p a (byte ∷ [])
+checked-byte k command n p byte number a f e q stands size any listed none allows values =
+    checked-one k command n p a (byte ∷ [])
     (f ∙ where-allowed (eqb (length p) n) a noParts (λ t. ap (λ (b : ℕ). command ∷ b ∷ []) (stands (sym q ∙ t))))
     size any listed none
     (q ∙ ap (λ (b : ℕ). allowed k (b ∷ [])) e ∙ sym allows) (ap (λ (b : ℕ). b ∷ []) e ∙ sym values)
 
 -- ---- a command's line
 
-module _ (k : Kind) {line : Line} (command : ℕ) (p : List ℕ) (of : line ≡ lineOf command) (told : line .kind ≡ k) where
+module _ (k : Kind) {profile : Profile} (command : ℕ) (p : List ℕ) (of : profile ≡ profileOf command) (shown : profile .kind ≡ k) where
   is : kindOf command ≡ k
-  is = ap (λ (l : Line). l .kind) (sym of) ∙ told
+  is = ap (λ (l : Profile). l .kind) (sym of) ∙ shown
 
   -- a payload is read as the command's line reads it
   pub read-kind : {r : Read} → r ≡ decodeAs k command p → r ≡ decodeOf command p
   read-kind e = e ∙ ap (λ (k : Kind). decodeAs k command p) (sym is)
 
   -- a line that has one command reads as that one
-  pub read-line : {r : Read} (n : ℕ) → soleOf k command ≡ n → r ≡ decodeAs k n p → r ≡ decodeOf command p
-  read-line n one e = read-kind (rw (only command k n one is) e)
+  pub read-profile : {r : Read} (n : ℕ) → soleOf k command ≡ n → r ≡ decodeAs k n p → r ≡ decodeOf command p
+  read-profile n one e = read-kind (rw (only command k n one is) e)
 
-pub ruleset lines = (read-kind, read-line, judged-one, judged-byte)
+pub ruleset profiles = (read-kind, read-profile, checked-one, checked-byte)

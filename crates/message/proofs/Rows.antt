@@ -6,14 +6,14 @@ use mathlib.Core.List.{List, [], _∷_}
 use lib.ListN.{getD, drop}
 use lib.Dec.{eqb}
 use Rattle.base.specs.Rows.{Row}
-use Rattle.base.proofs.Rows.{told-apart}
+use Rattle.base.proofs.Rows.{injective-by}
 use Rattle.message.specs.Numbers.{num}
 use Rattle.message.specs.Counter.{modeNumber, statusIn, controlIn}
 use Rattle.message.specs.Commands.{wayNumber, codeNumber}
 use Rattle.message.specs.Reading.{Read}
 use Rattle.message.specs.Writing.{networkIn, unixIn, timeIn, messageIn}
-use Rattle.message.specs.Table.{readingOf, sentRowOf, causeNumber, replyRowOf}
-use Rattle.message.specs.Claims.{RowsTell}
+use Rattle.message.specs.Table.{readingOf, sendRowOf, causeNumber, replyRowOf}
+use Rattle.message.specs.Claims.{RowsInjective}
 use Rattle.message.specs.declared.counter.Mode.{Mode}
 use Rattle.message.specs.declared.counter.Mode.the-variants as mode
 use Rattle.message.specs.declared.counter.Control.{Control}
@@ -32,12 +32,12 @@ use Rattle.message.specs.declared.values.Unix.{Unix}
 use Rattle.message.specs.declared.values.Unix.the-variants as unix
 use Rattle.message.specs.declared.values.Message.{Message}
 use Rattle.message.specs.declared.values.Message.the-variants as message
-use Rattle.message.specs.declared.reader.Reading.{Reading}
-use Rattle.message.specs.declared.reader.Reading.the-variants as reading
-use Rattle.message.specs.declared.writer.Sent.{Sent}
-use Rattle.message.specs.declared.writer.Sent.the-variants as sent
-use Rattle.message.specs.declared.replies.Reply.{Reply}
-use Rattle.message.specs.declared.replies.Reply.the-variants as reply
+use Rattle.message.specs.declared.reader.ReadResult.{ReadResult}
+use Rattle.message.specs.declared.reader.ReadResult.the-variants as reading
+use Rattle.message.specs.declared.writer.SendResult.{SendResult}
+use Rattle.message.specs.declared.writer.SendResult.the-variants as sent
+use Rattle.message.specs.declared.replies.ReplyResult.{ReplyResult}
+use Rattle.message.specs.declared.replies.ReplyResult.the-variants as reply
 
 -- what stands under a number, or else
 abbrev under : {A : Type 0} → ℕ → ℕ → A → A → A
@@ -203,19 +203,19 @@ message-back (message.Piece index total) = refl
 
 -- ---- the answers
 
-abbrev readingFrom : Read → Reading
+abbrev readingFrom : Read → ReadResult
 readingFrom r =
     under (r .row .number) 0 (reading.Got (messageFrom (r .row .values)) (r .parts))
     (under (r .row .number) 31 reading.Command
     (under (r .row .number) 32 reading.Size reading.Field))
 
-reading-back : (a : Reading) → readingFrom (readingOf a) ≡ a
+reading-back : (a : ReadResult) → readingFrom (readingOf a) ≡ a
 reading-back (reading.Got m parts) = ap (λ (m : Message). reading.Got m parts) (message-back m)
 reading-back reading.Command = refl
 reading-back reading.Size = refl
 reading-back reading.Field = refl
 
-abbrev sentFrom : Row → Sent
+abbrev sentFrom : Row → SendResult
 sentFrom r =
     under (r .number) 0 (sent.Wrote (value (r .values) 0))
     (under (r .number) 21 sent.Payload
@@ -223,7 +223,7 @@ sentFrom r =
     (under (r .number) 31 sent.Command
     (under (r .number) 32 sent.Size sent.Field))))
 
-sent-back : (a : Sent) → sentFrom (sentRowOf a) ≡ a
+sent-back : (a : SendResult) → sentFrom (sendRowOf a) ≡ a
 sent-back (sent.Wrote count) = refl
 sent-back sent.Payload = refl
 sent-back sent.Room = refl
@@ -232,7 +232,7 @@ sent-back sent.Size = refl
 sent-back sent.Field = refl
 
 -- nothing, a count, or a command that is asked for
-abbrev doneFrom : List ℕ → Reply
+abbrev doneFrom : List ℕ → ReplyResult
 doneFrom [] = reply.Nothing
 doneFrom (count ∷ []) = reply.Acknowledged count
 doneFrom (count ∷ command ∷ []) = reply.Nothing
@@ -240,10 +240,10 @@ doneFrom (count ∷ command ∷ value ∷ l) =
     under command 0x02 (reply.InformationWanted value)
     (under command 0x04 (reply.StatusWanted value) (reply.Rejected count (codeFrom value) (causeFrom (getD l 0 0))))
 
-abbrev replyFrom : Row → Reply
+abbrev replyFrom : Row → ReplyResult
 replyFrom r = under (r .number) 22 reply.Room (doneFrom (r .values))
 
-reply-back : (a : Reply) → replyFrom (replyRowOf a) ≡ a
+reply-back : (a : ReplyResult) → replyFrom (replyRowOf a) ≡ a
 reply-back reply.Nothing = refl
 reply-back (reply.InformationWanted number) = refl
 reply-back (reply.StatusWanted number) = refl
@@ -251,11 +251,11 @@ reply-back (reply.Acknowledged count) = refl
 reply-back (reply.Rejected count code cause) = simp (code-back code, cause-back cause)
 reply-back reply.Room = refl
 
-pub rows-tell : RowsTell
-rows-tell =
+pub rows-injective : RowsInjective
+rows-injective =
     record {
-      messages = told-apart messageIn messageFrom message-back;
-      readings = told-apart readingOf readingFrom reading-back;
-      sendings = told-apart sentRowOf sentFrom sent-back;
-      replies = told-apart replyRowOf replyFrom reply-back;
+      messages = injective-by messageIn messageFrom message-back;
+      readings = injective-by readingOf readingFrom reading-back;
+      sendings = injective-by sendRowOf sentFrom sent-back;
+      replies = injective-by replyRowOf replyFrom reply-back;
     }

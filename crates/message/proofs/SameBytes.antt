@@ -13,12 +13,12 @@ use Rattle.base.proofs.Keys.{among-holds}
 use Rattle.base.specs.Numbers.{two, four, twoAt, fourAt}
 use Rattle.message.specs.Numbers.{num, eight, eightAt}
 use Rattle.base.specs.Keys.{among}
-use Rattle.message.specs.Commands.{kindOf, table, lineIn, sizeFits, fits, from, timeValues, networkValues}
+use Rattle.message.specs.Commands.{kindOf, table, profileIn, sizeFits, fits, from, timeValues, networkValues}
 use Rattle.message.specs.Counter.{statusValues, statusAllowed, statusIn, statusBytes}
 use Rattle.message.specs.Counter.{controlValues, controlAllowed, controlIn, controlBytes}
 use Rattle.message.specs.Writing.{commandIn, messageIn, payloadIn, informationBytes, unixIn, timeBytes, unixBytes}
 use Rattle.message.specs.Writing.{networkIn, networkBytes}
-use Rattle.message.specs.Claims.{lentOf}
+use Rattle.message.specs.Claims.{opaqueOf}
 use Rattle.message.specs.SameBytes.{Again, SameBytes}
 use Rattle.message.specs.declared.counter.Status.{Status}
 use Rattle.message.specs.declared.counter.Control.{Control}
@@ -103,9 +103,9 @@ status-same s status size bytes h e =
     ))
 
 module _ (p : List ℕ) (bytes : (i : ℕ) → getD p i 0 < 256) where
-  behind-first : (action : ℕ) (status : Status) → getD p 0 0 ≡ action → length p ≡ 9 → statusAllowed (drop 1 p) ≡ true
+  after-first : (action : ℕ) (status : Status) → getD p 0 0 ≡ action → length p ≡ 9 → statusAllowed (drop 1 p) ≡ true
       → statusValues (drop 1 p) ≡ statusIn status → action ∷ statusBytes status ≡ p
-  behind-first action status first size h e =
+  after-first action status first size h e =
       let rest : statusBytes status ≡ drop 1 p =
       status-same (drop 1 p) status (omega (arith, length-drop 1 p))
       (λ i. rw (getD-drop 1 p i 0) (bytes (1 + i))) h e in
@@ -116,13 +116,13 @@ module _ (p : List ℕ) (bytes : (i : ℕ) → getD p i 0 < 256) where
 
   -- its numbers stand between what is lent
   information-same : (numbers : List ℕ) → 64 ≤ length p → numbers ++ drop 74 p ≡ drop 64 p
-      → informationBytes numbers (lentOf 0x02 p) ≡ p
+      → informationBytes numbers (opaqueOf 0x02 p) ≡ p
   information-same numbers h e =
       let front : length (take 64 p) ≡ 64 = length-take-le 64 p h in
       rw (take-at (take 64 p) (drop 74 p) 64 front, drop-at (take 64 p) (drop 74 p) 64 front, e) (take-append-drop 64 p)
 
   with-attributes : (timeout attributes : ℕ) → 74 ≤ length p → twoAt p 64 ≡ timeout → eightAt p 66 ≡ attributes
-      → informationBytes (two timeout (eight attributes [])) (lentOf 0x02 p) ≡ p
+      → informationBytes (two timeout (eight attributes [])) (opaqueOf 0x02 p) ≡ p
   with-attributes timeout attributes h t e =
       information-same (two timeout (eight attributes [])) (omega arith)
       (from-place 64 10 p (two timeout (eight attributes [])) h
@@ -199,7 +199,7 @@ module _ (p : List ℕ) (bytes : (i : ℕ) → getD p i 0 < 256) where
 
   -- a command of which reading ignores nothing
   all-read : (m : Message) → eqb (commandIn m) 0x0D ≡ false → eqb (commandIn m) 0x03 ≡ false
-      → payloadIn m (lentOf (commandIn m) p) ≡ p → Again (commandIn m) p m
+      → payloadIn m (opaqueOf (commandIn m) p) ≡ p → Again (commandIn m) p m
   all-read m n d e =
       record {
         size = ap (λ (l : List ℕ). length l) e;
@@ -209,7 +209,7 @@ module _ (p : List ℕ) (bytes : (i : ℕ) → getD p i 0 < 256) where
       }
 
   again : (m : Message) → Accepted (kindOf (commandIn m)) (commandIn m) p (messageIn m) → Again (commandIn m) p m
-  unfolding table lineIn sizeFits fits among
+  unfolding table profileIn sizeFits fits among
   again (message.Empty c) a =
       let e : p ≡ [] = empty-payload (kindOf c) p (a .sized) (tail-eq-of-cons-eq (a .values)) in
       record {
@@ -259,13 +259,13 @@ module _ (p : List ℕ) (bytes : (i : ℕ) → getD p i 0 < 256) where
       let first : getD p 0 0 ≡ 3 = value 0 (rw some at values) in
       let size = both (leb 0 (length p)) (a .sized) .1 in
       all-read (message.Status status) refl refl
-      (behind-first 3 status first (one-size (length p) 9 (rw first at size))
+      (after-first 3 status first (one-size (length p) 9 (rw first at size))
       (both (eqb (getD p 0 0) 3) (rw some at (a .allows)) .1) (tail-eq-of-cons-eq (rw some at values)))
   again (message.Report status) a =
       let first : getD p 0 0 ≡ 4 = value 1 (a .values) in
       let size = both (leb 1 (length p)) (a .sized) .1 in
       all-read (message.Report status) refl refl
-      (behind-first 4 status first (one-size (length p) 9 (rw first at size))
+      (after-first 4 status first (one-size (length p) 9 (rw first at size))
       (both (eqb (getD p 0 0) 4) (a .allows) .1) (ap (λ (l : List ℕ). drop 2 l) (a .values)))
   again (message.Onboarding way) a =
       all-read (message.Onboarding way) refl refl (byte-same _ (a .sized) (value 1 (a .values)))

@@ -11,22 +11,22 @@ use Rattle.base.specs.Sums.{total}
 use Rattle.base.proofs.Keys.{agree}
 use Rattle.base.proofs.Tests.{cond-same}
 use Rattle.frame.specs.Wire.{stuff, bodyOf}
-use Rattle.message.specs.Commands.{table, lineIn, kindOf, isListed, sizeFits, fits}
-use Rattle.message.specs.Writing.{commandIn, payloadIn, lentFits, allowedIn}
+use Rattle.message.specs.Commands.{table, profileIn, kindOf, isListed, sizeFits, fits}
+use Rattle.message.specs.Writing.{commandIn, payloadIn, opaqueFits, allowedIn}
 use Rattle.message.specs.Claims.{emptyCommands}
-use Rattle.message.specs.Sendings.{messageWire, SendsExactly, RefusesExactly, LentTo, EmptyLent, LentExactly}
-use Rattle.message.specs.Sendings.{lentTaken, WorkedRefusals}
-use Rattle.message.specs.declared.kind.Line.{Line}
+use Rattle.message.specs.Sendings.{messageWire, SendsExactly, RefusesExactly, TakesOpaque, EmptyOpaque, OpaqueExactly}
+use Rattle.message.specs.Sendings.{opaqueSizes, WorkedRefusals}
+use Rattle.message.specs.declared.kind.Profile.{Profile}
 use Rattle.message.specs.declared.values.Extra.the-variants as extra
 use Rattle.message.specs.declared.values.Message.{Message}
 use Rattle.message.specs.declared.values.Message.the-variants as message
-use Rattle.message.proofs.Lines.{paper-lists, every, unless}
+use Rattle.message.proofs.Profiles.{command-lists, every, unless}
 use Rattle.message.proofs.Tests.{and-true, and-false}
 
-pub sent-exactly : SendsExactly
-sent-exactly limit m number flags lent out w =
-    let w-length = length (messageWire m number flags lent) in
-    let needed = length (payloadIn m lent) + 5 in
+pub send-exactly : SendsExactly
+send-exactly limit m number flags opaque out w =
+    let w-length = length (messageWire m number flags opaque) in
+    let needed = length (payloadIn m opaque) + 5 in
     record {
       payload = λ h. rw (w .listed, w .sized, w .allows, lt-ltb limit needed h);
       room = λ h r. rw (w .listed, w .sized, w .allows, le-ltb limit needed h, lt-ltb (length out) w-length r);
@@ -34,7 +34,7 @@ sent-exactly limit m number flags lent out w =
     }
 
 pub refused-exactly : RefusesExactly
-refused-exactly limit m number flags lent out =
+refused-exactly limit m number flags opaque out =
     record {
       unlisted = λ l. rw l;
       size = λ l s. rw (l, s);
@@ -44,26 +44,26 @@ refused-exactly limit m number flags lent out =
 -- ---- the three tests
 
 plain : {takes : ℕ → Bool} {allows : Bool} (m : Message) → isListed (kindOf (commandIn m)) ≡ true
-    → ((n : ℕ) → lentFits m n ≡ takes n) → allowedIn m ≡ allows → LentTo m (commandIn m) takes allows
-plain m l t a = record { command-is = refl; listed = l; lent = t; values = a }
+    → ((n : ℕ) → opaqueFits m n ≡ takes n) → allowedIn m ≡ allows → TakesOpaque m (commandIn m) takes allows
+plain m l t a = record { command-is = refl; listed = l; opaque = t; values = a }
 
 -- no payload fits no other command, and none that is not listed
 takes-none : (command : ℕ) → among command (0x04 ∷ emptyCommands) ≡ false → sizeFits (kindOf command) [] ≡ false
-unfolding among table lineIn sizeFits fits
+unfolding among table profileIn sizeFits fits
 takes-none command h =
     unless false h
     (every (λ c. cond (among c (0x04 ∷ emptyCommands)) false (sizeFits (kindOf c) [])) (λ _. false) refl
-    (λ c none _. ap (λ (l : Line). cond (among c (0x04 ∷ emptyCommands)) false (sizeFits (l .kind) [])) none ∙ cond-same
+    (λ c none _. ap (λ (l : Profile). cond (among c (0x04 ∷ emptyCommands)) false (sizeFits (l .kind) [])) none ∙ cond-same
     (among c (0x04 ∷ emptyCommands)) false) command)
 
 -- a command with no payload
-empty-lent : (command : ℕ) → EmptyLent command
-unfolding among table lineIn sizeFits fits
-empty-lent command =
+empty-opaque : (command : ℕ) → EmptyOpaque command
+unfolding among table profileIn sizeFits fits
+empty-opaque command =
     record {
       command-is = refl;
       values = refl;
-      listed = paper-lists .listed command;
+      listed = command-lists .listed command;
       empty = λ h n.
           let fits-none : sizeFits (kindOf command) [] ≡ true =
           agree (λ c. sizeFits (kindOf c) []) (λ _. true) (0x04 ∷ emptyCommands) command refl h in
@@ -71,11 +71,11 @@ empty-lent command =
       others = λ h n. rw (takes-none command h) (and-false (eqb n 0));
     }
 
-pub lent-exactly : LentExactly
-unfolding table lineIn
-lent-exactly =
+pub opaque-exactly : OpaqueExactly
+unfolding table profileIn
+opaque-exactly =
     record {
-      empty = empty-lent;
+      empty = empty-opaque;
       information = λ t. plain (message.Information t extra.Absent) refl (λ n. refl) refl;
       attributes = λ t a. plain (message.Information t (extra.Attributes a)) refl (λ n. refl) refl;
       secret = λ t a. plain (message.Information t (extra.AttributesAndSecret a)) refl (λ n. refl) refl;
@@ -94,7 +94,7 @@ lent-exactly =
     }
 
 pub worked-refusals : WorkedRefusals
-unfolding stuff total bodyOf among table lineIn sizeFits fits lentTaken
+unfolding stuff total bodyOf among table profileIn sizeFits fits opaqueSizes
 worked-refusals =
     record {
       information = refl;
@@ -111,6 +111,6 @@ worked-refusals =
       size-before-field = refl;
       field-before-room = refl;
       room-last = refl;
-      too-many-texts = λ lent h. rw h;
-      too-long-code = λ lent h. rw h;
+      too-many-texts = λ opaque h. rw h;
+      too-long-code = λ opaque h. rw h;
     }

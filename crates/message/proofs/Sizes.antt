@@ -1,15 +1,15 @@
 -- The tables of commands and sizes, each by one computation. Assumes nothing.
 use mathlib.Core.Path.{refl}
 use Rattle.base.specs.Keys.{among}
-use Rattle.message.specs.Commands.{table, lineIn, sizeFits, fits}
-use Rattle.message.specs.Sizes.{takenOf, WorkedCommands, WorkedSizes}
+use Rattle.message.specs.Commands.{table, profileIn, sizeFits, fits}
+use Rattle.message.specs.Sizes.{sizesAmong, WorkedCommands, WorkedSizes}
 
 pub worked-commands : WorkedCommands
-unfolding among table lineIn sizeFits fits
+unfolding among table profileIn sizeFits fits
 worked-commands = record { no-byte = refl; one-byte = refl }
 
 pub worked-sizes : WorkedSizes
-unfolding among table lineIn sizeFits fits takenOf
+unfolding among table profileIn sizeFits fits sizesAmong
 worked-sizes =
     record {
       information = refl;

@@ -10,12 +10,12 @@ use lib.ListN.{length}
 use lib.Dec.{eqb}
 use Rattle.base.proofs.Tests.{by-test, both}
 use Rattle.base.proofs.Keys.{among-holds}
-use Rattle.message.proofs.Lines.{by-kind}
+use Rattle.message.proofs.Profiles.{by-kind}
 use Rattle.base.specs.Keys.{among}
 use Rattle.message.specs.Commands.{isListed, sizesOf, fits, sizeFits, allowed, partsIn, kindOf}
 use Rattle.message.specs.Reading.{Read}
 use Rattle.message.specs.Parts.{textsAnd, EachPlace, PartAt}
-use Rattle.message.specs.Claims.{PartsWithin, HandedOut, WholePart}
+use Rattle.message.specs.Claims.{PartsWithin, PartReturned, WholePart}
 use Rattle.message.specs.declared.kind.Kind.{Kind}
 use Rattle.message.specs.declared.kind.Kind.the-variants as kind
 use Rattle.message.specs.declared.parts.Place.{Place}
@@ -62,8 +62,8 @@ whole payload s h part given =
     let front : min (s .start) (length (now payload)) ≡ s .start = omega arith in
     record { part-is = rw front at given; within = h }
 
-pub handed-out : HandedOut
-handed-out command payload =
+pub part-returned : PartReturned
+part-returned command payload =
     let w = parts-within command (now payload) in (
       whole payload _ (w .0),
       whole payload _ (w .1),

@@ -1,15 +1,15 @@
 -- The worked names, readings and writings, each table by one computation. Assumes nothing.
 use mathlib.Core.Path.{refl, sym, ap}
 use Rattle.base.specs.Keys.{among}
-use Rattle.base.specs.Outcomes.{Write}
-use Rattle.message.specs.Commands.{table, lineIn, sizeFits, fits}
+use Rattle.base.specs.Outcomes.{Output}
+use Rattle.message.specs.Commands.{table, profileIn, sizeFits, fits}
 use Rattle.message.specs.Reading.{Read}
 use Rattle.message.specs.Worked.{WorkedReadings, WorkedParts}
 use Rattle.message.specs.Writings.{WorkedWritings}
-use Rattle.message.specs.Names.{WorkedNames, ContractsWhole}
+use Rattle.message.specs.Names.{WorkedNames, ContractsComplete}
 
 pub worked-readings : WorkedReadings
-unfolding among table lineIn sizeFits fits
+unfolding among table profileIn sizeFits fits
 worked-readings =
     record {
       empty = refl;
@@ -23,7 +23,7 @@ worked-readings =
     }
 
 pub worked-parts : WorkedParts
-unfolding among table lineIn sizeFits fits
+unfolding among table profileIn sizeFits fits
 worked-parts =
     record {
       information = refl;
@@ -49,11 +49,11 @@ worked-names =
       rejected = λ n. refl;
     }
 
-pub contracts-whole : ContractsWhole
-contracts-whole =
+pub contracts-complete : ContractsComplete
+contracts-complete =
     record {
       read = λ r command p e. (ap (λ (d : Read). d .row) e, ap (λ (d : Read). d .parts) e);
       got-read = λ m parts command p e. (sym (ap (λ (d : Read). d .row) e), sym (ap (λ (d : Read). d .parts) e));
-      written = λ r after w e. (ap (λ (v : Write). v .row) e, ap (λ (v : Write). v .out) e);
-      answered = λ r after w e. (ap (λ (v : Write). v .row) e, ap (λ (v : Write). v .out) e);
+      written = λ r after w e. (ap (λ (v : Output). v .row) e, ap (λ (v : Output). v .out) e);
+      replied = λ r after w e. (ap (λ (v : Output). v .row) e, ap (λ (v : Output). v .out) e);
     }

@@ -79,13 +79,13 @@ networks n =
       weight (n .server) 32,
     )
 
-pub writes-exactly : (lent : List ℕ) → WritesExactly lent
-writes-exactly lent =
+pub writes-exactly : (opaque : List ℕ) → WritesExactly opaque
+writes-exactly opaque =
     record {
       empty = λ command. refl;
       information = λ timeout. refl;
-      attributes = λ timeout a. ap (λ (l : List ℕ). take 64 lent ++ two timeout l) (eights a (drop 64 lent));
-      secret = λ timeout a. ap (λ (l : List ℕ). take 64 lent ++ two timeout l) (eights a (drop 64 lent));
+      attributes = λ timeout a. ap (λ (l : List ℕ). take 64 opaque ++ two timeout l) (eights a (drop 64 opaque));
+      secret = λ timeout a. ap (λ (l : List ℕ). take 64 opaque ++ two timeout l) (eights a (drop 64 opaque));
       control = λ c. ap (λ (l : List ℕ). 1 ∷ l) (controls c);
       query = refl;
       status = λ s. ap (λ (l : List ℕ). 3 ∷ l) (statuses s);

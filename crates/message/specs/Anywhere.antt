@@ -6,7 +6,7 @@ use lib.ListN.{length, take}
 use Rattle.frame.specs.Wire.{widest, commandOf, numberOf, flagsOf, payloadOf}
 use Rattle.frame.specs.Frames.{Found}
 use Rattle.frame.specs.Calls.{freshOf}
-use Rattle.frame.specs.Logs.{Call, Entry, logOf, stream, handedOut}
+use Rattle.frame.specs.Logs.{Call, Entry, logOf, stream, delivered}
 use Rattle.base.specs.Rows.{row}
 use Rattle.message.specs.Writing.{sendOf}
 use Rattle.message.specs.Claims.{Decodes}
@@ -16,21 +16,21 @@ use Rattle.message.specs.declared.values.Message.{Message}
 -- with other bytes before and behind it, is handed out as a frame, whose body is read as that message
 
 -- the frame in a log: its place, its number and flags, and the message that its body is
-pub record FoundAs (m : Message) (number flags : ℕ) (lent : List ℕ) (start count : ℕ) (log : List Entry) : Type 0 where
+pub record FoundAs (m : Message) (number flags : ℕ) (opaque : List ℕ) (start count : ℕ) (log : List Entry) : Type 0 where
   pub found : Found
-  pub handed-out : List·Memᴰ found (handedOut log)
+  pub is-delivered : List·Memᴰ found (delivered log)
   pub start-is : found .start ≡ start
   pub end-is : found .end ≡ start + count
   pub number-is : numberOf (found .body) ≡ number
   pub flags-are : flagsOf (found .body) ≡ flags
-  pub message : Decodes m lent (commandOf (found .body)) (payloadOf (found .body))
+  pub message : Decodes m opaque (commandOf (found .body)) (payloadOf (found .body))
 
 -- of every message that was written
 abbrev pub MessageReadAnywhere : Type 0
 MessageReadAnywhere =
-    (limit : ℕ) → limit ≤ widest → (m : Message) (number flags count : ℕ) (lent out : List ℕ)
-    → sendOf limit m number flags lent out .row ≡ row 0 (count ∷ [])
+    (limit : ℕ) → limit ≤ widest → (m : Message) (number flags count : ℕ) (opaque out : List ℕ)
+    → sendOf limit m number flags opaque out .row ≡ row 0 (count ∷ [])
     → (calls : List Call) (before after : List ℕ)
     → stream (logOf limit (freshOf limit) calls)
-    ≡ before ++ (take count (sendOf limit m number flags lent out .out) ++ after)
-    → FoundAs m number flags lent (length before) count (logOf limit (freshOf limit) calls)
+    ≡ before ++ (take count (sendOf limit m number flags opaque out .out) ++ after)
+    → FoundAs m number flags opaque (length before) count (logOf limit (freshOf limit) calls)

@@ -10,76 +10,76 @@ use Rattle.frame.specs.Calls.{freshOf}
 use Rattle.frame.specs.Logs.{Call, logOf, stateAfter, stream}
 use Rattle.frame.specs.Claims.{ReadBack}
 use Rattle.base.specs.Rows.{Row, row}
-use Rattle.base.specs.Outcomes.{Write, outcome}
+use Rattle.base.specs.Outcomes.{Output, output}
 use Rattle.base.specs.Keys.{among}
 use Rattle.message.specs.Reading.{readOf}
-use Rattle.message.specs.Answers.{answerReadOf, answerFrameOf, answerOf}
+use Rattle.message.specs.Replies.{replyReadOf, replyFrameOf, replyOf}
 use Rattle.message.specs.Claims.{boxCommands}
 use Rattle.message.specs.Sizes.{commandBytes}
 
 -- ---- replies-exact: which answer each frame gets, and its bytes
 
 -- an answer's wire form: a command and its payload under the number received, flags 0
-abbrev pub answerWire : ℕ → ℕ → List ℕ → List ℕ
-answerWire number command payload = wire (bodyOf command number 0 payload)
+abbrev pub replyWire : ℕ → ℕ → List ℕ → List ℕ
+replyWire number command payload = wire (bodyOf command number 0 payload)
 
 -- an answer that is written
-pub record Answered (limit number command : ℕ) (payload told out : List ℕ) (w : Write) : Type 0 where
+pub record Replied (limit number command : ℕ) (payload shown out : List ℕ) (w : Output) : Type 0 where
   -- where it fits, it stands at the front and the rest of the output stays; its length is told, then what else is
   pub fits :
-      length (answerWire number command payload) ≤ length out
-      → w ≡ outcome (row 0 (length (answerWire number command payload) ∷ told))
-      (answerWire number command payload ++ drop (length (answerWire number command payload)) out)
+      length (replyWire number command payload) ≤ length out
+      → w ≡ output (row 0 (length (replyWire number command payload) ∷ shown))
+      (replyWire number command payload ++ drop (length (replyWire number command payload)) out)
   -- where it does not, it is ROOM, and the output stays
-  pub room : length out < length (answerWire number command payload) → w ≡ outcome (row 22 (0 ∷ [])) out
+  pub room : length out < length (replyWire number command payload) → w ≡ output (row 22 (0 ∷ [])) out
   -- it is a message
   pub message : readOf command payload ≡ row 0 (command ∷ payload)
   -- after any calls of a fresh reader, the calls that took it end in FRAME, with that command, number and payload
   pub back :
       limit ≤ widest → (earlier later : List Call)
-      → stream (logOf limit (stateAfter limit (freshOf limit) earlier) later) ≡ answerWire number command payload
+      → stream (logOf limit (stateAfter limit (freshOf limit) earlier) later) ≡ replyWire number command payload
       → ReadBack (length (stream (logOf limit (freshOf limit) earlier))) command number 0 payload
       (logOf limit (stateAfter limit (freshOf limit) earlier) later)
 
 -- a 12 is told with its command, its code and the cause: 15, 31, 32, 33, or 0 for a command that only the box sends
-abbrev pub RejectedWith : ℕ → ℕ → ℕ → ℕ → List ℕ → Write → Type 0
+abbrev pub RejectedWith : ℕ → ℕ → ℕ → ℕ → List ℕ → Output → Type 0
 RejectedWith limit number code cause out w =
-    Answered limit number 0x12 (code ∷ []) (0x12 ∷ code ∷ cause ∷ []) out w
+    Replied limit number 0x12 (code ∷ []) (0x12 ∷ code ∷ cause ∷ []) out w
 
 -- the answer to a frame
-pub record ReplyExact (limit command number : ℕ) (p out : List ℕ) (w : Write) : Type 0 where
+pub record ReplyExact (limit command number : ℕ) (p out : List ℕ) (w : Output) : Type 0 where
   pub box-only : among command boxCommands ≡ true → RejectedWith limit number 2 0 out w
   pub unlisted : readOf command p ≡ row 31 [] → RejectedWith limit number 2 31 out w
   pub size : among command boxCommands ≡ false → readOf command p ≡ row 32 [] → RejectedWith limit number 3 32 out w
   pub field : among command boxCommands ≡ false → readOf command p ≡ row 33 [] → RejectedWith limit number 3 33 out w
   pub acknowledged :
       (values : List ℕ) → among command (0x07 ∷ 0x0D ∷ 0x0F ∷ []) ≡ true → readOf command p ≡ row 0 values
-      → Answered limit number (command + 1) [] [] out w
+      → Replied limit number (command + 1) [] [] out w
   pub control :
-      (values : List ℕ) → readOf command p ≡ row 0 (0x03 ∷ 1 ∷ values) → Answered limit number 0x04 [] [] out w
+      (values : List ℕ) → readOf command p ≡ row 0 (0x03 ∷ 1 ∷ values) → Replied limit number 0x04 [] [] out w
   pub query :
       (values : List ℕ) → readOf command p ≡ row 0 (0x03 ∷ 2 ∷ values)
-      → w ≡ outcome (row 0 (0 ∷ 0x04 ∷ number ∷ [])) out
+      → w ≡ output (row 0 (0 ∷ 0x04 ∷ number ∷ [])) out
   pub information :
-      (values : List ℕ) → readOf command p ≡ row 0 (0x01 ∷ values) → w ≡ outcome (row 0 (0 ∷ 0x02 ∷ number ∷ [])) out
+      (values : List ℕ) → readOf command p ≡ row 0 (0x01 ∷ values) → w ≡ output (row 0 (0 ∷ 0x02 ∷ number ∷ [])) out
   pub silent :
       (values : List ℕ) → among command boxCommands ≡ false
       → among command (0x01 ∷ 0x03 ∷ 0x07 ∷ 0x0D ∷ 0x0F ∷ []) ≡ false → readOf command p ≡ row 0 values
-      → w ≡ outcome (row 0 []) out
+      → w ≡ output (row 0 []) out
 
 -- of every frame, read already or not, and of a frame that the reader hands out or refuses by its sum; the limit lets a
 -- payload of one byte pass
 pub record RepliesInto (limit : ℕ) (out : List ℕ) : Type 0 where
   pub frames :
       (command number : ℕ) (p : List ℕ)
-      → ReplyExact limit command number p out (answerFrameOf limit command number p out)
+      → ReplyExact limit command number p out (replyFrameOf limit command number p out)
   pub readings :
       (command number : ℕ) (p : List ℕ)
-      → ReplyExact limit command number p out (answerReadOf limit command number (readOf command p) out)
-  pub handed-out :
+      → ReplyExact limit command number p out (replyReadOf limit command number (readOf command p) out)
+  pub is-delivered :
       (v body : List ℕ)
-      → ReplyExact limit (commandOf body) (numberOf body) (payloadOf body) out (answerOf limit (row 1 v) body out)
-  pub wrong-sum : (v body : List ℕ) → RejectedWith limit (numberOf body) 1 15 out (answerOf limit (row 15 v) body out)
+      → ReplyExact limit (commandOf body) (numberOf body) (payloadOf body) out (replyOf limit (row 1 v) body out)
+  pub wrong-sum : (v body : List ℕ) → RejectedWith limit (numberOf body) 1 15 out (replyOf limit (row 15 v) body out)
 
 -- into every output
 abbrev pub RepliesExact : Type 0
@@ -89,66 +89,66 @@ RepliesExact = (limit : ℕ) → 6 ≤ limit → (out : List ℕ) → RepliesInt
 -- written and nothing is asked for
 abbrev pub SilentElse : Type 0
 SilentElse =
-    (limit : ℕ) (said : Row) (body out : List ℕ) → said .number ≢ 1 → said .number ≢ 15
-    → answerOf limit said body out ≡ outcome (row 0 []) out
+    (limit : ℕ) (answer : Row) (body out : List ℕ) → answer .number ≢ 1 → answer .number ≢ 15
+    → replyOf limit answer body out ≡ output (row 0 []) out
 
 -- ---- replies-tabled: literal answers, under number 9, into twelve bytes that were 7
 
 -- none
-abbrev pub silence : Write
-silence = outcome (row 0 []) (replicate 12 7)
+abbrev pub silence : Output
+silence = output (row 0 []) (replicate 12 7)
 
 -- none; the caller is asked for this command
-abbrev pub asks : ℕ → Write
-asks command = outcome (row 0 (0 ∷ command ∷ 9 ∷ [])) (replicate 12 7)
+abbrev pub wants : ℕ → Output
+wants command = output (row 0 (0 ∷ command ∷ 9 ∷ [])) (replicate 12 7)
 
 -- this command, with no payload
-abbrev pub acknowledges : ℕ → Write
+abbrev pub acknowledges : ℕ → Output
 acknowledges command =
-    outcome (row 0 (9 ∷ []))
+    output (row 0 (9 ∷ []))
     (0xFF ∷ 0xFF ∷ 0 ∷ 5 ∷ command ∷ 9 ∷ 0 ∷ 0 ∷ (5 + command + 9) ∷ 7 ∷ 7 ∷ 7 ∷ [])
 
 -- a 12 with a code, and the cause that is told
-abbrev pub rejects : ℕ → ℕ → Write
+abbrev pub rejects : ℕ → ℕ → Output
 rejects code cause =
-    outcome (row 0 (10 ∷ 0x12 ∷ code ∷ cause ∷ []))
+    output (row 0 (10 ∷ 0x12 ∷ code ∷ cause ∷ []))
     (0xFF ∷ 0xFF ∷ 0 ∷ 6 ∷ 0x12 ∷ 9 ∷ 0 ∷ 0 ∷ code ∷ (6 + 0x12 + 9 + code) ∷ 7 ∷ 7 ∷ [])
 
 -- an unlisted command
-abbrev pub unlisted : Write
+abbrev pub unlisted : Output
 unlisted = rejects 2 31
 
 -- one that only the box sends
-abbrev pub boxOnly : Write
+abbrev pub boxOnly : Output
 boxOnly = rejects 2 0
 
 -- a wrong size
-abbrev pub badSize : Write
+abbrev pub badSize : Output
 badSize = rejects 3 32
 
 -- a value that is not allowed
-abbrev pub badField : Write
+abbrev pub badField : Output
 badField = rejects 3 33
 
 -- what the box answers to a frame
-abbrev pub replyTo : ℕ → List ℕ → Write
-replyTo command p = answerFrameOf 1024 command 9 p (replicate 12 7)
+abbrev pub replyTo : ℕ → List ℕ → Output
+replyTo command p = replyFrameOf 1024 command 9 p (replicate 12 7)
 
 -- a command, a payload, and the answer
 pub record ReplyCase : Type 0 where
   pub command : ℕ
   pub payload : List ℕ
-  pub expected : Write
+  pub expected : Output
 
 -- the same of the three
-abbrev pub gets : ℕ → List ℕ → Write → ReplyCase
+abbrev pub gets : ℕ → List ℕ → Output → ReplyCase
 gets command payload expected = record { command = command; payload = payload; expected = expected }
 
 -- every command that has a payload: without a fault, then with a wrong size or value
 abbrev pub replyCases : List ReplyCase
 replyCases =
     gets 0x02 (replicate 66 0) boxOnly ∷ gets 0x02 (replicate 67 0) boxOnly
-    ∷ gets 0x03 (1 ∷ 0 ∷ 0 ∷ 0 ∷ 0 ∷ []) (acknowledges 0x04) ∷ gets 0x03 (2 ∷ []) (asks 0x04)
+    ∷ gets 0x03 (1 ∷ 0 ∷ 0 ∷ 0 ∷ 0 ∷ []) (acknowledges 0x04) ∷ gets 0x03 (2 ∷ []) (wants 0x04)
     ∷ gets 0x03 (1 ∷ 0 ∷ 0 ∷ 0 ∷ []) badSize ∷ gets 0x03 (2 ∷ 0 ∷ []) badSize
     ∷ gets 0x03 (1 ∷ 2 ∷ 6 ∷ 0 ∷ 0 ∷ []) badField ∷ gets 0x03 (1 ∷ 8 ∷ 0 ∷ 0 ∷ 0 ∷ []) badField
     ∷ gets 0x03 (3 ∷ []) badField
@@ -171,7 +171,7 @@ replyCases =
 pub record RepliesTabled : Type 0 where
   pub no-byte :
       map (λ c. replyTo c []) commandBytes
-      ≡ unlisted ∷ asks 2 ∷ boxOnly ∷ badSize ∷ boxOnly ∷ boxOnly ∷ silence ∷ acknowledges 8
+      ≡ unlisted ∷ wants 2 ∷ boxOnly ∷ badSize ∷ boxOnly ∷ boxOnly ∷ silence ∷ acknowledges 8
       ∷ boxOnly ∷ boxOnly ∷ silence ∷ boxOnly ∷ silence ∷ badSize ∷ boxOnly ∷ acknowledges 0x10
       ∷ boxOnly ∷ badSize ∷ boxOnly ∷ boxOnly ∷ silence ∷ boxOnly ∷ silence ∷ boxOnly
       ∷ badSize ∷ badSize ∷ boxOnly ∷ boxOnly ∷ silence ∷ badSize ∷ boxOnly ∷ silence
@@ -188,7 +188,7 @@ pub record RepliesTabled : Type 0 where
       ∷ badSize ∷ boxOnly ∷ badSize ∷ unlisted ∷ unlisted ∷ unlisted ∷ unlisted ∷ unlisted
       ∷ replicate 208 unlisted
   pub wrong-sum :
-      map (λ c. answerOf 1024 (row 15 []) (0 ∷ 5 ∷ c ∷ 9 ∷ 0 ∷ 0 ∷ 0 ∷ []) (replicate 12 7)) commandBytes
+      map (λ c. replyOf 1024 (row 15 []) (0 ∷ 5 ∷ c ∷ 9 ∷ 0 ∷ 0 ∷ 0 ∷ []) (replicate 12 7)) commandBytes
       ≡ replicate 256 (rejects 1 15)
   pub payloads :
       map (λ (c : ReplyCase). replyTo (c .command) (c .payload)) replyCases

@@ -31,9 +31,9 @@ use Rattle.message.specs.declared.values.Way.{Way}
 use Rattle.message.specs.declared.values.Way.the-variants as way
 use Rattle.message.specs.declared.values.Code.{Code}
 use Rattle.message.specs.declared.values.Code.the-variants as code
-use Rattle.message.specs.declared.kind.Line.{Line}
-use Rattle.message.specs.declared.kind.Due.{Due}
-use Rattle.message.specs.declared.kind.Due.the-variants.{Nothing, AskInformation, Acknowledge}
+use Rattle.message.specs.declared.kind.Profile.{Profile}
+use Rattle.message.specs.declared.kind.Owed.{Owed}
+use Rattle.message.specs.declared.kind.Owed.the-variants.{Nothing, AskInformation, Acknowledge}
 
 -- ---- the table
 
@@ -47,18 +47,18 @@ pub data Sizes : Type 0 where
   counted : ℕ → ℕ → Sizes
 
 -- a command, the sizes of its payload, and its line
-pub record CommandLine : Type 0 where
+pub record TableEntry : Type 0 where
   pub command : ℕ
   pub sizes : Sizes
-  pub line : Line
+  pub profile : Profile
 
 -- a line: the payload's kind, whether only the box sends it, and what the box answers to it without a fault
-abbrev pub lineWith : Kind → Bool → Due → Line
-lineWith kind outward owed = record { kind = kind; outward = outward; owed = owed }
+abbrev pub profileWith : Kind → Bool → Owed → Profile
+profileWith kind outward owed = record { kind = kind; outward = outward; owed = owed }
 
 -- a command's
-abbrev pub entry : ℕ → Sizes → Kind → Bool → Due → CommandLine
-entry command sizes kind outward owed = record { command = command; sizes = sizes; line = lineWith kind outward owed }
+abbrev pub entry : ℕ → Sizes → Kind → Bool → Owed → TableEntry
+entry command sizes kind outward owed = record { command = command; sizes = sizes; profile = profileWith kind outward owed }
 
 -- no payload
 abbrev pub nothing : Sizes
@@ -73,8 +73,8 @@ abbrev pub toBox : Bool
 toBox = false
 
 -- the listed commands: sizes of the payload, its kind (`layoutOf` says what it holds), who sends it, and what the box
--- answers without a fault. 03's answer is a control's; a query asks for the status instead (`dueFor`)
-unfoldable pub table : List CommandLine
+-- answers without a fault. 03's answer is a control's; a query asks for the status instead (`owedFor`)
+unfoldable pub table : List TableEntry
 table =
     entry 0x01 nothing Empty toBox AskInformation
     ∷ entry 0x02 (exactly (66 ∷ 74 ∷ 106 ∷ [])) Information byBox Nothing
@@ -117,29 +117,29 @@ table =
 -- ---- the table looked up
 
 -- the line of a command that is not there
-abbrev pub unlisted : Line
-unlisted = lineWith Unlisted toBox Nothing
+abbrev pub unlisted : Profile
+unlisted = profileWith Unlisted toBox Nothing
 
 -- a command's line among some
-unfoldable pub lineIn : List CommandLine → ℕ → Line
-lineIn [] c = unlisted
-lineIn (e ∷ es) c = cond (eqb c (e .command)) (e .line) (lineIn es c)
+unfoldable pub profileIn : List TableEntry → ℕ → Profile
+profileIn [] c = unlisted
+profileIn (e ∷ es) c = cond (eqb c (e .command)) (e .profile) (profileIn es c)
 
 -- in the table
-abbrev pub lineOf : ℕ → Line
-lineOf c = lineIn table c
+abbrev pub profileOf : ℕ → Profile
+profileOf c = profileIn table c
 
 -- a command's kind
 abbrev pub kindOf : ℕ → Kind
-kindOf c = lineOf c .kind
+kindOf c = profileOf c .kind
 
 -- "a listed command that only the box sends"
 abbrev pub fromBox : ℕ → Bool
-fromBox c = lineOf c .outward
+fromBox c = profileOf c .outward
 
 -- what the box answers to it without a fault
-abbrev pub owedOf : ℕ → Due
-owedOf c = lineOf c .owed
+abbrev pub owedOf : ℕ → Owed
+owedOf c = profileOf c .owed
 
 -- ---- fields and values
 
@@ -294,7 +294,7 @@ partsIn k p = layoutOf k .parts p
 unfoldable pub fits : Sizes → List ℕ → Bool
 fits (exactly sizes) p = among (length p) sizes
 fits (from least) p = leb least (length p)
-fits (counted before behind) p = eqb (length p) (before + 2 + twoAt p before + behind)
+fits (counted before after) p = eqb (length p) (before + 2 + twoAt p before + after)
 
 -- "SIZE: payload size not as listed", in the list and for the layout that the first byte chooses
 unfoldable pub sizeFits : Kind → List ℕ → Bool

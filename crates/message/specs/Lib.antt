@@ -7,7 +7,7 @@ pub mod Commands
 pub mod Reading
 pub mod Writing
 pub mod Table
-pub mod Answers
+pub mod Replies
 pub mod Claims
 pub mod Sizes
 pub mod Worked

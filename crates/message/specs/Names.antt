@@ -5,23 +5,23 @@ use Prim.Native.Nat.{ℕ}
 use mathlib.Core.Path.{_≡_}
 use mathlib.Core.List.{List, [], _∷_, map}
 use Rattle.base.specs.Rows.{row}
-use Rattle.base.specs.Outcomes.{Write, outcome}
+use Rattle.base.specs.Outcomes.{Output, output}
 use Rattle.message.specs.Parts.{noParts}
 use Rattle.message.specs.Reading.{got, decodeOf, readOf, partsOf}
 use Rattle.message.specs.Writing.{messageIn}
-use Rattle.message.specs.Table.{readingOf, sentRowOf, replyRowOf}
+use Rattle.message.specs.Table.{readingOf, sendRowOf, replyRowOf}
 use Rattle.message.specs.declared.values.Code.{Code}
 use Rattle.message.specs.declared.values.Code.the-variants as code
 use Rattle.message.specs.declared.values.Message.{Message}
 use Rattle.message.specs.declared.kind.Cause.{Cause}
 use Rattle.message.specs.declared.kind.Cause.the-variants as cause
 use Rattle.message.specs.declared.parts.Parts.{Parts}
-use Rattle.message.specs.declared.reader.Reading.{Reading}
-use Rattle.message.specs.declared.reader.Reading.the-variants as reading
-use Rattle.message.specs.declared.writer.Sent.{Sent}
-use Rattle.message.specs.declared.writer.Sent.the-variants as sent
-use Rattle.message.specs.declared.replies.Reply.{Reply}
-use Rattle.message.specs.declared.replies.Reply.the-variants as reply
+use Rattle.message.specs.declared.reader.ReadResult.{ReadResult}
+use Rattle.message.specs.declared.reader.ReadResult.the-variants as reading
+use Rattle.message.specs.declared.writer.SendResult.{SendResult}
+use Rattle.message.specs.declared.writer.SendResult.the-variants as sent
+use Rattle.message.specs.declared.replies.ReplyResult.{ReplyResult}
+use Rattle.message.specs.declared.replies.ReplyResult.the-variants as reply
 
 -- ---- worked-names
 
@@ -41,7 +41,7 @@ pub record WorkedNames : Type 0 where
       ≡ map (λ n. record { row = row n []; parts = noParts }) (31 ∷ 32 ∷ 33 ∷ [])
   pub sendings :
       (count : ℕ)
-      → map sentRowOf (sent.Wrote count ∷ sent.Payload ∷ sent.Room ∷ sent.Command ∷ sent.Size ∷ sent.Field ∷ [])
+      → map sendRowOf (sent.Wrote count ∷ sent.Payload ∷ sent.Room ∷ sent.Command ∷ sent.Size ∷ sent.Field ∷ [])
       ≡ row 0 (count ∷ []) ∷ row 21 (0 ∷ []) ∷ row 22 (0 ∷ []) ∷ row 31 [] ∷ row 32 [] ∷ row 33 [] ∷ []
   pub replies :
       (n : ℕ)
@@ -55,18 +55,18 @@ pub record WorkedNames : Type 0 where
       ≡ map (λ (c : ℕ). map (λ (k : ℕ). row 0 (n ∷ 0x12 ∷ c ∷ k ∷ [])) (15 ∷ 31 ∷ 32 ∷ 33 ∷ 0 ∷ []))
       (1 ∷ 2 ∷ 3 ∷ 4 ∷ [])
 
--- ---- contracts-whole: the contracts' equations fix the answer and all that is left, each by itself; what `read` gives
+-- ---- contracts-complete: the contracts' equations fix the answer and all that is left, each by itself; what `read` gives
 -- is what the claims on reading and on parts speak of
-pub record ContractsWhole : Type 0 where
+pub record ContractsComplete : Type 0 where
   pub read :
-      (r : Reading) (command : ℕ) (p : List ℕ) → readingOf r ≡ decodeOf command p
+      (r : ReadResult) (command : ℕ) (p : List ℕ) → readingOf r ≡ decodeOf command p
       → (readingOf r .row ≡ readOf command p) × (readingOf r .parts ≡ partsOf command p)
   pub got-read :
       (m : Message) (parts : Parts) (command : ℕ) (p : List ℕ) → readingOf (reading.Got m parts) ≡ decodeOf command p
       → (readOf command p ≡ row 0 (messageIn m)) × (partsOf command p ≡ parts)
   pub written :
-      (r : Sent) (after : List ℕ) (w : Write)
-      → outcome (sentRowOf r) after ≡ w → (sentRowOf r ≡ w .row) × (after ≡ w .out)
-  pub answered :
-      (r : Reply) (after : List ℕ) (w : Write)
-      → outcome (replyRowOf r) after ≡ w → (replyRowOf r ≡ w .row) × (after ≡ w .out)
+      (r : SendResult) (after : List ℕ) (w : Output)
+      → output (sendRowOf r) after ≡ w → (sendRowOf r ≡ w .row) × (after ≡ w .out)
+  pub replied :
+      (r : ReplyResult) (after : List ℕ) (w : Output)
+      → output (replyRowOf r) after ≡ w → (replyRowOf r ≡ w .row) × (after ≡ w .out)

@@ -22,13 +22,13 @@ abbrev pub refusal : ℕ → Read
 refusal n = record { row = row n []; parts = noParts }
 
 -- "Sizes before fields."
-abbrev pub judgedOf : Bool → Bool → List ℕ → Parts → Read
-judgedOf sized allows values parts = cond sized (cond allows (got values parts) (refusal 33)) (refusal 32)
+abbrev pub checkedOf : Bool → Bool → List ℕ → Parts → Read
+checkedOf sized allows values parts = cond sized (cond allows (got values parts) (refusal 33)) (refusal 32)
 
 -- "31, 32, 33"
 abbrev pub decodeAs : Kind → ℕ → List ℕ → Read
 decodeAs k command p =
-    cond (isListed k) (judgedOf (sizeFits k p) (allowed k p) (command ∷ valuesOf k p) (partsIn k p)) (refusal 31)
+    cond (isListed k) (checkedOf (sizeFits k p) (allowed k p) (command ∷ valuesOf k p) (partsIn k p)) (refusal 31)
 
 -- by the command's kind
 abbrev pub decodeOf : ℕ → List ℕ → Read

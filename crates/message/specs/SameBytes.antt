@@ -7,7 +7,7 @@ use lib.ListN.{length, getD}
 use Rattle.base.specs.Rows.{row}
 use Rattle.message.specs.Reading.{readOf}
 use Rattle.message.specs.Writing.{messageIn, payloadIn}
-use Rattle.message.specs.Claims.{lentOf}
+use Rattle.message.specs.Claims.{opaqueOf}
 use Rattle.message.specs.declared.values.Message.{Message}
 
 -- ---- same-bytes: of every message that reading gives, what is written again
@@ -15,12 +15,12 @@ use Rattle.message.specs.declared.values.Message.{Message}
 -- as many bytes, and the same for every command but 0D and a control; in these two what reading ignores is 0: the
 -- reserved bits, and each value whose flag is 0
 pub record Again (command : ℕ) (p : List ℕ) (m : Message) : Type 0 where
-  pub size : length (payloadIn m (lentOf command p)) ≡ length p
-  pub same : command ≢ 0x0D → (command ≡ 0x03 → getD p 0 0 ≢ 1) → payloadIn m (lentOf command p) ≡ p
-  pub network : command ≡ 0x0D → payloadIn m (lentOf command p) ≡ getD p 0 0 % 32 ∷ getD p 1 0 % 64 ∷ []
+  pub size : length (payloadIn m (opaqueOf command p)) ≡ length p
+  pub same : command ≢ 0x0D → (command ≡ 0x03 → getD p 0 0 ≢ 1) → payloadIn m (opaqueOf command p) ≡ p
+  pub network : command ≡ 0x0D → payloadIn m (opaqueOf command p) ≡ getD p 0 0 % 32 ∷ getD p 1 0 % 64 ∷ []
   pub control :
       command ≡ 0x03 → getD p 0 0 ≡ 1
-      → payloadIn m (lentOf command p)
+      → payloadIn m (opaqueOf command p)
       ≡ 1 ∷ getD p 1 0
       ∷ ((getD p 1 0 % 2) * (getD p 2 0 % 2) + (getD p 1 0 / 2 % 2) * (getD p 2 0 / 2) * 2)
       ∷ (getD p 1 0 / 4) * getD p 3 0 ∷ (getD p 1 0 / 4) * getD p 4 0 ∷ []

@@ -20,8 +20,8 @@ commandBytes = numbersFrom 0 256
 -- ---- worked-commands: what every command byte gives with no payload, and with one byte 0
 
 -- the table's number for each command byte, with one payload
-abbrev pub answersTo : List ℕ → List ℕ
-answersTo p = map (λ c. readOf c p .number) commandBytes
+abbrev pub readNumbers : List ℕ → List ℕ
+readNumbers p = map (λ c. readOf c p .number) commandBytes
 
 -- with no payload, by sixteen command bytes a line; no command from 30 on is listed
 abbrev pub withoutPayload : List ℕ
@@ -33,9 +33,9 @@ withoutPayload =
 
 -- by sixteen command bytes a line
 pub record WorkedCommands : Type 0 where
-  pub no-byte : answersTo [] ≡ withoutPayload
+  pub no-byte : readNumbers [] ≡ withoutPayload
   pub one-byte :
-      answersTo (0 ∷ [])
+      readNumbers (0 ∷ [])
       ≡ 31 ∷ 32 ∷ 32 ∷ 33 ∷ 33 ∷ 33 ∷ 32 ∷ 32 ∷ 32 ∷ 33 ∷ 32 ∷ 32 ∷ 32 ∷ 32 ∷ 32 ∷ 32
       ∷ 32 ∷ 33 ∷ 33 ∷ 32 ∷ 32 ∷ 32 ∷ 32 ∷ 32 ∷ 32 ∷ 32 ∷ 32 ∷ 32 ∷ 32 ∷ 32 ∷ 32 ∷ 32
       ∷ 32 ∷ 31 ∷ 31 ∷ 31 ∷ 31 ∷ 31 ∷ 31 ∷ 32 ∷ 32 ∷ 32 ∷ 32 ∷ 31 ∷ 31 ∷ 31 ∷ 31 ∷ 31
@@ -44,32 +44,32 @@ pub record WorkedCommands : Type 0 where
 -- ---- worked-sizes: the sizes that are not SIZE, of the fronts of some bytes
 
 -- of these sizes
-unfoldable pub takenOf : ℕ → List ℕ → List ℕ → List ℕ
-takenOf command p [] = []
-takenOf command p (n ∷ ns) =
-    cond (eqb (readOf command (take n p) .number) 32) (takenOf command p ns) (n ∷ takenOf command p ns)
+unfoldable pub sizesAmong : ℕ → List ℕ → List ℕ → List ℕ
+sizesAmong command p [] = []
+sizesAmong command p (n ∷ ns) =
+    cond (eqb (readOf command (take n p) .number) 32) (sizesAmong command p ns) (n ∷ sizesAmong command p ns)
 
 -- of the sizes below 120
-abbrev pub sizesTaken : ℕ → List ℕ → List ℕ
-sizesTaken command p = takenOf command (p ++ replicate 120 0) (numbersFrom 0 120)
+abbrev pub sizesRead : ℕ → List ℕ → List ℕ
+sizesRead command p = sizesAmong command (p ++ replicate 120 0) (numbersFrom 0 120)
 
 -- every command that has a payload; 03, 04 and 05 by their first byte, 19 and 1B by their count
 pub record WorkedSizes : Type 0 where
-  pub information : sizesTaken 0x02 [] ≡ 66 ∷ 74 ∷ 106 ∷ []
-  pub control : sizesTaken 0x03 (1 ∷ []) ≡ 5 ∷ []
-  pub query : sizesTaken 0x03 (2 ∷ []) ≡ 1 ∷ []
-  pub other-action : sizesTaken 0x03 (3 ∷ []) ≡ numbersFrom 1 119
-  pub status : sizesTaken 0x04 (3 ∷ []) ≡ 0 ∷ 9 ∷ []
-  pub other-status : sizesTaken 0x04 (4 ∷ []) ≡ numbersFrom 0 120
-  pub report : sizesTaken 0x05 (4 ∷ []) ≡ 9 ∷ []
-  pub other-report : sizesTaken 0x05 (3 ∷ []) ≡ numbersFrom 1 119
-  pub onboarding : sizesTaken 0x09 (1 ∷ []) ≡ 1 ∷ []
-  pub network : sizesTaken 0x0D [] ≡ 2 ∷ []
-  pub module-reject : sizesTaken 0x11 (1 ∷ []) ≡ 1 ∷ []
-  pub box-reject : sizesTaken 0x12 (1 ∷ []) ≡ 1 ∷ []
-  pub time : sizesTaken 0x18 [] ≡ 7 ∷ 11 ∷ []
-  pub announcement : sizesTaken 0x19 [] ≡ 6 ∷ []
-  pub announcement-counts : sizesTaken 0x19 (9 ∷ 9 ∷ 9 ∷ 9 ∷ 0 ∷ 16 ∷ []) ≡ 22 ∷ []
-  pub ready : sizesTaken 0x1B [] ≡ 4 ∷ []
-  pub ready-counts : sizesTaken 0x1B (0 ∷ 16 ∷ []) ≡ 20 ∷ []
-  pub piece : sizesTaken 0x1D [] ≡ numbersFrom 4 116
+  pub information : sizesRead 0x02 [] ≡ 66 ∷ 74 ∷ 106 ∷ []
+  pub control : sizesRead 0x03 (1 ∷ []) ≡ 5 ∷ []
+  pub query : sizesRead 0x03 (2 ∷ []) ≡ 1 ∷ []
+  pub other-action : sizesRead 0x03 (3 ∷ []) ≡ numbersFrom 1 119
+  pub status : sizesRead 0x04 (3 ∷ []) ≡ 0 ∷ 9 ∷ []
+  pub other-status : sizesRead 0x04 (4 ∷ []) ≡ numbersFrom 0 120
+  pub report : sizesRead 0x05 (4 ∷ []) ≡ 9 ∷ []
+  pub other-report : sizesRead 0x05 (3 ∷ []) ≡ numbersFrom 1 119
+  pub onboarding : sizesRead 0x09 (1 ∷ []) ≡ 1 ∷ []
+  pub network : sizesRead 0x0D [] ≡ 2 ∷ []
+  pub module-reject : sizesRead 0x11 (1 ∷ []) ≡ 1 ∷ []
+  pub box-reject : sizesRead 0x12 (1 ∷ []) ≡ 1 ∷ []
+  pub time : sizesRead 0x18 [] ≡ 7 ∷ 11 ∷ []
+  pub announcement : sizesRead 0x19 [] ≡ 6 ∷ []
+  pub announcement-counts : sizesRead 0x19 (9 ∷ 9 ∷ 9 ∷ 9 ∷ 0 ∷ 16 ∷ []) ≡ 22 ∷ []
+  pub ready : sizesRead 0x1B [] ≡ 4 ∷ []
+  pub ready-counts : sizesRead 0x1B (0 ∷ 16 ∷ []) ≡ 20 ∷ []
+  pub piece : sizesRead 0x1D [] ≡ numbersFrom 4 116

@@ -7,28 +7,28 @@ use Rattle.message.specs.Commands.{codeNumber}
 use Rattle.message.specs.Writing.{messageIn}
 use Rattle.message.specs.declared.kind.Cause.{Cause}
 use Rattle.message.specs.declared.kind.Cause.the-variants as cause
-use Rattle.message.specs.declared.reader.Reading.{Reading}
-use Rattle.message.specs.declared.reader.Reading.the-variants as reading
-use Rattle.message.specs.declared.writer.Sent.{Sent}
-use Rattle.message.specs.declared.writer.Sent.the-variants as sent
-use Rattle.message.specs.declared.replies.Reply.{Reply}
-use Rattle.message.specs.declared.replies.Reply.the-variants as reply
+use Rattle.message.specs.declared.reader.ReadResult.{ReadResult}
+use Rattle.message.specs.declared.reader.ReadResult.the-variants as reading
+use Rattle.message.specs.declared.writer.SendResult.{SendResult}
+use Rattle.message.specs.declared.writer.SendResult.the-variants as sent
+use Rattle.message.specs.declared.replies.ReplyResult.{ReplyResult}
+use Rattle.message.specs.declared.replies.ReplyResult.the-variants as reply
 
 -- a payload read: the message and its parts, COMMAND 31, SIZE 32, FIELD 33, which return nothing
-abbrev pub readingOf : Reading → Read
+abbrev pub readingOf : ReadResult → Read
 readingOf (reading.Got m parts) = got (messageIn m) parts
 readingOf reading.Command = refusal 31
 readingOf reading.Size = refusal 32
 readingOf reading.Field = refusal 33
 
 -- a message written: the count, PAYLOAD 21, ROOM 22, COMMAND 31, SIZE 32, FIELD 33
-abbrev pub sentRowOf : Sent → Row
-sentRowOf (sent.Wrote count) = row 0 (count ∷ [])
-sentRowOf sent.Payload = row 21 (0 ∷ [])
-sentRowOf sent.Room = row 22 (0 ∷ [])
-sentRowOf sent.Command = row 31 []
-sentRowOf sent.Size = row 32 []
-sentRowOf sent.Field = row 33 []
+abbrev pub sendRowOf : SendResult → Row
+sendRowOf (sent.Wrote count) = row 0 (count ∷ [])
+sendRowOf sent.Payload = row 21 (0 ∷ [])
+sendRowOf sent.Room = row 22 (0 ∷ [])
+sendRowOf sent.Command = row 31 []
+sendRowOf sent.Size = row 32 []
+sendRowOf sent.Field = row 33 []
 
 -- why a frame was rejected: SUM 15, COMMAND 31, SIZE 32, FIELD 33. A command that only the box sends can be read and
 -- is listed, so no refusal of the table tells of it: 0
@@ -41,7 +41,7 @@ causeNumber cause.BoxCommand = 0
 
 -- the box's answer: nothing; no bytes, and the command that the caller is asked for, with the number received;
 -- the count of an acknowledgement; the count of a 12, its command, its code and the cause; ROOM 22
-abbrev pub replyRowOf : Reply → Row
+abbrev pub replyRowOf : ReplyResult → Row
 replyRowOf reply.Nothing = row 0 []
 replyRowOf (reply.InformationWanted number) = row 0 (0 ∷ 0x02 ∷ number ∷ [])
 replyRowOf (reply.StatusWanted number) = row 0 (0 ∷ 0x04 ∷ number ∷ [])

@@ -6,7 +6,7 @@ use lib.ListN.{length, take, drop}
 use lib.Dec.{eqb, ltb, leb}
 use Rattle.base.specs.Numbers.{two, four}
 use Rattle.base.specs.Rows.{row}
-use Rattle.base.specs.Outcomes.{Write, outcome}
+use Rattle.base.specs.Outcomes.{Output, output}
 use Rattle.frame.specs.Calls.{writeOf}
 use Rattle.message.specs.Numbers.{num, eight}
 use Rattle.message.specs.Commands.{isListed, kindOf, sizeFits, wayNumber, codeNumber}
@@ -22,11 +22,11 @@ use Rattle.message.specs.declared.values.Time.{Time}
 use Rattle.message.specs.declared.values.Message.{Message}
 use Rattle.message.specs.declared.values.Message.the-variants as message
 
--- ---- payloads. `lent` are the bytes that a message takes as they are: texts, key and secret, check code, data
+-- ---- payloads. `opaque` are the bytes that a message takes as they are: texts, key and secret, check code, data
 
 -- numbers between the lent texts and key, 64 bytes, and the lent secret
 abbrev pub informationBytes : List ℕ → List ℕ → List ℕ
-informationBytes numbers lent = take 64 lent ++ (numbers ++ drop 64 lent)
+informationBytes numbers opaque = take 64 opaque ++ (numbers ++ drop 64 opaque)
 
 -- 02's numbers
 abbrev pub informationNumbers : ℕ → Extra → List ℕ
@@ -52,10 +52,10 @@ unixBytes unix.Absent = []
 unixBytes (unix.Seconds seconds) = four seconds []
 
 -- 02: texts and key have 64 bytes, the secret 32
-abbrev pub informationLent : Extra → ℕ
-informationLent extra.Absent = 64
-informationLent (extra.Attributes attributes) = 64
-informationLent (extra.AttributesAndSecret attributes) = 96
+abbrev pub informationOpaque : Extra → ℕ
+informationOpaque extra.Absent = 64
+informationOpaque (extra.Attributes attributes) = 64
+informationOpaque (extra.AttributesAndSecret attributes) = 96
 
 -- 65,535 is the most that a count in 2 bytes can say
 abbrev pub countable : ℕ → Bool
@@ -110,8 +110,8 @@ pub record Form : Type 0 where
   pub payload : List ℕ → List ℕ
 
 -- with lent bytes, and values that are all allowed
-abbrev pub lending : ℕ → List ℕ → (ℕ → Bool) → (List ℕ → List ℕ) → Form
-lending command values takes payload =
+abbrev pub opaqueForm : ℕ → List ℕ → (ℕ → Bool) → (List ℕ → List ℕ) → Form
+opaqueForm command values takes payload =
     record { command = command; values = values; read = values; takes = takes; allows = true; payload = payload }
 
 -- with nothing lent
@@ -123,7 +123,7 @@ bareRead command values read allows payload =
       read = read;
       takes = λ n. eqb n 0;
       allows = allows;
-      payload = λ lent. payload;
+      payload = λ opaque. payload;
     }
 
 -- and nothing ignored
@@ -132,9 +132,9 @@ bare command values allows payload = bareRead command values values allows paylo
 
 -- each message's
 abbrev pub formOf : Message → Form
-formOf (message.Empty command) = lending command [] (λ n. eqb n 0 && sizeFits (kindOf command) []) (λ lent. [])
+formOf (message.Empty command) = opaqueForm command [] (λ n. eqb n 0 && sizeFits (kindOf command) []) (λ opaque. [])
 formOf (message.Information timeout more) =
-    lending 0x02 (informationIn timeout more) (λ n. eqb n (informationLent more))
+    opaqueForm 0x02 (informationIn timeout more) (λ n. eqb n (informationOpaque more))
     (informationBytes (informationNumbers timeout more))
 formOf (message.Control control) =
     bareRead 0x03 (1 ∷ controlIn control) (1 ∷ controlIn (effectiveControl control)) true (1 ∷ controlBytes control)
@@ -146,10 +146,10 @@ formOf (message.Network network) = bare 0x0D (networkIn network) (ltb (network .
 formOf (message.ModuleReject code) = bare 0x11 (codeNumber code ∷ []) true (codeNumber code ∷ [])
 formOf (message.BoxReject code) = bare 0x12 (codeNumber code ∷ []) true (codeNumber code ∷ [])
 formOf (message.Time time) = bare 0x18 (timeIn time) true (timeBytes time (unixBytes (time .unix)))
-formOf (message.Announcement size) = lending 0x19 (size ∷ []) countable (λ lent. four size (two (length lent) lent))
-formOf (message.Ready piece) = lending 0x1B (piece ∷ []) countable (λ lent. two (length lent) (lent ++ two piece []))
+formOf (message.Announcement size) = opaqueForm 0x19 (size ∷ []) countable (λ opaque. four size (two (length opaque) opaque))
+formOf (message.Ready piece) = opaqueForm 0x1B (piece ∷ []) countable (λ opaque. two (length opaque) (opaque ++ two piece []))
 formOf (message.Piece index total) =
-    lending 0x1D (index ∷ total ∷ []) (λ n. true) (λ lent. two index (two total lent))
+    opaqueForm 0x1D (index ∷ total ∷ []) (λ n. true) (λ opaque. two index (two total opaque))
 
 -- a message's command
 abbrev pub commandIn : Message → ℕ
@@ -164,8 +164,8 @@ abbrev pub readIn : Message → List ℕ
 readIn m = formOf m .command ∷ formOf m .read
 
 -- whether so many lent bytes are as many as it takes
-abbrev pub lentFits : Message → ℕ → Bool
-lentFits m n = formOf m .takes n
+abbrev pub opaqueFits : Message → ℕ → Bool
+opaqueFits m n = formOf m .takes n
 
 -- whether each value is allowed
 abbrev pub allowedIn : Message → Bool
@@ -173,25 +173,25 @@ allowedIn m = formOf m .allows
 
 -- its payload
 abbrev pub payloadIn : Message → List ℕ → List ℕ
-payloadIn m lent = formOf m .payload lent
+payloadIn m opaque = formOf m .payload opaque
 
 -- ---- a message written
 
 -- "31, 32, 33", then the frame writer's "21, 22"; a refusal leaves the output
-abbrev pub sendAs : ℕ → Bool → Bool → Bool → ℕ → ℕ → ℕ → List ℕ → List ℕ → Write
+abbrev pub sendAs : ℕ → Bool → Bool → Bool → ℕ → ℕ → ℕ → List ℕ → List ℕ → Output
 sendAs limit listed sized allows command number flags payload out =
     cond listed
-    (cond sized (cond allows (writeOf limit command number flags payload out) (outcome (row 33 []) out))
-    (outcome (row 32 []) out))
-    (outcome (row 31 []) out)
+    (cond sized (cond allows (writeOf limit command number flags payload out) (output (row 33 []) out))
+    (output (row 32 []) out))
+    (output (row 31 []) out)
 
 -- a listed message that takes nothing lent
-abbrev pub sendBare : ℕ → Bool → ℕ → ℕ → ℕ → List ℕ → List ℕ → List ℕ → Write
-sendBare limit allows command number flags lent payload out =
-    sendAs limit true (eqb (length lent) 0) allows command number flags payload out
+abbrev pub sendBare : ℕ → Bool → ℕ → ℕ → ℕ → List ℕ → List ℕ → List ℕ → Output
+sendBare limit allows command number flags opaque payload out =
+    sendAs limit true (eqb (length opaque) 0) allows command number flags payload out
 
 -- a message, under a number and flags
-abbrev pub sendOf : ℕ → Message → ℕ → ℕ → List ℕ → List ℕ → Write
-sendOf limit m number flags lent out =
-    sendAs limit (isListed (kindOf (commandIn m))) (lentFits m (length lent)) (allowedIn m) (commandIn m) number flags
-    (payloadIn m lent) out
+abbrev pub sendOf : ℕ → Message → ℕ → ℕ → List ℕ → List ℕ → Output
+sendOf limit m number flags opaque out =
+    sendAs limit (isListed (kindOf (commandIn m))) (opaqueFits m (length opaque)) (allowedIn m) (commandIn m) number flags
+    (payloadIn m opaque) out

@@ -28,22 +28,22 @@ use Rattle.message.specs.declared.values.Message.the-variants as message
 -- a message, the bytes that it is lent, its command and its payload
 pub record Writing : Type 0 where
   pub message : Message
-  pub lent : List ℕ
+  pub opaque : List ℕ
   pub command : ℕ
   pub payload : List ℕ
 
 -- with nothing lent
 abbrev pub writes : Message → ℕ → List ℕ → Writing
-writes m command payload = record { message = m; lent = []; command = command; payload = payload }
+writes m command payload = record { message = m; opaque = []; command = command; payload = payload }
 
 -- with lent bytes
-abbrev pub lends : Message → List ℕ → ℕ → List ℕ → Writing
-lends m lent command payload = record { message = m; lent = lent; command = command; payload = payload }
+abbrev pub withOpaque : Message → List ℕ → ℕ → List ℕ → Writing
+withOpaque m opaque command payload = record { message = m; opaque = opaque; command = command; payload = payload }
 
 -- command and payload are as expected, case by case
 abbrev pub AsWritten : List Writing → Type 0
 AsWritten cases =
-    map (λ (c : Writing). commandIn (c .message) ∷ payloadIn (c .message) (c .lent)) cases
+    map (λ (c : Writing). commandIn (c .message) ∷ payloadIn (c .message) (c .opaque)) cases
     ≡ map (λ (c : Writing). c .command ∷ c .payload) cases
 
 -- ---- the counter
@@ -166,20 +166,20 @@ timeOf u =
 abbrev pub numberWritings : List Writing
 numberWritings =
     writes (message.Empty 0x07) 0x07 []
-    ∷ lends (message.Information 4660 extra.Absent) (replicate 64 7) 0x02 (replicate 64 7 ++ 0x12 ∷ 0x34 ∷ [])
-    ∷ lends (message.Information 4660 (extra.Attributes 72623859790382856)) (replicate 64 7) 0x02
+    ∷ withOpaque (message.Information 4660 extra.Absent) (replicate 64 7) 0x02 (replicate 64 7 ++ 0x12 ∷ 0x34 ∷ [])
+    ∷ withOpaque (message.Information 4660 (extra.Attributes 72623859790382856)) (replicate 64 7) 0x02
     (replicate 64 7 ++ 0x12 ∷ 0x34 ∷ 1 ∷ 2 ∷ 3 ∷ 4 ∷ 5 ∷ 6 ∷ 7 ∷ 8 ∷ [])
-    ∷ lends (message.Information 4660 (extra.AttributesAndSecret 72623859790382856)) (replicate 64 7 ++ replicate 32 9)
+    ∷ withOpaque (message.Information 4660 (extra.AttributesAndSecret 72623859790382856)) (replicate 64 7 ++ replicate 32 9)
     0x02 (replicate 64 7 ++ 0x12 ∷ 0x34 ∷ 1 ∷ 2 ∷ 3 ∷ 4 ∷ 5 ∷ 6 ∷ 7 ∷ 8 ∷ replicate 32 9)
     ∷ writes (timeOf unix.Absent) 0x18 (0x07 ∷ 0xEA ∷ 11 ∷ 16 ∷ 6 ∷ 34 ∷ 58 ∷ [])
     ∷ writes (timeOf (unix.Seconds 305419896)) 0x18
     (0x07 ∷ 0xEA ∷ 11 ∷ 16 ∷ 6 ∷ 34 ∷ 58 ∷ 0x12 ∷ 0x34 ∷ 0x56 ∷ 0x78 ∷ [])
-    ∷ lends (message.Announcement 305419896) (7 ∷ 8 ∷ 9 ∷ []) 0x19
+    ∷ withOpaque (message.Announcement 305419896) (7 ∷ 8 ∷ 9 ∷ []) 0x19
     (0x12 ∷ 0x34 ∷ 0x56 ∷ 0x78 ∷ 0 ∷ 3 ∷ 7 ∷ 8 ∷ 9 ∷ [])
-    ∷ lends (message.Announcement 0) (replicate 258 7) 0x19 (0 ∷ 0 ∷ 0 ∷ 0 ∷ 1 ∷ 2 ∷ replicate 258 7)
-    ∷ lends (message.Ready 4660) (7 ∷ 8 ∷ 9 ∷ []) 0x1B (0 ∷ 3 ∷ 7 ∷ 8 ∷ 9 ∷ 0x12 ∷ 0x34 ∷ [])
-    ∷ lends (message.Ready 4660) (replicate 258 7) 0x1B (1 ∷ 2 ∷ (replicate 258 7 ++ 0x12 ∷ 0x34 ∷ []))
-    ∷ lends (message.Piece 4660 22136) (7 ∷ 8 ∷ 9 ∷ []) 0x1D (0x12 ∷ 0x34 ∷ 0x56 ∷ 0x78 ∷ 7 ∷ 8 ∷ 9 ∷ [])
+    ∷ withOpaque (message.Announcement 0) (replicate 258 7) 0x19 (0 ∷ 0 ∷ 0 ∷ 0 ∷ 1 ∷ 2 ∷ replicate 258 7)
+    ∷ withOpaque (message.Ready 4660) (7 ∷ 8 ∷ 9 ∷ []) 0x1B (0 ∷ 3 ∷ 7 ∷ 8 ∷ 9 ∷ 0x12 ∷ 0x34 ∷ [])
+    ∷ withOpaque (message.Ready 4660) (replicate 258 7) 0x1B (1 ∷ 2 ∷ (replicate 258 7 ++ 0x12 ∷ 0x34 ∷ []))
+    ∷ withOpaque (message.Piece 4660 22136) (7 ∷ 8 ∷ 9 ∷ []) 0x1D (0x12 ∷ 0x34 ∷ 0x56 ∷ 0x78 ∷ 7 ∷ 8 ∷ 9 ∷ [])
     ∷ []
 
 -- ---- worked-writings
@@ -228,39 +228,39 @@ timeSpelled t more =
     t .year / 256 ∷ t .year % 256 ∷ t .month ∷ t .day ∷ t .hour ∷ t .minute ∷ t .second ∷ more
 
 -- of all messages
-pub record WritesExactly (lent : List ℕ) : Type 0 where
-  pub empty : (command : ℕ) → payloadIn (message.Empty command) lent ≡ []
+pub record WritesExactly (opaque : List ℕ) : Type 0 where
+  pub empty : (command : ℕ) → payloadIn (message.Empty command) opaque ≡ []
   pub information :
       (timeout : ℕ)
-      → payloadIn (message.Information timeout extra.Absent) lent
-      ≡ take 64 lent ++ timeout / 256 ∷ timeout % 256 ∷ drop 64 lent
+      → payloadIn (message.Information timeout extra.Absent) opaque
+      ≡ take 64 opaque ++ timeout / 256 ∷ timeout % 256 ∷ drop 64 opaque
   pub attributes :
       (timeout a : ℕ)
-      → payloadIn (message.Information timeout (extra.Attributes a)) lent
-      ≡ take 64 lent ++ timeoutAnd timeout a (drop 64 lent)
+      → payloadIn (message.Information timeout (extra.Attributes a)) opaque
+      ≡ take 64 opaque ++ timeoutAnd timeout a (drop 64 opaque)
   pub secret :
       (timeout a : ℕ)
-      → payloadIn (message.Information timeout (extra.AttributesAndSecret a)) lent
-      ≡ take 64 lent ++ timeoutAnd timeout a (drop 64 lent)
-  pub control : (c : Control) → payloadIn (message.Control c) lent ≡ 1 ∷ controlSpelled c
-  pub query : payloadIn message.Query lent ≡ 2 ∷ []
-  pub status : (s : Status) → payloadIn (message.Status s) lent ≡ 3 ∷ statusSpelled s
-  pub report : (s : Status) → payloadIn (message.Report s) lent ≡ 4 ∷ statusSpelled s
-  pub onboarding : (w : Way) → payloadIn (message.Onboarding w) lent ≡ wayNumber w ∷ []
-  pub network : (n : Network) → payloadIn (message.Network n) lent ≡ networkSpelled n
-  pub module-reject : (c : Code) → payloadIn (message.ModuleReject c) lent ≡ codeNumber c ∷ []
-  pub box-reject : (c : Code) → payloadIn (message.BoxReject c) lent ≡ codeNumber c ∷ []
-  pub time : (t : Time) → t .unix ≡ unix.Absent → payloadIn (message.Time t) lent ≡ timeSpelled t []
+      → payloadIn (message.Information timeout (extra.AttributesAndSecret a)) opaque
+      ≡ take 64 opaque ++ timeoutAnd timeout a (drop 64 opaque)
+  pub control : (c : Control) → payloadIn (message.Control c) opaque ≡ 1 ∷ controlSpelled c
+  pub query : payloadIn message.Query opaque ≡ 2 ∷ []
+  pub status : (s : Status) → payloadIn (message.Status s) opaque ≡ 3 ∷ statusSpelled s
+  pub report : (s : Status) → payloadIn (message.Report s) opaque ≡ 4 ∷ statusSpelled s
+  pub onboarding : (w : Way) → payloadIn (message.Onboarding w) opaque ≡ wayNumber w ∷ []
+  pub network : (n : Network) → payloadIn (message.Network n) opaque ≡ networkSpelled n
+  pub module-reject : (c : Code) → payloadIn (message.ModuleReject c) opaque ≡ codeNumber c ∷ []
+  pub box-reject : (c : Code) → payloadIn (message.BoxReject c) opaque ≡ codeNumber c ∷ []
+  pub time : (t : Time) → t .unix ≡ unix.Absent → payloadIn (message.Time t) opaque ≡ timeSpelled t []
   pub seconds :
-      (t : Time) (n : ℕ) → t .unix ≡ unix.Seconds n → payloadIn (message.Time t) lent ≡ timeSpelled t (inFour n [])
+      (t : Time) (n : ℕ) → t .unix ≡ unix.Seconds n → payloadIn (message.Time t) opaque ≡ timeSpelled t (inFour n [])
   pub announcement :
       (size : ℕ)
-      → payloadIn (message.Announcement size) lent ≡ inFour size (length lent / 256 ∷ length lent % 256 ∷ lent)
+      → payloadIn (message.Announcement size) opaque ≡ inFour size (length opaque / 256 ∷ length opaque % 256 ∷ opaque)
   pub ready :
       (piece : ℕ)
-      → payloadIn (message.Ready piece) lent
-      ≡ length lent / 256 ∷ length lent % 256 ∷ (lent ++ piece / 256 ∷ piece % 256 ∷ [])
+      → payloadIn (message.Ready piece) opaque
+      ≡ length opaque / 256 ∷ length opaque % 256 ∷ (opaque ++ piece / 256 ∷ piece % 256 ∷ [])
   pub piece :
       (index total : ℕ)
-      → payloadIn (message.Piece index total) lent
-      ≡ index / 256 ∷ index % 256 ∷ total / 256 ∷ total % 256 ∷ lent
+      → payloadIn (message.Piece index total) opaque
+      ≡ index / 256 ∷ index % 256 ∷ total / 256 ∷ total % 256 ∷ opaque

@@ -170,8 +170,8 @@ pub(crate) fn control_bytes(action: u8, control: Control) -> [u8; 5]
         + flagged(control.flags.mode, 2)
         + flagged(control.flags.volume, 4);
     let lamp = flagged(control.flags.lamp, flagged(control.lamp, 1));
-    let told = control.mode;
-    let mode = flagged(control.flags.mode, mode_number(told) as u16);
+    let shown = control.mode;
+    let mode = flagged(control.flags.mode, mode_number(shown) as u16);
     let volume = flagged(control.flags.volume, control.volume);
     [
         action,

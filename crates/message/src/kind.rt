@@ -1,8 +1,8 @@
 // The table of commands: what kind of payload each has, whether only the box sends it, and what the box answers to it.
 ghost use mathlib.Core.Path.{_≡_};
-ghost use Rattle.message.specs.Commands.{byBox, toBox, lineWith, lineOf};
+ghost use Rattle.message.specs.Commands.{byBox, toBox, profileWith, profileOf};
 ghost use Rattle.message.specs.Table.{causeNumber};
-ghost use Rattle.message.specs.declared.kind.Due.the-variants as due;
+ghost use Rattle.message.specs.declared.kind.Owed.the-variants as owes;
 
 // A kind of payload: what the commands that have it share.
 pub enum Kind {
@@ -32,7 +32,7 @@ pub enum Cause {
 }
 
 // What a received frame calls for.
-pub enum Due {
+pub enum Owed {
     Nothing,
     AskInformation,
     AskStatus,
@@ -41,10 +41,10 @@ pub enum Due {
 }
 
 // A command's line: `outward` where only the box sends it, and what it is owed without a fault.
-pub struct Line {
+pub struct Profile {
     pub kind: Kind,
     pub outward: bool,
-    pub owed: Due,
+    pub owed: Owed,
 }
 
 // The table's number of a cause; a command that only the box sends is no refusal of the table and has 0.
@@ -61,21 +61,21 @@ pub fn cause_number(cause: Cause) -> u8
 }
 
 // A command that only the box sends.
-fn by_box(kind: Kind) -> Line
-    ensures { λ r. ⌜ r ≡ lineWith kind byBox due.Nothing ⌝ }
+fn by_box(kind: Kind) -> Profile
+    ensures { λ r. ⌜ r ≡ profileWith kind byBox owes.Nothing ⌝ }
 {
-    Line {
+    Profile {
         kind,
         outward: true,
-        owed: Due::Nothing,
+        owed: Owed::Nothing,
     }
 }
 
 // A command that the module sends.
-fn to_box(kind: Kind, owed: Due) -> Line
-    ensures { λ r. ⌜ r ≡ lineWith kind toBox owed ⌝ }
+fn to_box(kind: Kind, owed: Owed) -> Profile
+    ensures { λ r. ⌜ r ≡ profileWith kind toBox owed ⌝ }
 {
-    Line {
+    Profile {
         kind,
         outward: false,
         owed,
@@ -83,31 +83,31 @@ fn to_box(kind: Kind, owed: Due) -> Line
 }
 
 // The line of a command.
-pub(crate) fn line_of(command: u8) -> Line
-    ensures { λ r. ⌜ r ≡ lineOf command ⌝ }
+pub(crate) fn profile_of(command: u8) -> Profile
+    ensures { λ r. ⌜ r ≡ profileOf command ⌝ }
 {
     match command {
-        0x01 => to_box(Kind::Empty, Due::AskInformation),
+        0x01 => to_box(Kind::Empty, Owed::AskInformation),
         0x02 => by_box(Kind::Information),
-        0x03 => to_box(Kind::Action, Due::Acknowledge { command: 0x04 }),
+        0x03 => to_box(Kind::Action, Owed::Acknowledge { command: 0x04 }),
         0x04 => by_box(Kind::Status),
         0x05 => by_box(Kind::Report),
         0x06 | 0x0A | 0x0C | 0x14 | 0x16 | 0x1C | 0x1F | 0x28 | 0x2A => {
-            to_box(Kind::Empty, Due::Nothing)
+            to_box(Kind::Empty, Owed::Nothing)
         }
-        0x07 => to_box(Kind::Empty, Due::Acknowledge { command: 0x08 }),
+        0x07 => to_box(Kind::Empty, Owed::Acknowledge { command: 0x08 }),
         0x08 | 0x0B | 0x0E | 0x10 | 0x13 | 0x15 | 0x17 | 0x1A | 0x1E | 0x20 | 0x27 | 0x29 => {
             by_box(Kind::Empty)
         }
         0x09 => by_box(Kind::Onboarding),
-        0x0D => to_box(Kind::Network, Due::Acknowledge { command: 0x0E }),
-        0x0F => to_box(Kind::Empty, Due::Acknowledge { command: 0x10 }),
-        0x11 => to_box(Kind::ModuleReject, Due::Nothing),
+        0x0D => to_box(Kind::Network, Owed::Acknowledge { command: 0x0E }),
+        0x0F => to_box(Kind::Empty, Owed::Acknowledge { command: 0x10 }),
+        0x11 => to_box(Kind::ModuleReject, Owed::Nothing),
         0x12 => by_box(Kind::BoxReject),
-        0x18 => to_box(Kind::Time, Due::Nothing),
-        0x19 => to_box(Kind::Announcement, Due::Nothing),
+        0x18 => to_box(Kind::Time, Owed::Nothing),
+        0x19 => to_box(Kind::Announcement, Owed::Nothing),
         0x1B => by_box(Kind::Ready),
-        0x1D => to_box(Kind::Piece, Due::Nothing),
-        _ => to_box(Kind::Unlisted, Due::Nothing),
+        0x1D => to_box(Kind::Piece, Owed::Nothing),
+        _ => to_box(Kind::Unlisted, Owed::Nothing),
     }
 }

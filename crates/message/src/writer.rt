@@ -4,7 +4,7 @@ use super::counter::Control;
 use super::counter::Status;
 use super::counter::control_bytes;
 use super::counter::status_bytes;
-use super::reader::Reading;
+use super::reader::ReadResult;
 use super::reader::read;
 use super::values::Extra;
 use super::values::Message;
@@ -13,7 +13,7 @@ use super::values::Time;
 use super::values::Unix;
 use super::values::code_number;
 use super::values::way_number;
-use frame::Written;
+use frame::WriteResult;
 ghost use mathlib.Core.Path.{_≡_};
 ghost use mathlib.Core.Bool.{true};
 ghost use mathlib.Core.List.{[], _∷_};
@@ -21,18 +21,18 @@ ghost use Prim.Native.Nat.{_<_, _≤_};
 ghost use lib.ListN.{length};
 ghost use lib.Dec.{eqb};
 ghost use Rattle.base.specs.Numbers.{two, four};
-ghost use Rattle.base.specs.Outcomes.{outcome};
-ghost use Rattle.frame.specs.Table.{writtenRowOf};
+ghost use Rattle.base.specs.Outcomes.{output};
+ghost use Rattle.frame.specs.Table.{writeRowOf};
 ghost use Rattle.frame.specs.Wire.{frameLimit};
 ghost use Rattle.message.specs.Numbers.{eight};
-ghost use Rattle.message.specs.Table.{sentRowOf};
+ghost use Rattle.message.specs.Table.{sendRowOf};
 ghost use Rattle.message.specs.Counter.{statusBytes};
 ghost use Rattle.message.specs.Writing.{sendOf, sendAs, sendBare, informationBytes, networkBytes, timeBytes};
 ghost use Rattle.message.specs.declared.values.Message.the-variants as message;
 ghost use Rattle.message.specs.declared.values.Extra.the-variants as extra;
 
 // What a message to be written is answered.
-pub enum Sent {
+pub enum SendResult {
     Wrote { count: usize },
     Payload,
     Room,
@@ -42,13 +42,13 @@ pub enum Sent {
 }
 
 // The frame writer's answer, passed on.
-fn passed_on(written: Written) -> Sent
-    ensures { λ r. ⌜ sentRowOf r ≡ writtenRowOf written ⌝ }
+fn from_written(written: WriteResult) -> SendResult
+    ensures { λ r. ⌜ sendRowOf r ≡ writeRowOf written ⌝ }
 {
     match written {
-        Written::Wrote { count } => Sent::Wrote { count },
-        Written::Payload => Sent::Payload,
-        Written::Room => Sent::Room,
+        WriteResult::Wrote { count } => SendResult::Wrote { count },
+        WriteResult::Payload => SendResult::Payload,
+        WriteResult::Room => SendResult::Room,
     }
 }
 
@@ -57,36 +57,36 @@ fn write_bare(
     command: u8,
     payload: &[u8],
     allowed: bool,
-    lent: &[u8],
+    opaque: &[u8],
     number: u8,
     flags: u16,
     out: &mut [u8],
-) -> Sent
-    ensures { λ r. ⌜ outcome (sentRowOf r) (now (out .exit))
-        ≡ sendBare frameLimit allowed command number flags (now (lent .entry))
+) -> SendResult
+    ensures { λ r. ⌜ output (sendRowOf r) (now (out .exit))
+        ≡ sendBare frameLimit allowed command number flags (now (opaque .entry))
         (now (payload .entry)) (now (out .entry)) ⌝ }
 {
-    if lent.len() != 0 {
-        return Sent::Size;
+    if opaque.len() != 0 {
+        return SendResult::Size;
     }
     if allowed {
-        return passed_on(frame::write(command, number, flags, payload, out));
+        return from_written(frame::write(command, number, flags, payload, out));
     }
-    Sent::Field
+    SendResult::Field
 }
 
 // A command without payload, where reading accepts it so.
-fn write_empty(command: u8, lent: &[u8], number: u8, flags: u16, out: &mut [u8]) -> Sent
-    ensures { λ r. ⌜ outcome (sentRowOf r) (now (out .exit))
-        ≡ sendOf frameLimit (message.Empty command) number flags (now (lent .entry)) (now (out .entry)) ⌝ }
+fn write_empty(command: u8, opaque: &[u8], number: u8, flags: u16, out: &mut [u8]) -> SendResult
+    ensures { λ r. ⌜ output (sendRowOf r) (now (out .exit))
+        ≡ sendOf frameLimit (message.Empty command) number flags (now (opaque .entry)) (now (out .entry)) ⌝ }
 {
     let none = [0u8; 0];
     let reading = read(command, &none);
     match reading {
-        Reading::Got { .. } => write_bare(command, &none, true, lent, number, flags, out),
-        Reading::Command => Sent::Command,
-        Reading::Size => Sent::Size,
-        Reading::Field => Sent::Field,
+        ReadResult::Got { .. } => write_bare(command, &none, true, opaque, number, flags, out),
+        ReadResult::Command => SendResult::Command,
+        ReadResult::Size => SendResult::Size,
+        ReadResult::Field => SendResult::Field,
     }
 }
 
@@ -114,66 +114,87 @@ fn attribute_bytes(timeout: u16, attributes: u64) -> [u8; 10]
 fn write_between(
     size: usize,
     numbers: &[u8],
-    lent: &[u8],
+    opaque: &[u8],
     number: u8,
     flags: u16,
     out: &mut [u8],
-) -> Sent
+) -> SendResult
     requires { ⌜ 64 ≤ size ⌝ }
-    ensures { λ r. ⌜ outcome (sentRowOf r) (now (out .exit))
-        ≡ sendAs frameLimit true (eqb (length (now (lent .entry))) size) true 2 number flags
-        (informationBytes (now (numbers .entry)) (now (lent .entry))) (now (out .entry)) ⌝ }
+    ensures { λ r. ⌜ output (sendRowOf r) (now (out .exit))
+        ≡ sendAs frameLimit true (eqb (length (now (opaque .entry))) size) true 2 number flags
+        (informationBytes (now (numbers .entry)) (now (opaque .entry))) (now (out .entry)) ⌝ }
 {
-    if lent.len() != size {
-        return Sent::Size;
+    if opaque.len() != size {
+        return SendResult::Size;
     }
-    passed_on(frame::write_parts(0x02, number, flags, &lent[..64], numbers, &lent[64..], out))
+    from_written(frame::write_chunks(
+        0x02,
+        number,
+        flags,
+        &opaque[..64],
+        numbers,
+        &opaque[64..],
+        out,
+    ))
 }
 
 // Information in one of its three sizes.
 fn write_information(
     timeout: u16,
     extra: Extra,
-    lent: &[u8],
+    opaque: &[u8],
     number: u8,
     flags: u16,
     out: &mut [u8],
-) -> Sent
-    ensures { λ r. ⌜ outcome (sentRowOf r) (now (out .exit))
-        ≡ sendOf frameLimit (message.Information timeout extra) number flags (now (lent .entry)) (now (out .entry)) ⌝ }
+) -> SendResult
+    ensures { λ r. ⌜ output (sendRowOf r) (now (out .exit))
+        ≡ sendOf frameLimit (message.Information timeout extra) number flags (now (opaque .entry)) (now (out .entry)) ⌝ }
 {
     match extra {
         Extra::Absent => {
             let numbers = base::two_bytes(timeout);
-            write_between(64, &numbers, lent, number, flags, out)
+            write_between(64, &numbers, opaque, number, flags, out)
         }
         Extra::Attributes { attributes } => {
             let numbers = attribute_bytes(timeout, attributes);
-            write_between(64, &numbers, lent, number, flags, out)
+            write_between(64, &numbers, opaque, number, flags, out)
         }
         Extra::AttributesAndSecret { attributes } => {
             let numbers = attribute_bytes(timeout, attributes);
-            write_between(96, &numbers, lent, number, flags, out)
+            write_between(96, &numbers, opaque, number, flags, out)
         }
     }
 }
 
 // What the counter is told to do.
-fn write_control(control: Control, lent: &[u8], number: u8, flags: u16, out: &mut [u8]) -> Sent
-    ensures { λ r. ⌜ outcome (sentRowOf r) (now (out .exit))
-        ≡ sendOf frameLimit (message.Control control) number flags (now (lent .entry)) (now (out .entry)) ⌝ }
+fn write_control(
+    control: Control,
+    opaque: &[u8],
+    number: u8,
+    flags: u16,
+    out: &mut [u8],
+) -> SendResult
+    ensures { λ r. ⌜ output (sendRowOf r) (now (out .exit))
+        ≡ sendOf frameLimit (message.Control control) number flags (now (opaque .entry)) (now (out .entry)) ⌝ }
 {
     let bytes = control_bytes(1, control);
-    write_bare(0x03, &bytes, true, lent, number, flags, out)
+    write_bare(0x03, &bytes, true, opaque, number, flags, out)
 }
 
 // A message whose payload is one byte.
-fn write_byte(command: u8, byte: u8, lent: &[u8], number: u8, flags: u16, out: &mut [u8]) -> Sent
-    ensures { λ r. ⌜ outcome (sentRowOf r) (now (out .exit))
-        ≡ sendBare frameLimit true command number flags (now (lent .entry)) (byte ∷ []) (now (out .entry)) ⌝ }
+fn write_byte(
+    command: u8,
+    byte: u8,
+    opaque: &[u8],
+    number: u8,
+    flags: u16,
+    out: &mut [u8],
+) -> SendResult
+    ensures { λ r. ⌜ output (sendRowOf r) (now (out .exit))
+        ≡ sendBare frameLimit true command number flags (now (opaque .entry)) (byte ∷ []) (now (out .entry)) ⌝ }
 {
     let bytes = [byte];
-    write_bare(command, &bytes, true, lent, number, flags, out)
+    write_bare(command, &bytes, true, opaque, number, flags, out)
 }
 
 // A status, under its command and the payload's first byte.
@@ -181,17 +202,17 @@ fn write_status(
     command: u8,
     action: u8,
     status: Status,
-    lent: &[u8],
+    opaque: &[u8],
     number: u8,
     flags: u16,
     out: &mut [u8],
-) -> Sent
-    ensures { λ r. ⌜ outcome (sentRowOf r) (now (out .exit))
-        ≡ sendBare frameLimit true command number flags (now (lent .entry)) (action ∷ statusBytes status)
+) -> SendResult
+    ensures { λ r. ⌜ output (sendRowOf r) (now (out .exit))
+        ≡ sendBare frameLimit true command number flags (now (opaque .entry)) (action ∷ statusBytes status)
         (now (out .entry)) ⌝ }
 {
     let bytes = status_bytes(action, status);
-    write_bare(command, &bytes, true, lent, number, flags, out)
+    write_bare(command, &bytes, true, opaque, number, flags, out)
 }
 
 // The bits of the module's state; the reserved ones are 0.
@@ -210,15 +231,21 @@ fn network_bytes(network: Network) -> [u8; 2]
 }
 
 // The state of the module's networks.
-fn write_network(network: Network, lent: &[u8], number: u8, flags: u16, out: &mut [u8]) -> Sent
-    ensures { λ r. ⌜ outcome (sentRowOf r) (now (out .exit))
-        ≡ sendOf frameLimit (message.Network network) number flags (now (lent .entry)) (now (out .entry)) ⌝ }
+fn write_network(
+    network: Network,
+    opaque: &[u8],
+    number: u8,
+    flags: u16,
+    out: &mut [u8],
+) -> SendResult
+    ensures { λ r. ⌜ output (sendRowOf r) (now (out .exit))
+        ≡ sendOf frameLimit (message.Network network) number flags (now (opaque .entry)) (now (out .entry)) ⌝ }
 {
     if 8 <= network.strength {
-        return write_bare(0x0D, lent, false, lent, number, flags, out);
+        return write_bare(0x0D, opaque, false, opaque, number, flags, out);
     }
     let bytes = network_bytes(network);
-    write_bare(0x0D, &bytes, true, lent, number, flags, out)
+    write_bare(0x0D, &bytes, true, opaque, number, flags, out)
 }
 
 // The time without the seconds since 1970.
@@ -256,88 +283,95 @@ fn time_bytes_and(time: Time, seconds: u32) -> [u8; 11]
 }
 
 // The network's time.
-fn write_time(time: Time, lent: &[u8], number: u8, flags: u16, out: &mut [u8]) -> Sent
-    ensures { λ r. ⌜ outcome (sentRowOf r) (now (out .exit))
-        ≡ sendOf frameLimit (message.Time time) number flags (now (lent .entry)) (now (out .entry)) ⌝ }
+fn write_time(time: Time, opaque: &[u8], number: u8, flags: u16, out: &mut [u8]) -> SendResult
+    ensures { λ r. ⌜ output (sendRowOf r) (now (out .exit))
+        ≡ sendOf frameLimit (message.Time time) number flags (now (opaque .entry)) (now (out .entry)) ⌝ }
 {
     let unix = time.unix;
     match unix {
         Unix::Absent => {
             let bytes = time_bytes(time);
-            write_bare(0x18, &bytes, true, lent, number, flags, out)
+            write_bare(0x18, &bytes, true, opaque, number, flags, out)
         }
         Unix::Seconds { seconds } => {
             let bytes = time_bytes_and(time, seconds);
-            write_bare(0x18, &bytes, true, lent, number, flags, out)
+            write_bare(0x18, &bytes, true, opaque, number, flags, out)
         }
     }
 }
 
 // Data announced, with its check code.
-fn write_announcement(size: u32, code: &[u8], number: u8, flags: u16, out: &mut [u8]) -> Sent
-    ensures { λ r. ⌜ outcome (sentRowOf r) (now (out .exit))
+fn write_announcement(size: u32, code: &[u8], number: u8, flags: u16, out: &mut [u8]) -> SendResult
+    ensures { λ r. ⌜ output (sendRowOf r) (now (out .exit))
         ≡ sendOf frameLimit (message.Announcement size) number flags (now (code .entry)) (now (out .entry)) ⌝ }
 {
     let count = code.len();
     if 65535 < count {
-        return Sent::Size;
+        return SendResult::Size;
     }
     let size_bytes = base::four_bytes(size);
     let count_bytes = base::two_bytes(count as u16);
-    passed_on(frame::write_parts(0x19, number, flags, &size_bytes, &count_bytes, code, out))
+    from_written(frame::write_chunks(0x19, number, flags, &size_bytes, &count_bytes, code, out))
 }
 
 // The box is ready for data, with its check code and the size of a piece.
-fn write_ready(piece: u16, code: &[u8], number: u8, flags: u16, out: &mut [u8]) -> Sent
-    ensures { λ r. ⌜ outcome (sentRowOf r) (now (out .exit))
+fn write_ready(piece: u16, code: &[u8], number: u8, flags: u16, out: &mut [u8]) -> SendResult
+    ensures { λ r. ⌜ output (sendRowOf r) (now (out .exit))
         ≡ sendOf frameLimit (message.Ready piece) number flags (now (code .entry)) (now (out .entry)) ⌝ }
 {
     let count = code.len();
     if 65535 < count {
-        return Sent::Size;
+        return SendResult::Size;
     }
     let count_bytes = base::two_bytes(count as u16);
     let size_bytes = base::two_bytes(piece);
-    passed_on(frame::write_parts(0x1B, number, flags, &count_bytes, code, &size_bytes, out))
+    from_written(frame::write_chunks(0x1B, number, flags, &count_bytes, code, &size_bytes, out))
 }
 
 // A piece of data.
-fn write_piece(index: u16, total: u16, bytes: &[u8], number: u8, flags: u16, out: &mut [u8]) -> Sent
-    ensures { λ r. ⌜ outcome (sentRowOf r) (now (out .exit))
+fn write_piece(
+    index: u16,
+    total: u16,
+    bytes: &[u8],
+    number: u8,
+    flags: u16,
+    out: &mut [u8],
+) -> SendResult
+    ensures { λ r. ⌜ output (sendRowOf r) (now (out .exit))
         ≡ sendOf frameLimit (message.Piece index total) number flags (now (bytes .entry)) (now (out .entry)) ⌝ }
 {
     let index_bytes = base::two_bytes(index);
     let total_bytes = base::two_bytes(total);
-    passed_on(frame::write_parts(0x1D, number, flags, &index_bytes, &total_bytes, bytes, out))
+    from_written(frame::write_chunks(0x1D, number, flags, &index_bytes, &total_bytes, bytes, out))
 }
 
 // A message as a frame at the front of the output, or refused with the output as it was.
-pub fn write(message: Message, lent: &[u8], number: u8, flags: u16, out: &mut [u8]) -> Sent
-    ensures { λ r. ⌜ outcome (sentRowOf r) (now (out .exit))
-        ≡ sendOf frameLimit message number flags (now (lent .entry)) (now (out .entry)) ⌝ }
+pub fn write(message: Message, opaque: &[u8], number: u8, flags: u16, out: &mut [u8]) -> SendResult
+    ensures { λ r. ⌜ output (sendRowOf r) (now (out .exit))
+        ≡ sendOf frameLimit message number flags (now (opaque .entry)) (now (out .entry)) ⌝ }
 {
     match message {
-        Message::Empty { command } => write_empty(command, lent, number, flags, out),
+        Message::Empty { command } => write_empty(command, opaque, number, flags, out),
         Message::Information { timeout, extra } => {
-            write_information(timeout, extra, lent, number, flags, out)
+            write_information(timeout, extra, opaque, number, flags, out)
         }
-        Message::Control { control } => write_control(control, lent, number, flags, out),
-        Message::Query => write_byte(0x03, 2, lent, number, flags, out),
-        Message::Status { status } => write_status(0x04, 3, status, lent, number, flags, out),
-        Message::Report { status } => write_status(0x05, 4, status, lent, number, flags, out),
+        Message::Control { control } => write_control(control, opaque, number, flags, out),
+        Message::Query => write_byte(0x03, 2, opaque, number, flags, out),
+        Message::Status { status } => write_status(0x04, 3, status, opaque, number, flags, out),
+        Message::Report { status } => write_status(0x05, 4, status, opaque, number, flags, out),
         Message::Onboarding { way } => {
-            write_byte(0x09, way_number(way), lent, number, flags, out)
+            write_byte(0x09, way_number(way), opaque, number, flags, out)
         }
-        Message::Network { network } => write_network(network, lent, number, flags, out),
+        Message::Network { network } => write_network(network, opaque, number, flags, out),
         Message::ModuleReject { code } => {
-            write_byte(0x11, code_number(code), lent, number, flags, out)
+            write_byte(0x11, code_number(code), opaque, number, flags, out)
         }
         Message::BoxReject { code } => {
-            write_byte(0x12, code_number(code), lent, number, flags, out)
+            write_byte(0x12, code_number(code), opaque, number, flags, out)
         }
-        Message::Time { time } => write_time(time, lent, number, flags, out),
-        Message::Announcement { size } => write_announcement(size, lent, number, flags, out),
-        Message::Ready { piece } => write_ready(piece, lent, number, flags, out),
-        Message::Piece { index, total } => { write_piece(index, total, lent, number, flags, out) }
+        Message::Time { time } => write_time(time, opaque, number, flags, out),
+        Message::Announcement { size } => write_announcement(size, opaque, number, flags, out),
+        Message::Ready { piece } => write_ready(piece, opaque, number, flags, out),
+        Message::Piece { index, total } => { write_piece(index, total, opaque, number, flags, out) }
     }
 }

@@ -1,14 +1,14 @@
 // The reader's calls and the frame writer: the row's number and its values, then the bytes held or written.
 use super::text;
-use frame::Answer;
 use frame::BodyPlace;
-use frame::Ending;
+use frame::FeedResult;
+use frame::FinishResult;
 use frame::Phase;
 use frame::Reader;
 use frame::Scan;
 use frame::Verdict;
 use frame::WirePlace;
-use frame::Written;
+use frame::WriteResult;
 
 // The reader after a record, and whether its lines were written.
 pub(crate) struct Read {
@@ -45,17 +45,17 @@ fn code_of(v: Verdict) -> u64 {
     }
 }
 
-pub(crate) fn row_of(a: Answer) -> Row {
+pub(crate) fn row_of(a: FeedResult) -> Row {
     match a {
-        Answer::More { count } => decided(0, count, WirePlace(0), WirePlace(0)),
-        Answer::Decided {
+        FeedResult::More { count } => decided(0, count, WirePlace(0), WirePlace(0)),
+        FeedResult::Decided {
             count,
             start,
             end,
             verdict,
         } => decided(code_of(verdict), count, start, end),
-        Answer::State => decided(17, 0, WirePlace(0), WirePlace(0)),
-        Answer::Used => decided(18, 0, WirePlace(0), WirePlace(0)),
+        FeedResult::State => decided(17, 0, WirePlace(0), WirePlace(0)),
+        FeedResult::Used => decided(18, 0, WirePlace(0), WirePlace(0)),
     }
 }
 
@@ -84,11 +84,11 @@ pub(crate) fn feed(reader: Reader, data: &[u8]) -> Read {
     }
 }
 
-fn ending(e: Ending) -> bool {
+fn ending(e: FinishResult) -> bool {
     match e {
-        Ending::Clean { taken } => text::line(b"end 2", &[taken.0]),
-        Ending::Open { taken, start } => text::line(b"end 16", &[taken.0, start.0]),
-        Ending::State => text::line(b"end 17 0", &[]),
+        FinishResult::Clean { consumed } => text::line(b"end 2", &[consumed.0]),
+        FinishResult::Open { consumed, start } => text::line(b"end 16", &[consumed.0, start.0]),
+        FinishResult::State => text::line(b"end 17 0", &[]),
     }
 }
 
@@ -103,15 +103,15 @@ pub(crate) fn finish(reader: Reader) -> Read {
 }
 
 // A fresh reader, but for the bytes taken so far.
-pub(crate) fn having_taken(data: &[u8]) -> Reader {
+pub(crate) fn having_consumed(data: &[u8]) -> Reader {
     let high = base::four_at(data, 0) as u64;
     let low = base::four_at(data, 4) as u64;
     Reader {
         scan: Scan {
             phase: Phase::Idle,
-            taken: WirePlace(high * 4294967296 + low),
+            consumed: WirePlace(high * 4294967296 + low),
             start: WirePlace(0),
-            have: BodyPlace(0),
+            filled: BodyPlace(0),
             length: 0,
             sum: 0,
         },
@@ -120,8 +120,8 @@ pub(crate) fn having_taken(data: &[u8]) -> Reader {
 }
 
 // The first bytes of an output, as many as are to be lent.
-pub(crate) fn lent(out: &mut [u8], room: usize) -> &mut [u8] {
-    let size = base::least(room, out.len());
+pub(crate) fn front(out: &mut [u8], room: usize) -> &mut [u8] {
+    let size = base::min(room, out.len());
     &mut out[..size]
 }
 
@@ -134,12 +134,12 @@ pub(crate) fn write(data: &[u8]) -> bool {
         base::byte_at(data, 1),
         base::two_at(data, 2),
         base::part(data, 6, data.len()),
-        lent(&mut out, room),
+        front(&mut out, room),
     );
     let shown = base::part(&out, 0, room);
     match w {
-        Written::Wrote { count } => text::line_with(b"write 0", &[count as u64], shown),
-        Written::Payload => text::line_with(b"write 21 0", &[], shown),
-        Written::Room => text::line_with(b"write 22 0", &[], shown),
+        WriteResult::Wrote { count } => text::line_with(b"write 0", &[count as u64], shown),
+        WriteResult::Payload => text::line_with(b"write 21 0", &[], shown),
+        WriteResult::Room => text::line_with(b"write 22 0", &[], shown),
     }
 }

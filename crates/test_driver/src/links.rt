@@ -1,10 +1,10 @@
 // The link's calls: the word with the row's number and its values, then the link.
 use super::place::tick_in_place;
 use super::text;
-use link::Acceptance;
-use link::Arrival;
 use link::Link;
-use link::Retry;
+use link::OfferResult;
+use link::ReceiveResult;
+use link::TickResult;
 use link::Ticked;
 use link::Wait;
 
@@ -46,32 +46,32 @@ fn ended(front: bool, link: Link) -> Linked {
     }
 }
 
-fn acceptance(a: Acceptance) -> bool {
+fn offered(a: OfferResult) -> bool {
     match a {
-        Acceptance::Accepted { number } => text::front(b"offer 0", &[number as u64]),
-        Acceptance::State => text::text(b"offer 17 0"),
-        Acceptance::Unsent => text::text(b"offer 42"),
-        Acceptance::Busy => text::text(b"offer 41"),
+        OfferResult::Accepted { number } => text::front(b"offer 0", &[number as u64]),
+        OfferResult::State => text::text(b"offer 17 0"),
+        OfferResult::Unsent => text::text(b"offer 42"),
+        OfferResult::Busy => text::text(b"offer 41"),
     }
 }
 
 fn offer(link: Link, command: u8, clock: u32) -> Linked {
     let o = link::offer(link, command, clock);
     let answer = o.answer;
-    ended(acceptance(answer), o.link)
+    ended(offered(answer), o.link)
 }
 
-fn retry(r: Retry) -> bool {
+fn retry(r: TickResult) -> bool {
     match r {
-        Retry::Nothing => text::text(b"tick 0"),
-        Retry::Again { command, number } => text::front(
+        TickResult::Nothing => text::text(b"tick 0"),
+        TickResult::Again { command, number } => text::front(
             b"tick 0 1",
             &[command as u64, number as u64],
         ),
-        Retry::GivenUp { command, number } => {
+        TickResult::GivenUp { command, number } => {
             text::front(b"tick 0 2", &[command as u64, number as u64])
         }
-        Retry::State => text::text(b"tick 17 0"),
+        TickResult::State => text::text(b"tick 17 0"),
     }
 }
 
@@ -80,18 +80,18 @@ fn ticked(t: Ticked) -> Linked {
     ended(retry(answer), t.link)
 }
 
-fn arrival(a: Arrival) -> bool {
+fn arrival(a: ReceiveResult) -> bool {
     match a {
-        Arrival::Answered { command, number } => {
+        ReceiveResult::Replied { command, number } => {
             text::front(b"answer 0", &[command as u64, number as u64])
         }
-        Arrival::State => text::text(b"answer 17 0"),
-        Arrival::Stray => text::text(b"answer 43"),
+        ReceiveResult::State => text::text(b"answer 17 0"),
+        ReceiveResult::Stray => text::text(b"answer 43"),
     }
 }
 
-fn arrive(link: Link, command: u8, number: u8) -> Linked {
-    let a = link::arrive(link, command, number);
+fn receive(link: Link, command: u8, number: u8) -> Linked {
+    let a = link::receive(link, command, number);
     let answer = a.answer;
     ended(arrival(answer), a.link)
 }
@@ -114,7 +114,7 @@ pub(crate) fn act(link: Link, operation: u8, data: &[u8]) -> Linked {
     match operation {
         128 => offer(link, a, clock),
         129 => ticked(link::tick_by_value(link, clock)),
-        130 => arrive(link, a, b),
+        130 => receive(link, a, b),
         131 => set(a, Wait::Idle),
         132 => set(
             a,

@@ -1,5 +1,5 @@
 // Messages made of a record's bytes: also those that the writer refuses, which no stream carries, and short outputs.
-use super::frames::lent;
+use super::frames::front;
 use super::messages;
 use super::text;
 use base::byte_at;
@@ -162,7 +162,7 @@ pub(crate) fn write(data: &[u8]) -> bool {
         base::part(data, 16, data.len()),
         2,
         0,
-        lent(&mut out, two_at(data, 0) as usize),
+        front(&mut out, two_at(data, 0) as usize),
     );
     messages::sent(s, &out) && text::bytes(base::part(&out, 0, 3)) && text::text(b"\n")
 }
@@ -170,11 +170,11 @@ pub(crate) fn write(data: &[u8]) -> bool {
 // The box's answer to a frame, into so many bytes: room in two, command, number, payload.
 pub(crate) fn answer(data: &[u8]) -> bool {
     let mut out = [170u8; 16];
-    let r = message::answer_frame(
+    let r = message::reply_frame(
         byte_at(data, 2),
         byte_at(data, 3),
         base::part(data, 4, data.len()),
-        lent(&mut out, two_at(data, 0) as usize),
+        front(&mut out, two_at(data, 0) as usize),
     );
     messages::reply(r, &out) && text::text(b"\n")
 }

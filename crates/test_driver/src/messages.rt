@@ -4,9 +4,9 @@ use message::Control;
 use message::Extra;
 use message::Message;
 use message::Network;
-use message::Reading;
-use message::Reply;
-use message::Sent;
+use message::ReadResult;
+use message::ReplyResult;
+use message::SendResult;
 use message::Status;
 use message::Time;
 use message::Unix;
@@ -116,12 +116,12 @@ fn values(m: Message) -> bool {
     }
 }
 
-pub(crate) fn reading(r: Reading) -> bool {
+pub(crate) fn reading(r: ReadResult) -> bool {
     match r {
-        Reading::Got { message: m, .. } => values(m),
-        Reading::Command => text::text(b"read 31\n"),
-        Reading::Size => text::text(b"read 32\n"),
-        Reading::Field => text::text(b"read 33\n"),
+        ReadResult::Got { message: m, .. } => values(m),
+        ReadResult::Command => text::text(b"read 31\n"),
+        ReadResult::Size => text::text(b"read 32\n"),
+        ReadResult::Field => text::text(b"read 33\n"),
     }
 }
 
@@ -131,33 +131,33 @@ fn wrote(word: &[u8], values: &[u64], out: &[u8], count: usize) -> bool {
 }
 
 // The row and what was written, with no line end.
-pub(crate) fn sent(s: Sent, out: &[u8]) -> bool {
+pub(crate) fn sent(s: SendResult, out: &[u8]) -> bool {
     match s {
-        Sent::Wrote { count } => wrote(b"write 0", &[count as u64], out, count),
-        Sent::Payload => text::text(b"write 21 0"),
-        Sent::Room => text::text(b"write 22 0"),
-        Sent::Command => text::text(b"write 31"),
-        Sent::Size => text::text(b"write 32"),
-        Sent::Field => text::text(b"write 33"),
+        SendResult::Wrote { count } => wrote(b"write 0", &[count as u64], out, count),
+        SendResult::Payload => text::text(b"write 21 0"),
+        SendResult::Room => text::text(b"write 22 0"),
+        SendResult::Command => text::text(b"write 31"),
+        SendResult::Size => text::text(b"write 32"),
+        SendResult::Field => text::text(b"write 33"),
     }
 }
 
 // The same of an answer; one that has no room shows that the output stayed.
-pub(crate) fn reply(r: Reply, out: &[u8]) -> bool {
+pub(crate) fn reply(r: ReplyResult, out: &[u8]) -> bool {
     match r {
-        Reply::Nothing => text::text(b"answer 0"),
-        Reply::InformationWanted { number } => text::front(b"answer 0 0 2", &[number as u64]),
-        Reply::StatusWanted { number } => text::front(b"answer 0 0 4", &[number as u64]),
-        Reply::Acknowledged { count } => wrote(b"answer 0", &[count as u64], out, count),
-        Reply::Rejected { count, code, cause } => {
-            let told = [
+        ReplyResult::Nothing => text::text(b"answer 0"),
+        ReplyResult::InformationWanted { number } => text::front(b"answer 0 0 2", &[number as u64]),
+        ReplyResult::StatusWanted { number } => text::front(b"answer 0 0 4", &[number as u64]),
+        ReplyResult::Acknowledged { count } => wrote(b"answer 0", &[count as u64], out, count),
+        ReplyResult::Rejected { count, code, cause } => {
+            let values = [
                 count as u64,
                 18,
                 code_number(code) as u64,
                 cause_number(cause) as u64,
             ];
-            wrote(b"answer 0", &told, out, count)
+            wrote(b"answer 0", &values, out, count)
         }
-        Reply::Room => wrote(b"answer 22 0", &[], out, 3),
+        ReplyResult::Room => wrote(b"answer 22 0", &[], out, 3),
     }
 }

@@ -1,7 +1,7 @@
 // The reader and the link that the program holds, record by record.
 use super::frames;
 use super::frames::Read;
-use super::frames::lent;
+use super::frames::front;
 use super::links;
 use super::made;
 use super::stream;
@@ -14,7 +14,7 @@ use link::Link;
 struct State {
     reader: Reader,
     link: Link,
-    goes_on: bool,
+    keep_going: bool,
 }
 
 // The reader that is held from then on.
@@ -27,7 +27,7 @@ fn act(reader: Reader, operation: u8, data: &[u8]) -> Read {
     match operation {
         1 => frames::feed(reader, data),
         2 => frames::finish(reader),
-        3 => held(frames::having_taken(data), text::text(b"set\n")),
+        3 => held(frames::having_consumed(data), text::text(b"set\n")),
         4 => held(reader, frames::write(data)),
         5 => stream::play(reader, data),
         6 => held(reader, made::write(data)),
@@ -43,18 +43,18 @@ fn turn(mut s: State, operation: u8, data: &[u8]) -> State {
         let r = act(s.reader, operation, data);
         let reader = r.reader;
         s.reader = reader;
-        s.goes_on = r.written;
+        s.keep_going = r.written;
     } else {
         let l = links::act(s.link, operation, data);
         let link = l.link;
         s.link = link;
-        s.goes_on = l.written;
+        s.keep_going = l.written;
     }
     s
 }
 
 fn stop(mut s: State) -> State {
-    s.goes_on = false;
+    s.keep_going = false;
     s
 }
 
@@ -68,7 +68,7 @@ fn next(s: State, data: &mut [u8]) -> State {
     if data.len() < size {
         return stop(s);
     }
-    if io::read_full(STDIN_FILENO, lent(data, size)) < size {
+    if io::read_full(STDIN_FILENO, front(data, size)) < size {
         return stop(s);
     }
     turn(s, head[0], base::part(data, 0, size))
@@ -79,12 +79,12 @@ pub(crate) fn records(data: &mut [u8]) {
     let mut s = State {
         reader: Reader::new(),
         link: Link::new(),
-        goes_on: true,
+        keep_going: true,
     };
     let mut turns = u64::MAX;
     while turns > 0 {
         s = next(s, data);
-        if !s.goes_on {
+        if !s.keep_going {
             return;
         }
         turns -= 1;

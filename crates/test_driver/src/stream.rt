@@ -3,13 +3,13 @@ use super::frames;
 use super::frames::Read;
 use super::messages;
 use super::text;
-use frame::Answer;
+use frame::FeedResult;
 use frame::Reader;
 use message::Message;
 use message::Parts;
 use message::Place;
-use message::Reading;
-use message::Reply;
+use message::ReadResult;
+use message::ReplyResult;
 
 fn part(at: u64, place: Place, payload: &[u8]) -> bool {
     let bytes = message::part(payload, place);
@@ -38,7 +38,7 @@ fn joined(front: &[u8], back: &[u8], at: usize) -> u8 {
     base::byte_at(back, at - front.len())
 }
 
-// The texts and the key, which lie together, and the secret, which lies apart: it is lent behind them.
+// The texts and the key, which lie together, and the secret, which lies apart: it is opaque behind them.
 fn join(front: &[u8], back: &[u8], out: &mut [u8]) {
     let mut i = 0;
     while i < out.len() {
@@ -47,9 +47,9 @@ fn join(front: &[u8], back: &[u8], out: &mut [u8]) {
     }
 }
 
-fn sent(m: Message, lent: &[u8], number: u8, flags: u16) -> bool {
+fn sent(m: Message, opaque: &[u8], number: u8, flags: u16) -> bool {
     let mut out = [0u8; 2054];
-    let s = message::write(m, lent, number, flags, &mut out);
+    let s = message::write(m, opaque, number, flags, &mut out);
     messages::sent(s, &out) && text::text(b"\n")
 }
 
@@ -59,12 +59,12 @@ fn information(m: Message, p: Parts, payload: &[u8], number: u8, flags: u16) -> 
     if secret.size == 0 {
         return sent(m, texts, number, flags);
     }
-    let mut lent = [0u8; 96];
-    join(texts, message::part(payload, secret), &mut lent);
-    sent(m, &lent, number, flags)
+    let mut opaque = [0u8; 96];
+    join(texts, message::part(payload, secret), &mut opaque);
+    sent(m, &opaque, number, flags)
 }
 
-// The message that was read, written again: what was handed out of the payload is lent.
+// The message that was read, written again: what was handed out of the payload is opaque.
 fn again(m: Message, p: Parts, payload: &[u8], number: u8, flags: u16) -> bool {
     match m {
         Message::Information { .. } => information(m, p, payload, number, flags),
@@ -88,7 +88,7 @@ fn received(body: &[u8]) -> bool {
         &[command as u64, number as u64, flags as u64, size],
     )
         && messages::reading(r);
-    if let Reading::Got {
+    if let ReadResult::Got {
         message: m,
         parts: p,
     } = r {
@@ -97,29 +97,29 @@ fn received(body: &[u8]) -> bool {
     shown
 }
 
-fn replied(r: Reply, out: &[u8]) -> bool {
+fn replied(r: ReplyResult, out: &[u8]) -> bool {
     messages::reply(r, out) && text::text(b"\n")
 }
 
 // An answer where none is expected.
-fn unless_nothing(r: Reply, out: &[u8]) -> bool {
+fn unless_nothing(r: ReplyResult, out: &[u8]) -> bool {
     match r {
-        Reply::Nothing => true,
+        ReplyResult::Nothing => true,
         _ => replied(r, out),
     }
 }
 
-fn decided(answer: Answer, body: &[u8]) -> bool {
+fn decided(answer: FeedResult, body: &[u8]) -> bool {
     let mut out = [0u8; 16];
     let row = frames::row_of(answer);
     let number = row.number;
     match number {
-        1 => received(body) && replied(message::answer(answer, body, &mut out), &out),
+        1 => received(body) && replied(message::reply(answer, body, &mut out), &out),
         15 => {
             text::line(b"sum", &[frame::number(body) as u64])
-                && replied(message::answer(answer, body, &mut out), &out)
+                && replied(message::reply(answer, body, &mut out), &out)
         }
-        _ => unless_nothing(message::answer(answer, body, &mut out), &out),
+        _ => unless_nothing(message::reply(answer, body, &mut out), &out),
     }
 }
 

@@ -2,10 +2,10 @@
 use mathlib.Core.Path.{ap}
 use native.Mathlib.Omega.{arith}
 use borrow.Author.Needs.{needs}
-use Rattle.base.specs.Outcomes.{Write}
+use Rattle.base.specs.Outcomes.{Output}
 use Rattle.frame.specs.Wire.{frameLimit}
 use Rattle.firmware.specs.Code.{countIn, returnedOf}
-use Rattle.firmware.specs.Claims.{Given, answered}
+use Rattle.firmware.specs.Claims.{Arguments, outputOf}
 use Rattle.firmware.proofs.Codes.{counts-below}
 use Rattle.firmware.proofs.trogonreed_write_frame.Statement.{statement}
 use Rattle.firmware.proofs.trogonreed_write_frame.Tie as tie
@@ -25,16 +25,16 @@ cast-result : tie.Need-cast-result
 cast-result c =
     let w = c .before .before .before .before .before in
     let args = w .before .before .before .before .args in
-    let given : Given = record {
+    let arguments : Arguments = record {
       command = args .command;
       number = args .number;
       flags = args .flags;
       payload = args .payload .now;
       out = args .out .now;
     } in
-    let count = ap (λ (a : Write). countIn (a .row)) {y =
-    answered frameLimit given} (rw (c .before .written .given .1) at (w .write .ensures)) in
-    record { fits = omega (arith, counts-below .ours given, count) }
+    let count = ap (λ (a : Output). countIn (a .row)) {y =
+    outputOf frameLimit arguments} (rw (c .before .written .given .1) at (w .write .ensures)) in
+    record { fits = omega (arith, counts-below .ours arguments, count) }
 
 pub trogonreed-write-frame-spec : {M : Type 1} → statement M
 trogonreed-write-frame-spec =

@@ -15,8 +15,8 @@ cut b start from size to e f = rw (← e, f, ← length-drop from b) (take-min s
 
 returns : tie.Need-returns
 returns c =
-    let from = c .before .before .least in
-    let count = c .before .least2 in
+    let from = c .before .before .min in
+    let count = c .before .min2 in
     let args = c .before .before .before .before .args in
     record {
       bytes = cut (args .bytes .now) (args .start) (from .result) (args .size) (from .result + count .result)

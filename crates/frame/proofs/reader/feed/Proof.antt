@@ -23,7 +23,7 @@ scan c = scanOf (c .before .before .before .before .args .reader .scan)
 ranged : (c : tie.Else1) → inRangeOf frameLimit (scan c) ≡ true
 ranged c = sym (c .before .in-range .ensures) ∙ not-false _ (c .if1 .left)
 
-room : (c : tie.Else1) → Ready frameLimit (scan c) (2 ^ 62 - scan c .taken)
+room : (c : tie.Else1) → Ready frameLimit (scan c) (2 ^ 62 - scan c .consumed)
 room c = in-range frameLimit (scan c) (omega arith) (ranged c)
 
 sub-if2 : tie.Need-sub-if2
@@ -32,7 +32,7 @@ sub-if2 c = omega (arith, room (c .before))
 returns-2 : tie.Need-returns-2
 returns-2 c =
     let args = c .before .before .before .before .before .before .args in
-    let over : 2 ^ 62 < args .reader .scan .taken .0 + length (args .bytes .now) =
+    let over : 2 ^ 62 < args .reader .scan .consumed .0 + length (args .bytes .now) =
     omega (arith, room (c .before .before)) in
     simp (ranged (c .before .before), lt-leb _ _ over)
 

@@ -17,24 +17,24 @@ on-ff-spec =
       c .silent .ensures,
       c .before .half .ensures,
       c .before .before .enum-told .given .1,
-      c .before .before .before .before .behind .ensures,
+      c .before .before .before .before .next-place .ensures,
     ))
     (λ c. simp (
       c .silent2 .ensures,
       c .before .header .ensures,
       c .before .before .enum-told2 .given .1,
-      c .before .before .before .before .behind .ensures,
+      c .before .before .before .before .next-place .ensures,
     ))
     (λ c. simp (
       c .silent3 .ensures,
       c .before .header2 .ensures,
       c .before .before .enum-told3 .given .1,
-      c .before .before .before .before .behind .ensures,
+      c .before .before .before .before .next-place .ensures,
     ))
     (λ c. simp (
       c .silent4 .ensures,
       c .before .escape .ensures,
       c .before .before .enum-told4 .given .1,
-      c .before .before .before .before .behind .ensures,
+      c .before .before .before .before .next-place .ensures,
     ))
-    λ c. simp (c .cut .ensures, c .before .enum-told5 .given .1, c .before .before .before .behind .ensures))
+    λ c. simp (c .cut .ensures, c .before .enum-told5 .given .1, c .before .before .before .next-place .ensures))

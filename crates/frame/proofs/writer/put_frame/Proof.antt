@@ -5,14 +5,14 @@ use mathlib.Core.List.{List, [], _∷_}
 use native.Mathlib.Omega.{arith}
 use borrow.Author.Needs.{needs}
 use lib.ListN.{length, length-set}
-use Rattle.frame.specs.Wire.{stuff, joinedParts}
+use Rattle.frame.specs.Wire.{stuff, joinedChunks}
 use Rattle.frame.proofs.Writing.{put-append, put-framed, framed-length}
 use Rattle.frame.proofs.writer.put_frame.Statement.{statement}
 use Rattle.frame.proofs.writer.put_frame.Tie as tie
 
 module _ (s : tie.Start) where
   abbrev payload : List ℕ
-  payload = joinedParts (s .args .first .now) (s .args .second .now) (s .args .third .now)
+  payload = joinedChunks (s .args .first .now) (s .args .second .now) (s .args .third .now)
 
   -- the room that the parts need
   room : 2 + length (stuff (s .args .t2)) + length (stuff payload)
@@ -23,10 +23,10 @@ module _ (s : tie.Start) where
 abbrev start : tie.After-put-bytes → tie.Start
 start c = c .before .before .before .before .before .before .before
 
-abbrev head : tie.After-put-parts → tie.After-put-bytes
+abbrev head : tie.After-put-chunks → tie.After-put-bytes
 head c = c .before .before .before .before
 
-abbrev parts : tie.After-put-byte → tie.After-put-parts
+abbrev parts : tie.After-put-byte → tie.After-put-chunks
 parts c = c .before .before .before .before
 
 -- the first call leaves the output as long as it came
@@ -39,8 +39,8 @@ slice-write-out-2 c = simp length-set (omega arith)
 put-bytes-requires : tie.Need-put-bytes-requires
 put-bytes-requires c κs = simp length-set (omega (arith, room (c .before .before .before .before .before .before)))
 
-put-parts-requires : tie.Need-put-parts-requires
-put-parts-requires c κs =
+put-chunks-requires : tie.Need-put-chunks-requires
+put-chunks-requires c κs =
     let h = c .before .before .before in
     omega (arith, room (start h), kept h)
 
@@ -54,9 +54,9 @@ returns c =
     let sum = c .before .before in
     let h = head (parts sum) in
     let s = start h in
-    let behind =
-    put-append _ (payload s) (s .args .sum ∷ []) _ (parts sum .put-parts .ensures) (sum .put-byte .ensures) in
-    put-framed (s .args .out .now) _ (put-append _ (s .args .t2) _ 2 (h .put-bytes .ensures) behind)
+    let stuffAfter =
+    put-append _ (payload s) (s .args .sum ∷ []) _ (parts sum .put-chunks .ensures) (sum .put-byte .ensures) in
+    put-framed (s .args .out .now) _ (put-append _ (s .args .t2) _ 2 (h .put-bytes .ensures) stuffAfter)
 
 pub put-frame-spec : {M : Type 1} → statement M
 put-frame-spec =
@@ -66,7 +66,7 @@ put-frame-spec =
     slice-write-out-2
     (λ c. search needs)
     put-bytes-requires
-    put-parts-requires
+    put-chunks-requires
     put-byte-requires
     (λ c. omega (arith, kept (head (parts (c .before .before)))))
     returns)

@@ -4,10 +4,10 @@ use mathlib.Core.List.{List, [], _∷_}
 use native.Mathlib.Omega.{arith}
 use borrow.Author.Needs.{needs}
 use lib.ListN.{length}
-use Rattle.frame.specs.Wire.{stuff, joinedParts}
+use Rattle.frame.specs.Wire.{stuff, joinedChunks}
 use Rattle.frame.proofs.Stuffing.{stuff-bound}
 use Rattle.base.proofs.Sums.{sum-append}
-use Rattle.frame.proofs.Writing.{parts-length, stuffed-length, framed-length}
+use Rattle.frame.proofs.Writing.{chunks-length, stuffed-length, framed-length}
 use Rattle.frame.proofs.writer.sized.Statement.{statement}
 use Rattle.frame.proofs.writer.sized.Tie as tie
 
@@ -30,7 +30,7 @@ module _ (c : tie.Start) where
   small =
       omega (
         arith,
-        parts-length first second third,
+        chunks-length first second third,
         stuff-bound head,
         stuff-bound first,
         stuff-bound second,
@@ -63,7 +63,7 @@ returns c =
     let sum = m .measured4 .result .sum in
     omega (
       arith,
-      framed-length (head s) (joinedParts (first s) (second s) (third s)) sum,
+      framed-length (head s) (joinedChunks (first s) (second s) (third s)) sum,
       stuffed-length (first s) (second s) (third s),
     )
 

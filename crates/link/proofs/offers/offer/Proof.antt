@@ -5,20 +5,20 @@ use mathlib.Core.Path.{_≡_, _∙_}
 use mathlib.Core.Bool.{true}
 use Rattle.link.specs.declared.state.Link.{Link}
 use Rattle.link.specs.declared.state.Wait.the-variants.{Idle}
-use Rattle.link.specs.Sending.{firstNumber, mostRepeats, mayWait}
+use Rattle.link.specs.Sending.{firstNumber, maxRepeats, mayWait}
 use Rattle.link.specs.Calls.{inRange, acceptOf, offerOf}
 use Rattle.base.proofs.Tests.{past, caught}
 use Rattle.link.proofs.offers.offer.Statement.{statement}
 use Rattle.link.proofs.offers.offer.Tie as tie
 
 -- an idle link in range takes a command that may be sent
-taken : (l : Link) (command clock : ℕ) → inRange firstNumber mostRepeats l ≡ true → mayWait command ≡ true
-    → l .wait ≡ Idle → acceptOf firstNumber (l .next) command clock ≡ offerOf firstNumber mostRepeats l command clock
+taken : (l : Link) (command clock : ℕ) → inRange firstNumber maxRepeats l ≡ true → mayWait command ≡ true
+    → l .wait ≡ Idle → acceptOf firstNumber (l .next) command clock ≡ offerOf firstNumber maxRepeats l command clock
 taken l command clock r s w = simp (r, s) (simp w)
 
 -- past both guards the link is in range, and the command may be sent
 module _ (c : tie.Else2) where
-  ranged : inRange firstNumber mostRepeats (c .before .before .before .before .args .link) ≡ true
+  ranged : inRange firstNumber maxRepeats (c .before .before .before .before .args .link) ≡ true
   ranged = past (c .before .before .before .in-range .ensures) (c .before .before .if1 .left)
 
   sent : mayWait (c .before .before .before .before .args .command) ≡ true

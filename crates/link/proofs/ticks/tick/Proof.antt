@@ -45,15 +45,15 @@ use denote.Triple.Table.{entered, cited}
 use denote.Triple.Walked.{says, Stays, stay-ref, stay-none, walkOf, goes-none, goes-ref, Walks, ends-at, walked}
 use denote.Triple.Walked.{walk-meets}
 use denote.Exit.{yes}
-use Rattle.link.specs.Sending.{firstNumber, mostRepeats}
+use Rattle.link.specs.Sending.{firstNumber, maxRepeats}
 use Rattle.link.specs.Calls.{tickOf, tickedOf}
 use Rattle.link.specs.declared.state.Link.{Link}
-use Rattle.link.specs.declared.ticks.Retry.{Retry}
+use Rattle.link.specs.declared.ticks.TickResult.{TickResult}
 use Rattle.link.specs.declared.ticks.Ticked.{Ticked}
 use Rattle.link.proofs.state.Link as L
 use Rattle.link.proofs.state.Link.Laws as L′
-use Rattle.link.proofs.ticks.Retry as R
-use Rattle.link.proofs.ticks.Retry.Laws as R′
+use Rattle.link.proofs.ticks.TickResult as R
+use Rattle.link.proofs.ticks.TickResult.Laws as R′
 use Rattle.link.proofs.ticks.Ticked as T
 use Rattle.link.proofs.ticks.Ticked.Laws as T′
 use Rattle.link.proofs.ticks.tick_by_value as tick-by-value
@@ -75,7 +75,7 @@ stayed = (stay-ref (0 ∷ []) tt (plain (λ _. L.the-row)), (stay-none (λ _. u3
 abbrev link-vals : Link → List Val
 link-vals = LL.vals L.the-type L′.the-laws
 
-abbrev answer-val : Retry → Val
+abbrev answer-val : TickResult → Val
 answer-val = EL.val R.the-type R′.the-laws
 
 -- what whoever holds a `Ticked` knows of its answer and of its link
@@ -93,10 +93,10 @@ module _ {M : Type 1} (𝓤 : URA M) (H : Heap 𝓤) (A : Atoms 𝓤) (mem : Mem
   -- of its `ensured`, the clause alone: it has no `&mut`, so what is said of last values is dropped
   ticked-of : (h : Link) (n : ℕ) (r : Ticked)
       → ent 𝓤 (ensured 𝓤 H A tick-by-value.ended (tick-by-value.clauses 𝓤 H A mem run) tt (h, (n, tt)) tt r) (fact 𝓤
-      (tickedOf r ≡ tickOf firstNumber mostRepeats h n))
+      (tickedOf r ≡ tickOf firstNumber maxRepeats h n))
   ticked-of h n r =
       exE 𝓤 _ (λ ws. snd∗ 𝓤 (sem 𝓤 H A (lasts tick-by-value.ended tt (h, (n, tt)) ws))
-      (fact 𝓤 (tickedOf r ≡ tickOf firstNumber mostRepeats h n)))
+      (fact 𝓤 (tickedOf r ≡ tickOf firstNumber maxRepeats h n)))
 
 module _ {M : Type 1} (𝓤 : URA M) (H : Heap 𝓤) (A : Atoms 𝓤) (W : Given 𝓤 H A) (at-mem : Memory → SProp 𝓤)
     (run : Routine → Fun 𝓤) (κ : Lft) (q : Share) (b o : ℕ) (γ : GName) (h : Link) (n : ℕ) (fits : n < 2 ^ 32) where
@@ -110,7 +110,7 @@ module _ {M : Type 1} (𝓤 : URA M) (H : Heap 𝓤) (A : Atoms 𝓤) (W : Given
   Post = walkOf 𝓤 H A tick.ended stayed (tick.clauses 𝓤 H A at-mem run) .post (((κ, tt), (q, tt), tt, x, at), tt)
 
   -- what stands at the exit: the answer is returned, and the reference's last value is the link
-  exits : (r : Ticked) (v : Val) → Is T.the-row r (v ∷ []) → tickedOf r ≡ tickOf firstNumber mostRepeats h n
+  exits : (r : Ticked) (v : Val) → Is T.the-row r (v ∷ []) → tickedOf r ≡ tickOf firstNumber maxRepeats h n
       → ent 𝓤 (sep 𝓤 (A .obs γ (L.the-row .coded .code (r .link)))
       (sep 𝓤 (A .bor κ (Body (mem L.the-row) b o γ)) (A .lft κ q))) (Post (answer-val (r .answer)))
   exits r v is e =
@@ -160,8 +160,8 @@ module _ {M : Type 1} (𝓤 : URA M) (H : Heap 𝓤) (A : Atoms 𝓤) (W : Given
         use1 W (later (some (λ (r : Ticked). (‵ ftrue ⊛ ‵ (T.the-row .own r (v ∷ []))) ⊛ raw (ensured 𝓤 H A
         tick-by-value.ended (tick-by-value.clauses 𝓤 H A at-mem run) tt (h, (n, tt)) tt r)))) (id⊢ 𝓤 _) $
         await ! tt $ pick ! (λ r.
-        split ! $ move ! (1 ∷ []) $ use1 W (raw (fact 𝓤 (tickedOf r ≡ tickOf firstNumber mostRepeats h n))) (ticked-of 𝓤
-        H A at-mem run h n r) $ heard ! (tickedOf r ≡ tickOf firstNumber mostRepeats h n) (λ e. split ! $ drop ! $
+        split ! $ move ! (1 ∷ []) $ use1 W (raw (fact 𝓤 (tickedOf r ≡ tickOf firstNumber maxRepeats h n))) (ticked-of 𝓤
+        H A at-mem run h n r) $ heard ! (tickedOf r ≡ tickOf firstNumber maxRepeats h n) (λ e. split ! $ drop ! $
         facts ! T.the-row (Is T.the-row) (shows 𝓤 H A T.the-row) r (v ∷ []) (λ is.
         land ! (from ! (stop !)) (init ! 6 refl (LL.lawful T.the-type T′.the-laws 𝓤 H A W .typed r _ is .0)) $ rewrite !
         6 (λ (u : Val). ‵ (fat fullShare T′.mir l₃ 0 u)) (ap only (LL.tells T.the-type T′.the-laws r _ is)) refl $

@@ -2,14 +2,14 @@
 use borrow.Author.Needs.{needs}
 use mathlib.Core.Path.{_≡_}
 use mathlib.Core.Bool.{true}
-use Rattle.link.specs.Sending.{firstNumber, mostRepeats}
+use Rattle.link.specs.Sending.{firstNumber, maxRepeats}
 use Rattle.link.specs.Calls.{inRange}
 use Rattle.base.proofs.Tests.{past, caught}
 use Rattle.link.proofs.ticks.tick_by_value.Statement.{statement}
 use Rattle.link.proofs.ticks.tick_by_value.Tie as tie
 
 -- past the guard the link is in range
-ranged : (c : tie.Else1) → inRange firstNumber mostRepeats (c .before .before .args .link) ≡ true
+ranged : (c : tie.Else1) → inRange firstNumber maxRepeats (c .before .before .args .link) ≡ true
 ranged c = past (c .before .in-range .ensures) (c .if1 .left)
 
 pub tick-by-value-spec : {M : Type 1} → statement M
@@ -20,7 +20,7 @@ tick-by-value-spec =
     (λ c. simp (caught (c .before .in-range .ensures) (c .if1 .taken)))
     (search needs) (search needs) (search needs) (search needs)
     (λ c. let at = c .before .before .before .before in simp (ranged (at .before .before))
-    (simp (at .wait .given .1, c .due .ensures, ← c .before .before .is-due .ensures, c .before .if2 .taken)))
+    (simp (at .wait .given .1, c .due-tick .ensures, ← c .before .before .is-due .ensures, c .before .if2 .taken)))
     (λ c. simp (ranged (c .before .before)) (simp (c .enum-told .given .1)))
     λ c. let at = c .before .before .before in
     simp (ranged (at .before .before)) (simp (at .wait .given .1, ← c .before .is-due .ensures, c .if2 .left)))

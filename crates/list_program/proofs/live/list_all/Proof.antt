@@ -14,10 +14,10 @@ use Rattle.list_program.proofs.live.list_all.Statement.{statement}
 use Rattle.list_program.proofs.live.list_all.Tie as tie
 
 abbrev Inv-loop : tie.InvT-loop
-Inv-loop bytes out₀ next₀ at₀ goes-on₀ t8 out next at goes-on = (at ≤ length bytes) × (length out ≡ length out₀)
+Inv-loop bytes out₀ next₀ at₀ keep-going₀ t8 out next at keep-going = (at ≤ length bytes) × (length out ≡ length out₀)
 
 abbrev μ-loop : tie.MeasureT-loop
-μ-loop bytes out₀ next₀ at₀ goes-on₀ t8 out next at goes-on = length bytes - at
+μ-loop bytes out₀ next₀ at₀ keep-going₀ t8 out next at keep-going = length bytes - at
 
 -- a call uses no more than is left
 module _ (c : tie.Else2 Inv-loop μ-loop) where

@@ -16,7 +16,7 @@ module _ (c : tie.After-count) where
   start = c .before .before .before .before .before .before .before .before
 
   abbrev text : List ℕ
-  text = answerText (start .args .before .now) (rowOf (start .args .said)) (start .args .body .now)
+  text = answerText (start .args .prefix .now) (rowOf (start .args .answer)) (start .args .body .now)
 
   fits : start .args .at + length text ≤ length (start .args .out .now)
   fits = omega (arith, start .pre, c .before .before .before .answer-line .ensures .1)

@@ -4,21 +4,21 @@ use mathlib.Core.Path.{sym, _∙_}
 use native.Mathlib.Omega.{arith}
 use lib.ListN.{length}
 use borrow.Author.Needs.{needs}
-use Rattle.base.specs.Outcomes.{Reply}
+use Rattle.base.specs.Outcomes.{Outcome}
 use Rattle.frame.specs.Wire.{frameLimit}
 use Rattle.frame.specs.State.{State, stateOf}
-use Rattle.frame.specs.Calls.{replyOf}
+use Rattle.frame.specs.Calls.{fedOf}
 use Rattle.listing.proofs.Loops.{At, at-start, at-end, at-done, at-room, at-refused}
 use Rattle.listing.proofs.Loops.{Onward, at-onward}
 use Rattle.listing.proofs.feeding.feed_all.Statement.{statement}
 use Rattle.listing.proofs.feeding.feed_all.Tie as tie
 
 abbrev Inv-loop : tie.InvT-loop
-Inv-loop before bytes out₀ next₀ used₀ written₀ out next used written =
-    At frameLimit before bytes out₀ (stateOf next₀) out (stateOf next) used written
+Inv-loop prefix bytes out₀ next₀ used₀ written₀ out next used written =
+    At frameLimit prefix bytes out₀ (stateOf next₀) out (stateOf next) used written
 
 abbrev μ-loop : tie.MeasureT-loop
-μ-loop before bytes out₀ next₀ used₀ written₀ out next used written = length bytes - used
+μ-loop prefix bytes out₀ next₀ used₀ written₀ out next used written = length bytes - used
 
 loop-holds : tie.Need-loop-holds Inv-loop μ-loop
 loop-holds c = at-start frameLimit _ _ _ _
@@ -34,8 +34,8 @@ returns-2 c =
     at-end at _ _ (at-room at (c .before .if1 .left) (c .if2 .taken))
 
 -- what the reader replies in a turn
-abbrev reply : tie.After-is-refusal Inv-loop μ-loop → Reply State
-reply c = replyOf (c .before .before .feed .result)
+abbrev outcome : tie.After-is-refusal Inv-loop μ-loop → Outcome State
+outcome c = fedOf (c .before .before .feed .result)
 
 returns-3 : tie.Need-returns-3 Inv-loop μ-loop
 returns-3 c =
@@ -44,7 +44,7 @@ returns-3 c =
     let refused = sym (s .is-refusal .ensures) ∙ c .before .if3 .taken in
     rw (c .refusal .ensures refused)
     (at-end at _ _ (at-refused at (s .before .before .before .before .before .if1 .left)
-    (s .before .before .before .before .if2 .left) (reply s) (s .before .before .feed .ensures) refused))
+    (s .before .before .before .before .if2 .left) (outcome s) (s .before .before .feed .ensures) refused))
 
 -- a turn that goes on
 module _ (c : tie.After-count Inv-loop μ-loop) where
@@ -57,11 +57,11 @@ module _ (c : tie.After-count Inv-loop μ-loop) where
   abbrev start : tie.Start Inv-loop μ-loop
   start = begun .before .before .before .before
 
-  onward : Onward frameLimit (start .args .before .now) (start .args .bytes .now) (start .args .out .now)
-      (stateOf (start .args .reader)) (begun .loop .out) (begun .loop .used) (begun .loop .written) (reply turn)
+  onward : Onward frameLimit (start .args .prefix .now) (start .args .bytes .now) (start .args .out .now)
+      (stateOf (start .args .reader)) (begun .loop .out) (begun .loop .used) (begun .loop .written) (outcome turn)
   onward =
       at-onward (begun .loop .inv) (turn .before .before .before .before .before .if1 .left)
-      (turn .before .before .before .before .if2 .left) (reply turn) (turn .before .before .feed .ensures)
+      (turn .before .before .before .before .if2 .left) (outcome turn) (turn .before .before .feed .ensures)
       (sym (turn .is-refusal .ensures) ∙ c .before .if3 .left)
 
 add-used : tie.Need-add-used Inv-loop μ-loop

@@ -1,7 +1,7 @@
 -- `is_refusal` goes by the answer.
 use borrow.Author.Needs.{needs}
 use mathlib.Core.Path.{sym}
-use Rattle.listing.proofs.Loops.{verdict-goes-on}
+use Rattle.listing.proofs.Loops.{verdict-continues}
 use Rattle.listing.proofs.feeding.is_refusal.Statement.{statement}
 use Rattle.listing.proofs.feeding.is_refusal.Tie as tie
 
@@ -11,6 +11,6 @@ is-refusal-spec =
     (tie.spec
     (λ c. search needs) (λ c. search needs) (λ c. search needs) (λ c. search needs)
     (λ c. rw (c .enum-told .given .1))
-    (λ c. rw (c .enum-told2 .given .1) (sym (verdict-goes-on (c .enum-told2 .given .0 .1 .1 .1 .0))))
+    (λ c. rw (c .enum-told2 .given .1) (sym (verdict-continues (c .enum-told2 .given .0 .1 .1 .1 .0))))
     (λ c. rw (c .enum-told3 .given .1))
     λ c. rw (c .enum-told4 .given .1))

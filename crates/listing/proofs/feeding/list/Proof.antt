@@ -3,7 +3,7 @@ use mathlib.Core.Path.{sym, _∙_}
 use borrow.Author.Needs.{needs}
 use Rattle.frame.specs.Wire.{frameLimit}
 use Rattle.frame.specs.State.{stateOf}
-use Rattle.frame.specs.Calls.{replyOf}
+use Rattle.frame.specs.Calls.{fedOf}
 use Rattle.listing.proofs.Loops.{none-fed, all-fed}
 use Rattle.listing.proofs.feeding.list.Statement.{statement}
 use Rattle.listing.proofs.feeding.list.Tie as tie
@@ -18,17 +18,17 @@ returns c =
     let args = given s .args in
     let refused = sym (s .is-refusal .ensures) ∙ c .before .if1 .taken in
     rw (c .refusal .ensures refused)
-    (none-fed frameLimit (args .before .now) (args .bytes .now) (args .out .now) (stateOf (args .reader))
-    (replyOf (s .before .feed .result)) (s .before .feed .ensures) refused)
+    (none-fed frameLimit (args .prefix .now) (args .bytes .now) (args .out .now) (stateOf (args .reader))
+    (fedOf (s .before .feed .result)) (s .before .feed .ensures) refused)
 
 returns-2 : tie.Need-returns-2
 returns-2 c =
     let f = c .before .before in
     let s = f .before .before .before in
     let args = given s .args in
-    let goes-on = sym (s .is-refusal .ensures) ∙ f .before .before .if1 .left in
-    rw (← all-fed frameLimit (args .before .now) (args .bytes .now) (args .out .now) (stateOf (args .reader))
-    (replyOf (s .before .feed .result)) (s .before .feed .ensures) goes-on)
+    let continues = sym (s .is-refusal .ensures) ∙ f .before .before .if1 .left in
+    rw (← all-fed frameLimit (args .prefix .now) (args .bytes .now) (args .out .now) (stateOf (args .reader))
+    (fedOf (s .before .feed .result)) (s .before .feed .ensures) continues)
     (f .feed-all .ensures)
 
 pub list-spec : {M : Type 1} → statement M

@@ -2,7 +2,7 @@
 use borrow.Author.Needs.{needs}
 use mathlib.Core.Path.{refl, sym, _∙_}
 use mathlib.Core.Bool.{true≢false}
-use Rattle.listing.proofs.Loops.{verdict-goes-on}
+use Rattle.listing.proofs.Loops.{verdict-continues}
 use Rattle.listing.proofs.feeding.refusal.Statement.{statement}
 use Rattle.listing.proofs.feeding.refusal.Tie as tie
 
@@ -13,6 +13,6 @@ refusal-spec =
     (λ c. search needs) (λ c. search needs) (λ c. search needs) (λ c. search needs)
     (λ c. rw (c .enum-told .given .1) (λ e. absurd (true≢false (sym e))))
     (λ c. let verdict = c .enum-told2 .given .0 .1 .1 .1 .0 in
-    rw (c .enum-told2 .given .1) (λ e. absurd (true≢false (sym e ∙ verdict-goes-on verdict))))
+    rw (c .enum-told2 .given .1) (λ e. absurd (true≢false (sym e ∙ verdict-continues verdict))))
     (λ c. rw (c .enum-told3 .given .1) (λ e. refl))
     λ c. rw (c .enum-told4 .given .1) (λ e. refl))

@@ -6,12 +6,12 @@ use Rattle.listing.proofs.lines.last.Tie as tie
 
 returns : tie.Need-returns
 returns c =
-    rw (c .before .before .before .before .before .before .before .before .said .given .1)
+    rw (c .before .before .before .before .before .before .before .before .answer .given .1)
     (c .before .before .put-line .ensures .0)
 
 returns-2 : tie.Need-returns-2
 returns-2 c =
-    rw (c .before .before .before .before .before .before .before .before .said2 .given .1)
+    rw (c .before .before .before .before .before .before .before .before .answer2 .given .1)
     (c .before .before .put-line2 .ensures .0)
 
 returns-3 : tie.Need-returns-3

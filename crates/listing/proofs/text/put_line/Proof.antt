@@ -16,9 +16,9 @@ use Rattle.listing.proofs.text.put_line.Tie as tie
 
 module _ (c : tie.Start) where
   abbrev text : List ℕ
-  text = textOf (c .args .before .now) (c .args .word .now) (c .args .numbers .now) (c .args .rest .now)
+  text = textOf (c .args .prefix .now) (c .args .word .now) (c .args .numbers .now) (c .args .rest .now)
 
-  text-length : length text ≡ length (c .args .before .now) + (length (c .args .word .now)
+  text-length : length text ≡ length (c .args .prefix .now) + (length (c .args .word .now)
       + (length (columnsOf (c .args .numbers .now)) + length (c .args .rest .now)))
   text-length = simp length-append (omega arith)
 
@@ -30,9 +30,9 @@ returns c =
 returns-2 : tie.Need-returns-2
 returns-2 c =
     let last = c .before .before .put-bytes3 .ensures in
-    let behind = c .before .before .before .before .before .before in
-    let numbers = behind .put-columns .ensures in
-    let second = behind .before .before .before .before in
+    let after = c .before .before .before .before .before .before in
+    let numbers = after .put-columns .ensures in
+    let second = after .before .before .before .before in
     let first = second .before .before .before .before in
     let s = first .before .before .before .before .before .before .before .before .before in
     let fits : length (text s) ≤ length (s .args .out .now) = omega (arith, text-length s) in

@@ -18,8 +18,8 @@ returns c h =
     let p = drop 1 (flags .before .before .before .before .before .before .args .payload .now) in
     let small = control-mode p h in
     let value : mode .before .flagged .result ≡ bit 1 (getD p 0 0) * bits 1 2 (getD p 1 0) = simp getD-drop (cc) in
-    let told = mode .mode-of .ensures (omega arith) in
-    simp (getD-drop, div-one) (cc told)
+    let shown = mode .mode-of .ensures (omega arith) in
+    simp (getD-drop, div-one) (cc shown)
 
 pub control-of-spec : {M : Type 1} → statement M
 control-of-spec =

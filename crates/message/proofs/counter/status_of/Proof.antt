@@ -12,8 +12,8 @@ returns : tie.Need-returns
 returns c h =
     let mode = c .before .before .before .before .before in
     let payload = mode .before .before .before .before .before .before .args .payload .now in
-    let told = mode .mode-of .ensures (omega (arith, simp getD-drop at (status-mode (drop 1 payload) h))) in
-    simp (getD-drop, div-one) (cc told)
+    let shown = mode .mode-of .ensures (omega (arith, simp getD-drop at (status-mode (drop 1 payload) h))) in
+    simp (getD-drop, div-one) (cc shown)
 
 pub status-of-spec : {M : Type 1} → statement M
 status-of-spec =

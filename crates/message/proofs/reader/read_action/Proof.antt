@@ -12,7 +12,7 @@ use Rattle.message.proofs.reader.read_action.Tie as tie
 control : tie.Need-returns-2
 control c =
     chosen Action 3 _ _ (c .before .control-allowed .result) (1 ∷ controlIn (c .before .before .control-of .result))
-    (c .judged .ensures) refl (search sizes) (search sizes) (search (sizes, c .before .control-allowed .ensures))
+    (c .checked .ensures) refl (search sizes) (search sizes) (search (sizes, c .before .control-allowed .ensures))
     (λ t. search (
       sizes,
       c .before .before .before .if2 .taken,
@@ -20,7 +20,7 @@ control c =
     ))
 
 query : tie.Need-returns-3
-query c = chosen Action 3 _ _ true (2 ∷ []) (c .judged2 .ensures) refl (search sizes) (search sizes) (search sizes)
+query c = chosen Action 3 _ _ true (2 ∷ []) (c .checked2 .ensures) refl (search sizes) (search sizes) (search sizes)
     (λ t. search (sizes, c .before .if3 .taken))
 
 pub read-action-spec : {M : Type 1} → statement M

@@ -1,7 +1,7 @@
 -- `reader::read_as` goes by the command's line: each arm has what its call ensures, of the one command of that line.
 use mathlib.Core.Path.{refl}
 use Rattle.message.specs.declared.kind.Kind.the-variants as kind
-use Rattle.message.proofs.Reading.{read-line, lines}
+use Rattle.message.proofs.Reading.{read-profile, profiles}
 use borrow.Author.Needs.{needs}
 use Rattle.message.proofs.reader.read_as.Statement.{statement}
 use Rattle.message.proofs.reader.read_as.Tie as tie
@@ -16,14 +16,14 @@ read-as-spec =
     (search needs) (search needs) (search needs) (search needs) (search needs) (search needs) (search needs)
     (search needs) (search needs) (search needs) (search needs) (search needs) (search needs) (search needs)
     (search needs) (search needs)
-    (λ c. search lines) (λ c. search lines) (λ c. search lines) (λ c. search lines) (λ c. search lines)
-    (λ c. search lines)
+    (λ c. search profiles) (λ c. search profiles) (λ c. search profiles) (λ c. search profiles) (λ c. search profiles)
+    (λ c. search profiles)
     (λ c. let t = c .before .before .before .before in let s = t .before .before .before in
-    read-line kind.Onboarding _ _ (s .pre) (t .enum-told7 .given .1) 0x09 refl (search lines))
+    read-profile kind.Onboarding _ _ (s .pre) (t .enum-told7 .given .1) 0x09 refl (search profiles))
     (λ c. let t = c .before .before in let s = t .before .before .before in
-    read-line kind.Network _ _ (s .pre) (t .enum-told8 .given .1) 0x0D refl (search lines))
+    read-profile kind.Network _ _ (s .pre) (t .enum-told8 .given .1) 0x0D refl (search profiles))
     (λ c. let t = c .before .before .before .before in let s = t .before .before .before in
-    read-line kind.ModuleReject _ _ (s .pre) (t .enum-told9 .given .1) 0x11 refl (search lines))
+    read-profile kind.ModuleReject _ _ (s .pre) (t .enum-told9 .given .1) 0x11 refl (search profiles))
     (λ c. let t = c .before .before .before .before in let s = t .before .before .before in
-    read-line kind.BoxReject _ _ (s .pre) (t .enum-told10 .given .1) 0x12 refl (search lines))
-    (λ c. search lines) (λ c. search lines) (λ c. search lines) λ c. search lines)
+    read-profile kind.BoxReject _ _ (s .pre) (t .enum-told10 .given .1) 0x12 refl (search profiles))
+    (λ c. search profiles) (λ c. search profiles) (λ c. search profiles) λ c. search profiles)

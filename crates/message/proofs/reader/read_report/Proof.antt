@@ -11,7 +11,7 @@ use Rattle.message.proofs.reader.read_report.Tie as tie
 status : tie.Need-returns-3
 status c =
     chosen Report 5 _ _ (c .before .status-allowed .result) (4 ∷ statusIn (c .before .before .status-of .result))
-    (c .judged .ensures) refl (search sizes) (search sizes) (search (sizes, c .before .status-allowed .ensures))
+    (c .checked .ensures) refl (search sizes) (search sizes) (search (sizes, c .before .status-allowed .ensures))
     (λ t. search (
       sizes,
       c .before .before .before .if2 .left,

@@ -11,7 +11,7 @@ use Rattle.message.proofs.reader.read_status.Tie as tie
 status : tie.Need-returns-3
 status c =
     chosen Status 4 _ _ (c .before .status-allowed .result) (3 ∷ statusIn (c .before .before .status-of .result))
-    (c .judged .ensures) refl (search sizes) (search sizes) (search (sizes, c .before .status-allowed .ensures))
+    (c .checked .ensures) refl (search sizes) (search sizes) (search (sizes, c .before .status-allowed .ensures))
     (λ t. search (
       sizes,
       c .before .before .before .if2 .left,

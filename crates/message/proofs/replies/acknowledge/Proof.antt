@@ -2,7 +2,7 @@
 use mathlib.Core.List.{[]}
 use native.Mathlib.Omega.{arith}
 use Rattle.frame.specs.Wire.{frameLimit}
-use Rattle.message.proofs.Answers.{short-enough}
+use Rattle.message.proofs.RepliesRead.{short-enough}
 use borrow.Author.Needs.{needs}
 use Rattle.message.proofs.replies.acknowledge.Statement.{statement}
 use Rattle.message.proofs.replies.acknowledge.Tie as tie

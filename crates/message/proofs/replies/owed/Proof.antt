@@ -1,6 +1,6 @@
 -- `replies::owed` is what the command's line says.
 use mathlib.Core.Path.{ap}
-use Rattle.message.specs.declared.kind.Line.{Line}
+use Rattle.message.specs.declared.kind.Profile.{Profile}
 use borrow.Author.Needs.{needs}
 use Rattle.message.proofs.replies.owed.Statement.{statement}
 use Rattle.message.proofs.replies.owed.Tie as tie
@@ -10,4 +10,4 @@ owed-spec =
     tie.close
     (tie.spec
     (search needs)
-    (λ c. ap (λ (l : Line). l .owed) (c .line-of .ensures)))
+    (λ c. ap (λ (l : Profile). l .owed) (c .profile-of .ensures)))

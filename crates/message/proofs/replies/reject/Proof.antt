@@ -3,7 +3,7 @@ use native.Mathlib.Omega.{arith}
 use borrow.Author.Needs.{needs}
 use mathlib.Core.List.{[], _∷_}
 use Rattle.frame.specs.Wire.{frameLimit}
-use Rattle.message.proofs.Answers.{short-enough, rejected}
+use Rattle.message.proofs.RepliesRead.{short-enough, rejected}
 use Rattle.message.proofs.replies.reject.Statement.{statement}
 use Rattle.message.proofs.replies.reject.Tie as tie
 

@@ -1,12 +1,12 @@
 -- `write` meets its contract: each arm writes the message that it was told.
 use borrow.Author.Needs.{needs}
-use Rattle.message.specs.Commands.{table, lineIn}
+use Rattle.message.specs.Commands.{table, profileIn}
 use Rattle.message.proofs.Sends.{arms}
 use Rattle.message.proofs.writer.write.Statement.{statement}
 use Rattle.message.proofs.writer.write.Tie as tie
 
 pub write-spec : {M : Type 1} → statement M
-unfolding table lineIn
+unfolding table profileIn
 write-spec =
     tie.close
     (tie.spec

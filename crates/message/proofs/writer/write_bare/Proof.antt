@@ -15,5 +15,5 @@ write-bare-spec =
     (λ c.
     let a = c .before .before .before .before .before in
     simp (eq-eqb _ _ (a .before .if1 .left), a .if2 .taken)
-    (onward (c .passed-on .ensures) (c .before .before .before .write .ensures)))
+    (onward (c .from-written .ensures) (c .before .before .before .write .ensures)))
     (λ c. simp (eq-eqb _ _ (c .before .if1 .left), c .if2 .left)))

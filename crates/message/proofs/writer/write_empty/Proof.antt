@@ -16,18 +16,18 @@ write-empty-spec =
     (λ c.
     let r = c .before .before .before .before .before .before .before in
     let s = r .before .before .before .before .args in
-    empty-got frameLimit (s .command) (s .number) (s .flags) (s .lent .now) (s .out .now)
+    empty-got frameLimit (s .command) (s .number) (s .flags) (s .opaque .now) (s .out .now)
     (ap readingOf (sym (c .before .before .before .before .before .enum-told .given .1)) ∙ r .read .ensures)
     (c .before .before .write-bare .ensures))
     (λ c.
     let s = c .before .before .before .before .before .before .args in
-    empty-refused frameLimit (s .command) (s .number) (s .flags) (s .lent .now) (s .out .now) 31
+    empty-refused frameLimit (s .command) (s .number) (s .flags) (s .opaque .now) (s .out .now) 31
     (ap readingOf (sym (c .enum-told2 .given .1)) ∙ c .before .before .read .ensures))
     (λ c.
     let s = c .before .before .before .before .before .before .args in
-    empty-refused frameLimit (s .command) (s .number) (s .flags) (s .lent .now) (s .out .now) 32
+    empty-refused frameLimit (s .command) (s .number) (s .flags) (s .opaque .now) (s .out .now) 32
     (ap readingOf (sym (c .enum-told3 .given .1)) ∙ c .before .before .read .ensures))
     (λ c.
     let s = c .before .before .before .before .before .before .args in
-    empty-refused frameLimit (s .command) (s .number) (s .flags) (s .lent .now) (s .out .now) 33
+    empty-refused frameLimit (s .command) (s .number) (s .flags) (s .opaque .now) (s .out .now) 33
     (ap readingOf (sym (c .enum-told4 .given .1)) ∙ c .before .before .read .ensures)))

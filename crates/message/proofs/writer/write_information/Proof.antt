@@ -14,20 +14,20 @@ write-information-spec =
     (λ c.
     let b = c .before .before .before .before .before in
     let s = b .before .before .before .before .before .args in
-    informed (s .timeout) (s .number) (s .flags) (s .lent .now) (s .out .now) extra.Absent
+    informed (s .timeout) (s .number) (s .flags) (s .opaque .now) (s .out .now) extra.Absent
     (b .before .enum-told .given .1) (b .two-bytes .ensures)
     (c .before .before .write-between .ensures))
     (search needs)
     (λ c.
     let b = c .before .before .before .before .before in
     let s = b .before .before .before .before .before .before .args in
-    informed (s .timeout) (s .number) (s .flags) (s .lent .now) (s .out .now) (extra.Attributes _)
+    informed (s .timeout) (s .number) (s .flags) (s .opaque .now) (s .out .now) (extra.Attributes _)
     (b .before .before .extra .given .1) (b .attribute-bytes .ensures)
     (c .before .before .write-between2 .ensures))
     (search needs)
     (λ c.
     let b = c .before .before .before .before .before in
     let s = b .before .before .before .before .before .before .args in
-    informed (s .timeout) (s .number) (s .flags) (s .lent .now) (s .out .now) (extra.AttributesAndSecret _)
+    informed (s .timeout) (s .number) (s .flags) (s .opaque .now) (s .out .now) (extra.AttributesAndSecret _)
     (b .before .before .extra2 .given .1) (b .attribute-bytes2 .ensures)
     (c .before .before .write-between3 .ensures)))

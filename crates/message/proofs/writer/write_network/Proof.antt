@@ -1,14 +1,14 @@
 -- `write_network` meets its contract: the network's bytes, where its strength has three bits.
 use mathlib.Core.Path.{sym}
 use borrow.Author.Tests.{le-ltb, lt-ltb}
-use Rattle.message.specs.Commands.{table, lineIn}
+use Rattle.message.specs.Commands.{table, profileIn}
 use borrow.Author.Needs.{needs}
 use Rattle.message.proofs.Sends.{bare}
 use Rattle.message.proofs.writer.write_network.Statement.{statement}
 use Rattle.message.proofs.writer.write_network.Tie as tie
 
 pub write-network-spec : {M : Type 1} → statement M
-unfolding table lineIn
+unfolding table profileIn
 write-network-spec =
     tie.close
     (tie.spec
@@ -18,6 +18,6 @@ write-network-spec =
     (λ c.
     let b = c .before .before .before .before .before in
     let s = b .before .before .before .before .before .args in
-    bare 0x0D (s .number) (s .flags) (s .lent .now) (s .out .now) (b .network-bytes .ensures)
+    bare 0x0D (s .number) (s .flags) (s .opaque .now) (s .out .now) (b .network-bytes .ensures)
     (sym (lt-ltb _ _ (b .before .if1 .left)))
     (c .before .before .write-bare2 .ensures)))

@@ -44,17 +44,17 @@ use denote.Triple.Spec.{Meets, tripleOf}
 use denote.Triple.Table.{entered, cited}
 use denote.Triple.Walked.{says, Stays, stay-none, walkOf, goes-none, Walks, ends-at, walked, walk-meets}
 use denote.Exit.{yes}
-use Rattle.base.specs.Outcomes.{reply}
-use Rattle.link.specs.Sending.{firstNumber, mostRepeats}
-use Rattle.link.specs.Table.{retryRowOf}
+use Rattle.base.specs.Outcomes.{outcome}
+use Rattle.link.specs.Sending.{firstNumber, maxRepeats}
+use Rattle.link.specs.Table.{tickRowOf}
 use Rattle.link.specs.Calls.{tickOf, tickedOf}
 use Rattle.link.specs.declared.state.Link.{Link}
-use Rattle.link.specs.declared.ticks.Retry.{Retry}
+use Rattle.link.specs.declared.ticks.TickResult.{TickResult}
 use Rattle.link.specs.declared.ticks.Ticked.{Ticked}
 use Rattle.link.proofs.state.Link as L
 use Rattle.link.proofs.state.Link.Laws as L′
-use Rattle.link.proofs.ticks.Retry as R
-use Rattle.link.proofs.ticks.Retry.Laws as R′
+use Rattle.link.proofs.ticks.TickResult as R
+use Rattle.link.proofs.ticks.TickResult.Laws as R′
 use Rattle.link.proofs.ticks.Ticked as T
 use Rattle.link.proofs.ticks.Ticked.Laws as T′
 use Rattle.link.proofs.tick as tick
@@ -75,13 +75,13 @@ link-val = LL.val L.the-type L′.the-laws
 
 -- a `Ticked` of an answer and a link, its machine value at the answer's machine
 -- value w, and what whoever builds it shows
-abbrev ticked : Retry → Link → Ticked
+abbrev ticked : TickResult → Link → Ticked
 ticked a l = record { answer = a; link = l }
 
 abbrev ticked-val : Val → Link → Val
 ticked-val w l = vstruct (ofList (w ∷ link-val l ∷ []))
 
-ticked-is : (a : Retry) (w : Val) (l : Link)
+ticked-is : (a : TickResult) (w : Val) (l : Link)
     → Is R.the-row a (w ∷ []) → Is L.the-row l (link-val l ∷ []) → Is T.the-row (ticked a l) (ticked-val w l ∷ [])
 ticked-is a w l is p = ((w ∷ [], (link-val l ∷ [], tt)), (refl, (is, (p, tt))))
 
@@ -127,7 +127,7 @@ module _ {M : Type 1} (𝓤 : URA M) (H : Heap 𝓤) (A : Atoms 𝓤) (W : Given
   Post = walkOf 𝓤 H A in-place.ended stayed (in-place.clauses 𝓤 H A at-mem run) .post ((tt, tt, tt, x, at), tt)
 
   exits : (r : Ticked) (v : Val)
-      → Is T.the-row r (v ∷ []) → tickedOf r ≡ tickOf firstNumber mostRepeats h n → ent 𝓤 (emp 𝓤) (Post v)
+      → Is T.the-row r (v ∷ []) → tickedOf r ≡ tickOf firstNumber maxRepeats h n → ent 𝓤 (emp 𝓤) (Post v)
   exits r v is e =
       qed W [] ∵ suffices ! _ (ends-at 𝓤 H A in-place.ended stayed (in-place.clauses 𝓤 H A at-mem run) W
       ((tt, tt, tt, x, at), tt) v r (tt, (tt, tt)) (tt, (tt, tt))) $ says ! e $
@@ -175,15 +175,15 @@ module _ {M : Type 1} (𝓤 : URA M) (H : Heap 𝓤) (A : Atoms 𝓤) (W : Given
         -- what frees _3; _2; …; _1; …; room for _0; …]
         calls-at ! fm (Tick 𝓤 H A at-mem run) known (to-tick l₃ ν γ) (and-then ! (load ! (from ! (stop !))
         (look ! 4 refl)) (and-then ! (load ! (from ! (stop !)) (look ! 9 refl)) (no-more !))) (λ w.
-        use1 W (later (some (λ (a : Retry). ((‵ (flft (ν ∷ []) fullShare) ⊛ ‵ ftrue) ⊛ ‵ (R.the-row .own a (w ∷ [])))
+        use1 W (later (some (λ (a : TickResult). ((‵ (flft (ν ∷ []) fullShare) ⊛ ‵ ftrue) ⊛ ‵ (R.the-row .own a (w ∷ [])))
         ⊛ raw (ensured 𝓤 H A tick.ended (tick.clauses 𝓤 H A at-mem run) (ν ∷ [], tt) (lent l₃ γ, (n, tt)) tt a))))
         (id⊢ 𝓤 _) $ await ! tt $ pick ! (λ a.
         -- what `tick` ensures, at some last link
         split ! $ move ! (1 ∷ []) $ use1 W (some (λ (zs : Link × (Unit {0} × Unit {0})). ‵ (lasts tick.ended
         (ν ∷ [], tt) (lent l₃ γ, (n, tt)) zs) ⊛ raw (fact 𝓤
-        (reply (retryRowOf a) (zs .0) ≡ tickOf firstNumber mostRepeats h n)))) (id⊢ 𝓤 _) $ pick ! (λ zs.
+        (outcome (tickRowOf a) (zs .0) ≡ tickOf firstNumber maxRepeats h n)))) (id⊢ 𝓤 _) $ pick ! (λ zs.
         split ! $ move ! (1 ∷ []) $
-        heard ! (reply (retryRowOf a) (zs .0) ≡ tickOf firstNumber mostRepeats h n) (λ e. fsplit ! $
+        heard ! (outcome (tickRowOf a) (zs .0) ≡ tickOf firstNumber maxRepeats h n) (λ e. fsplit ! $
         move ! (2 ∷ []) $ split ! $ move ! (1 ∷ []) $
         facts ! R.the-row (Is R.the-row) (shows 𝓤 H A R.the-row) a (w ∷ []) (λ is.
         -- the lifetime is ended, and the local comes back at that link
