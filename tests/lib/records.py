@@ -1,4 +1,4 @@
-"""The driver's records: an operation in 1 byte, the size of its data in 2, the data. docs/API.md says what each operation does."""
+"""The driver's records: an operation in 1 byte, the size of its data in 2, the data. docs/TEST_DRIVER.md has them."""
 import sys
 
 FRESH, FEED, FINISH, SET, WRITE, STREAM, WRITE_MESSAGE, ANSWER, NAMES = range(9)
@@ -32,5 +32,5 @@ def streamed(stream, size=MOST):
 
 
 def print_part(script, text):
-    """For the command line, script or text: a test's part of the driver's stored script, or what the driver has to print for it."""
+    """Prints, by the first word, a test's part of the driver's stored script or what the driver has to print for it."""
     sys.stdout.buffer.write(script() if sys.argv[1] == "script" else text().encode("ascii"))
