@@ -1,6 +1,6 @@
 /*
- * A box that reports its status: the counter at volume 3, leaf 255, gathering and feeding, in a frame with number 2.
- * It prints the frame's bytes in hex; a real box would send them over its serial line.
+ * A box that reports its status: volume 3, leaf 255, mode gather, feeding; under sequence number 2 (docs/PROTOCOL.md,
+ * section 11, example 4). It prints the bytes of the frame in hex; a real box sends them over its serial line.
  *
  * Build it at the top of the repository:
  *     rt staticlib firmware
@@ -20,7 +20,7 @@ struct status {
     uint8_t alarms;
 };
 
-/* A report's payload: its first byte, then the status; numbers are big-endian. */
+/* The payload of a report: its first byte, then the status (PROTOCOL 7.17, 7.19). Numbers are big-endian. */
 static void put_report(const struct status *status, uint8_t payload[REPORT_SIZE])
 {
     payload[0] = REPORT_STATUS;

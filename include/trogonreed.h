@@ -1,11 +1,12 @@
 /*
- * Trogonreed: frames of the Gizwits serial protocol for a box's firmware.
+ * Trogonreed: writes frames of the Gizwits serial protocol, for the firmware of a box. C99 or later, and C++.
  *
- * The function behind this header is proved to meet its contract (crate `firmware`): what it returns and what it writes, for every input.
- * That this declaration and these numbers agree with it, and how a slice of bytes is passed from C, is trusted and tested. It keeps nothing
- * between calls and allocates nothing, so several threads may use it at once.
- * `rt staticlib firmware` builds target/staticlib/libfirmware.a, for x86-64 Linux; examples/box.c shows a program that links it.
- * C99 or later, and C++.
+ * The function is proved to meet its contract (crate `firmware`): what it returns and what it writes, for every input.
+ * That this declaration and these numbers agree with it, and how C passes a slice of bytes, is trusted and tested. The
+ * function keeps nothing between calls and allocates nothing, so several threads may call it at once.
+ *
+ * `rt staticlib firmware` builds target/staticlib/libfirmware.a, for x86-64 Linux. examples/box.c is a program that
+ * links it. docs/API.md has the reference, and docs/PROTOCOL.md the rules (section 6).
  */
 #ifndef TROGONREED_H
 #define TROGONREED_H
@@ -17,37 +18,38 @@
 extern "C" {
 #endif
 
-/* The most bytes that a payload may have. */
+/* The greatest size of a payload, in bytes. */
 #define TROGONREED_MAX_PAYLOAD 1019ul
 
-/* No frame is longer, stuffed bytes and header included: an output of this many bytes is never too short. (2 and twice 1,026.) */
+/* A buffer of this size holds every frame on the wire: 2 bytes, and twice the 1,026 of the longest body. */
 #define TROGONREED_MAX_FRAME 2054ul
 
-/* A returned number below this one is a count of bytes; from it on, a refusal: this number plus the refusal's own. */
+/* A returned number below this one is a count of bytes. A refusal is this number plus the number of the refusal. */
 #define TROGONREED_REFUSED 65536ul
 
-/* The refusals' own numbers. */
+/* The numbers of the refusals. */
 #define TROGONREED_PAYLOAD 21ul /* the payload has more than TROGONREED_MAX_PAYLOAD bytes */
-#define TROGONREED_ROOM 22ul    /* the output is shorter than the frame */
+#define TROGONREED_ROOM 22ul    /* the buffer is shorter than the frame on the wire */
 
-/* The same as they are returned. */
+/* The refusals as they are returned. */
 #define TROGONREED_REFUSED_PAYLOAD 65557ul
 #define TROGONREED_REFUSED_ROOM 65558ul
 
 /*
- * Writes one frame at the front of `out`: FF FF, then length, command, number, flags, payload and sum, with a 55 behind each FF of
- * these. Any command is written, and any number and flags. The rest of `out` stays as it was.
+ * Writes one frame at the front of the caller's buffer `out`: FF FF, then length, command, sequence number, flags,
+ * payload and sum, with a 55 stuffed after each FF of these. It writes every command, every number and all flags. The
+ * rest of `out` stays as it was.
  *
- * Returns the count of bytes written, at most TROGONREED_MAX_FRAME; or TROGONREED_REFUSED_PAYLOAD; or
- * TROGONREED_REFUSED_ROOM. Where both are due, the payload is refused. A refusal writes nothing: `out` stays as it was.
+ * Returns the count of bytes written, at most TROGONREED_MAX_FRAME, or a refusal. TROGONREED_REFUSED_PAYLOAD is tested
+ * first, then TROGONREED_REFUSED_ROOM. A refusal writes nothing: `out` stays as it was.
  *
- * The caller owes, and nothing here can test:
- *   - `payload` may be read for `payload_len` bytes, and `out` written for `out_len`;
- *   - the two do not overlap, and during the call no other thread writes to either or reads `out`.
- * A length of 0 asks nothing of its pointer, which may then be null. `payload` is never written.
+ * This is the caller's duty, and nothing here can test it:
+ *   - `payload` is readable for `payload_len` bytes, and `out` is writable for `out_len` bytes;
+ *   - they do not overlap, and during the call no other thread writes to either or reads `out`.
+ * With length 0 a pointer may be null. `payload` is never written.
  */
-uint32_t trogonreed_write_frame(uint8_t command, uint8_t number, uint16_t flags, const uint8_t *payload, size_t payload_len,
-                                uint8_t *out, size_t out_len);
+uint32_t trogonreed_write_frame(uint8_t command, uint8_t number, uint16_t flags, const uint8_t *payload,
+                                size_t payload_len, uint8_t *out, size_t out_len);
 
 /* Whether a returned number is a refusal. */
 static inline int trogonreed_is_refused(uint32_t returned)
