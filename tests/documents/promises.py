@@ -1,0 +1,70 @@
+"""Promises of the code's form that no theorem can state (PROTOCOL 1.3, 12.1 and 12.2).
+
+A public call of a library has no `requires` and has an `ensures`. Of the proofs of another layer, the proofs of a layer
+cite only theorems that are claims there. base has laws for all crates and is not a layer.
+"""
+import re
+
+from specs import claims_in
+from tree import files, name_of, spec_files, text_of
+
+CALL = re.compile(r"^ *pub (?:extern \"C\" )?fn (\w+)(.*?)\{$", re.M | re.S)  # up to the brace that opens its body
+LAYERS = ("message", "link", "firmware")
+CITED = re.compile(r"^use Rattle·(\w+)\.proofs\.(\w+(?:\.\w+)*)(?:\.\{([^}]*)\})?", re.M)
+
+
+def calls_in(text):
+    """(name, signature and contract) of each public function."""
+    return CALL.findall(text)
+
+
+def unpromised(text):
+    """Public calls that require something, or that leave their result unstated."""
+    requiring = [f"{name} requires something" for name, contract in calls_in(text) if "requires" in contract]
+    return requiring + [f"{name} ensures nothing" for name, contract in calls_in(text) if "ensures" not in contract]
+
+
+def cited_inside(text, claims):
+    """What a proof cites of the proofs of another layer, and that is not a claim there."""
+    cited = [(crate, names or module) for crate, module, names in CITED.findall(text) if crate != "base"]
+    pairs = [(crate, name.split(" as ")[0].strip()) for crate, names in cited for name in names.split(",")]
+    return [f"{crate}'s {name}" for crate, name in pairs if name not in claims(crate)]
+
+
+def cited_crates(texts):
+    return {crate for text in texts for crate, _, _ in CITED.findall(text)}
+
+
+def claims_of(crate):
+    return {name for path in spec_files(crate) for name in claims_in(text_of(path))}
+
+
+def check_calls(checks):
+    good = "pub fn f(n: u8) -> u8\n    ensures { r }\n{\n    g(n)\n}\n"
+    checks.test("a call that promises", unpromised(good) == [])
+    requiring = good.replace("ensures", "requires { a }\n    ensures")
+    checks.test("a call that requires is found", unpromised(requiring) == ["f requires something"])
+    bare = "pub fn h() -> u8 {\n    0\n}\n" + good
+    checks.test("a call that promises nothing is found", unpromised(bare) == ["h ensures nothing"])
+    paths = [path for path in files("crates/*/src/**/*.rt") if path.parent.with_name("specs").is_dir()]
+    checks.test("public calls are found", sum(len(calls_in(text_of(path))) for path in paths) > 20)
+    for path in paths:
+        checks.none(f"{name_of(path)}: public calls", unpromised(text_of(path)))
+
+
+def check_layers(checks):
+    used = "use Rattle.frame.proofs.Round.{round-trip, made as good}\nuse Rattle.base.proofs.Tests.{tests}\n"
+    checks.test("a citation of a claim", cited_inside(used, lambda _: {"round-trip", "made"}) == [])
+    checks.test("one from inside a layer is found", cited_inside(used, lambda _: {"made"}) == ["frame's round-trip"])
+    module = "use Rattle.frame.proofs.Moves\n"
+    checks.test("a whole module of a layer is found", cited_inside(module, lambda _: {"made"}) == ["frame's Moves"])
+    for layer in LAYERS:
+        texts = {name_of(path): text_of(path) for path in files(f"crates/{layer}/proofs/**/*.antt")}
+        lost = [f"{name}: {fault}" for name, text in texts.items() for fault in cited_inside(text, claims_of)]
+        checks.none(f"{layer}: citations from inside another layer", lost)
+        checks.test(f"{layer} cites another layer", any(crate != "base" for crate in cited_crates(texts.values())))
+
+
+def check(checks):
+    check_calls(checks)
+    check_layers(checks)
