@@ -230,7 +230,7 @@ def is_below(parents, process, pid):
 
 def program_of(pid):
     """The listing program behind a front door, or None."""
-    return below(pid, "list")
+    return below(pid, "list_program")
 
 
 def session_of(pid):

@@ -9,7 +9,7 @@ import subprocess
 import threading
 
 import model
-from door import PATIENCE, Live, below, processes, run, terminal, wait_for
+from door import PATIENCE, Live, below, processes, program_of, run, terminal, wait_for
 from model import HEADING
 
 FRAME = model.wire(7, 1)
@@ -155,7 +155,7 @@ def drained(test, name, ends, words, more, expected, sleeps=False):
         full = wait_for(lambda: not select.select([], [theirs], [], 0)[1])
         os.close(theirs)
         if sleeps:
-            program = below(process.pid, "list")
+            program = program_of(process.pid)
             test(f"{name}, the program sleeps", wait_for(lambda: is_asleep(program)))
         found = b"".join(iter(lambda: read_some(reader), b""))
         said, status = process.stderr.read(), process.wait(PATIENCE)
