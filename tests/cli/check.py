@@ -12,6 +12,8 @@ import firstuse
 import listener
 import live
 import model
+import progress
+import version
 import whole
 from door import as_started_by_a_person, run
 from model import HEADING
@@ -19,7 +21,7 @@ from model import HEADING
 sys.path.insert(0, str(pathlib.Path(__file__).resolve().parent.parent / "lib"))
 from checks import Checks, Dead, seed_and_count
 
-checks = Checks("desk")
+checks = Checks("cli")
 test = checks.test
 FIRST_BUILD = 3600  # seconds
 ONLY_HEADING = HEADING.encode() + b"\n"
@@ -31,7 +33,7 @@ HEARTBEAT = "FF FF 00 05 07 01 00 00 0D"
 SUM_FF = "FF FF 00 05 07 F3 00 00 FF 55"
 STATED = [
     (
-        "the example of the paper",
+        "a frame, a cut one and a frame",
         f"FF {HEARTBEAT} FF FF 00 05 07 {SUM_FF}",
         ["frame 1 10 7 1 0 0", "cut 10 17 - - - -", "frame 15 25 7 243 0 0", "clean 25"],
     ),
@@ -44,7 +46,11 @@ STATED = [
     ("a frame but for its last byte", "FF FF 00 05 07 01 00 00", ["open 0"]),
     ("a sum FF without its 55", "FF FF 00 05 07 F3 00 00 FF", ["open 0"]),
     ("number FF", "FF FF 00 05 07 FF 55 00 00 0B", ["frame 0 10 7 255 0 0", "clean 10"]),
-    ("volume 3, leaf 255", "FF FF 00 0E 05 02 00 00 04 05 00 03 00 00 00 FF 55 00 20", ["frame 0 19 5 2 0 9", "clean 19"]),
+    (
+        "volume 3, leaf 255",
+        "FF FF 00 0E 05 02 00 00 04 05 00 03 00 00 00 FF 55 00 20",
+        ["frame 0 19 5 2 0 9", "clean 19"],
+    ),
     ("flags", "FF FF 00 05 07 01 80 01 8E", ["frame 0 9 7 1 32769 0", "clean 9"]),
     ("short", "FF FF 00 04", ["short 0 4 - - - -", "clean 4"]),
     ("long", "FF FF 04 01", ["long 0 4 - - - -", "clean 4"]),
@@ -54,7 +60,7 @@ STATED = [
     ("cut", "FF FF 00 05 FF FF", ["cut 0 6 - - - -", "open 4"]),
     ("sum", "FF FF 00 05 07 01 00 00 0E", ["sum 0 9 - - - -", "clean 9"]),
     ("a frame, then an open one", f"{HEARTBEAT} FF FF 00", ["frame 0 9 7 1 0 0", "open 9"]),
-    ("noise behind a refused frame", "FF FF 00 04 07 01 00 00 0D", ["short 0 4 - - - -", "clean 9"]),
+    ("noise after a refused frame", "FF FF 00 04 07 01 00 00 0D", ["short 0 4 - - - -", "clean 9"]),
     ("noise with FF 55 in it", f"FF 55 00 FF 55 {HEARTBEAT} FF", ["frame 5 14 7 1 0 0", "clean 15"]),
 ]
 
@@ -94,9 +100,13 @@ def descriptors(door, room):
     """Inputs by the names of descriptors, those that the front door uses itself among them: a pipe, and a file."""
     data, expected = bytes.fromhex(STATED[0][1]), text_of(STATED[0][2]).encode()
     (room / "stream").write_bytes(data)
-    for name in ["/dev/stdin", *(f"/dev/fd/{number}" for number in range(10) if number not in (1, 2)), "/proc/self/fd/3"]:
+    numbers = (number for number in range(10) if number not in (1, 2))
+    for name in ["/dev/stdin", *(f"/dev/fd/{number}" for number in numbers), "/proc/self/fd/3"]:
         number = name[-1] if name[-1].isdigit() else "0"
-        for way, words in [("a pipe", f'cat "$3" | "$1" list "$2" {number}<&0'), ("a file", f'"$1" list "$2" {number}<"$3"')]:
+        for way, words in [
+            ("a pipe", f'cat "$3" | "$1" list "$2" {number}<&0'),
+            ("a file", f'"$1" list "$2" {number}<"$3"'),
+        ]:
             found = run(["sh", "-c", words, "sh", door.path, name, room / "stream"])
             test(f"{name}, {way}", found.is_quiet(expected), str(found))
     found = run(["sh", "-c", '"$1" list /dev/fd/3 3<&-', "sh", door.path])
@@ -138,7 +148,8 @@ def broken(rand):
 
 def tokens(rand):
     """The bytes that decide things, in any order."""
-    parts = [b"\xff", b"\xff\xff", b"\x55", b"\x00", b"\x00\x05", b"\x00\x04", b"\x04\x00", b"\x04\x01", model.wire(7, 1)]
+    lengths = [b"\x00\x05", b"\x00\x04", b"\x04\x00", b"\x04\x01"]
+    parts = [b"\xff", b"\xff\xff", b"\x55", b"\x00", *lengths, model.wire(7, 1)]
     return rand.choices(parts, k=rand.randrange(1, 40))
 
 
@@ -153,9 +164,9 @@ FAMILIES = [("frames", frames, 300), ("broken frames", broken, 400), ("tokens", 
 def random_streams(door, seed, count):
     for place, rand, family in checks.inputs(FAMILIES, seed, count, "stream"):
         data = b"".join(family(rand))
-        found = door("list", data=data)
-        right = found.is_quiet(model.listing(data).encode())
-        checks.test_random(place, "" if right else f"{found}\n  bytes: {data.hex(' ')}\n  should be: {model.listing(data)!r}")
+        found, expected = door("list", data=data), model.listing(data)
+        wrong = f"{found}\n  bytes: {data.hex(' ')}\n  should be: {expected!r}"
+        checks.test_random(place, "" if found.is_quiet(expected.encode()) else wrong)
 
 
 # Inputs that fail.
@@ -182,7 +193,8 @@ def broken_ends(door, room):
 
 def command_line(door, room):
     usage = door("--help")
-    words = [b"list [FILE]", b"listen DEVICE", b"--help", b"Ctrl-C", b"one listener", b"  0  ", b"  1  ", b"  2  ", b"  141  "]
+    words = [b"list [FILE]", b"listen DEVICE", b"--help", b"--version", b"Ctrl-C", b"one listener"]
+    words += [b"  0  ", b"  1  ", b"  2  ", b"  141  "]
     test("--help", usage.status == 0 and usage.err == b"" and all(word in usage.out for word in words), str(usage))
     test("--help fits a terminal of 80 columns", max(map(len, usage.out.splitlines())) <= 80)
     for word in ("-h", "help", "list --help", "listen --help"):
@@ -192,9 +204,10 @@ def command_line(door, room):
     (room / "plain").write_bytes(b"")
     os.mkfifo(room / "fifo")
     refused = [
-        ("no words", [], "usage", "list [FILE]", "listen DEVICE"),
+        ("no words", [], "usage", "list [FILE]", "listen DEVICE", "--help", "--version"),
         ("an unknown word", ["lost"], "lost", "--help"),
-        ("a word behind --help", ["--help", "list"], "--help"),
+        ("a word after --help", ["--help", "list"], "--help"),
+        ("a word after --version", ["--version", "list"], "--version"),
         ("an empty word", [""], "--help"),
         ("an unknown option", ["--lost"], "--lost"),
         ("an unknown option of list", ["list", "--lost"], "--lost"),
@@ -274,7 +287,7 @@ def ways(door, root, room):
 
 
 def is_built(door):
-    """The first use may have to prove and build; all tests behind it may not."""
+    """The first use may have to prove and build; no later use may."""
     found = door("list", patience=FIRST_BUILD)
     if found.out != text_of(["clean 0"]).encode():
         raise Dead(str(found))
@@ -303,6 +316,8 @@ def main():
         unreadable(root, room)
         places(door, root, room)
         firstuse.all_uses(test, root, room)
+        progress.all_uses(test, root, room)
+        version.all_uses(test, root, room)
     return checks.end()
 
 

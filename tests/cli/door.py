@@ -21,7 +21,7 @@ def as_started_by_a_person():
 
 
 def ends_of(number):
-    """The statuses of a front door that a signal ends; some shells ignore SIGQUIT themselves, and it ends with 1 then."""
+    """The statuses of a front door that a signal ends. Some shells ignore SIGQUIT, and it then ends with 1."""
     return {-number, 1} if number == signal.SIGQUIT else {-number}
 
 
@@ -53,7 +53,7 @@ def is_line(data, *parts):
 
 
 def run(words, data=None, patience=PATIENCE, **more):
-    """Runs a command to its end. Where no data is given, more may name the standard input; else it is empty."""
+    """Runs a command to its end. Without data, more may name the standard input, which is empty otherwise."""
     given = {"input": data} if data is not None else {"stdin": subprocess.DEVNULL}
     given |= {"stdout": subprocess.PIPE, "stderr": subprocess.PIPE} | more
     try:
@@ -78,7 +78,7 @@ class Live:
 
     def __exit__(self, *_):
         if self.process.poll() is None:
-            # The program behind the front door goes with it only if the signal can be caught.
+            # The front door ends its program only if it can catch the signal.
             self.process.terminate()
             try:
                 self.process.wait(PATIENCE)
@@ -86,8 +86,8 @@ class Live:
                 self.process.kill()
         self.process.wait()
         self.close_wire()
-        self.process.stdout.close()
-        self.process.stderr.close()
+        for file in filter(None, (self.process.stdout, self.process.stderr)):
+            file.close()
 
     def send(self, data):
         while data:
@@ -120,8 +120,8 @@ class Live:
         return line.decode("ascii", "backslashreplace")
 
     def ended(self):
-        """What it leaves once its end is due."""
-        # Not by communicate, which would close a standard input that is to stay open.
+        """What it leaves when it ends, which it has to do now."""
+        # Not by communicate, which would close a standard input that must stay open.
         try:
             status = self.process.wait(PATIENCE)
         except subprocess.TimeoutExpired:
@@ -130,36 +130,40 @@ class Live:
 
 
 def rest_of(file):
-    """What can be read up to its end; a process that was left behind could keep it from ending."""
+    """What can be read up to its end, where it is a pipe to the test; a process that is left could keep it open."""
     found = b""
-    while select.select([file], [], [], PATIENCE)[0]:
+    while file and select.select([file], [], [], PATIENCE)[0]:
         more = os.read(file.fileno(), 65536)
         if not more:
             return found
         found += more
-    return found + b" and no end"
+    return found + b" and no end" if file else found
 
 
 def play(live, steps):
-    """What goes wrong first, or ''. A step is bytes to send and the lines that they lead to, each before any further byte."""
+    """What goes wrong first, or ''. A step is bytes to send, and the lines that come before any further byte."""
     sent = b""
     for data, lines in steps:
         live.send(data)
         sent += data
+        place = f"after {len(sent)} bytes, the last {sent[-12:].hex(' ')}"
         for line in lines:
-            said = live.line()
-            if said != line:
-                return f"behind {len(sent)} bytes, the last {sent[-12:].hex(' ')}\n  should be: {line}\n  is:        {said}"
+            found = live.line()
+            if found != line:
+                return f"{place}\n  should be: {line}\n  is:        {found}"
         if lines is SILENT and not live.is_silent():
-            return f"behind {len(sent)} bytes, the last {sent[-12:].hex(' ')}: not silent"
+            return f"{place}: not silent"
     return ""
 
 
-SILENT = ()  # no lines, and some time is spent on seeing that there are none
+SILENT = ()  # no lines, and the test waits a while to see that there are none
 
 
 def hung_up(found, end_line):
-    """Whether a run ended as it should when its terminal is hung up; the kernel gives an end of input or a read error, and both are the end."""
+    """Whether a run ended as it should when its terminal is hung up.
+
+    The kernel gives an end of input or a read error, and both are the end.
+    """
     return found.is_quiet(end_line.encode() + b"\n")
 
 
@@ -180,7 +184,7 @@ def terminal(raw):
 
 
 def processes():
-    """Each process with its state, its parent and its group, and what else its stat says behind the name."""
+    """Each process with the fields that its stat has after the name: state, parent, group, session and more."""
     for name in filter(str.isdigit, os.listdir("/proc")):
         try:
             with open(f"/proc/{name}/stat") as file:
@@ -229,7 +233,7 @@ def is_below(parents, process, pid):
 
 
 def program_of(pid):
-    """The listing program behind a front door, or None."""
+    """The listing program that a front door runs, or None."""
     return below(pid, "list_program")
 
 
@@ -249,7 +253,7 @@ def is_full(pipe):
 
 
 def stands_still(group):
-    """Whether a group that was told to stop has done so: each process is stopped, gone, or waits for one that is."""
+    """Whether a group has stopped after the signal: each process is stopped, gone, or waits for one that is."""
     end = time.monotonic() + PATIENCE
     while any(fields[0] in "RS" for _, fields in processes() if int(fields[2]) == group):
         if time.monotonic() > end:

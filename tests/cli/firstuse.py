@@ -1,4 +1,4 @@
-"""The first use in a fresh checkout, over a stand-in for rt: what is built and said, and that no run disturbs another."""
+"""The first use in a fresh checkout, with a stand-in for rt: what it builds and says; no run disturbs another."""
 import itertools
 import os
 import pathlib
@@ -9,7 +9,21 @@ import time
 import model
 from door import Live, ends_of, is_line, left_in, run, session_of, wait_for
 
-SOURCES = ["crates.txt", "crates/base/src/lib.rt", "crates/frame/src/lib.rt", "crates/listing/specs/Lines.antt", "crates/list_program/src/main.rt"]
+SOURCES = [
+    "crates.txt",
+    "crates/base/src/lib.rt",
+    "crates/frame/src/lib.rt",
+    "crates/listing/specs/Lines.antt",
+    "crates/list_program/src/main.rt",
+]
+# Which crate needs which; io is a library of the kit.
+CRATES = """\
+base:
+list_program: base listing io # frame comes by listing, and message does not belong to it
+frame: base
+message: base frame
+listing: base frame
+"""
 OTHER_SOURCE = "crates/message/src/lib.rt"
 NO_SOURCES = ["crates/frame/must-fail/fault.edit", "crates/list_program/stdout"]  # in the folders of sources
 TOOLS = "sh cat cp dirname find flock mkdir od readlink rm rmdir setsid sleep stty touch tr wc".split()
@@ -33,8 +47,10 @@ def skeleton(root, place):
     for name in [*SOURCES, OTHER_SOURCE]:
         (place / name).parent.mkdir(parents=True, exist_ok=True)
         (place / name).write_text("some source\n")
+    (place / "crates.txt").write_text(CRATES)
     (place / "bin").mkdir()
-    shutil.copy(root / "bin/trogonreed", place / "bin/trogonreed")
+    for name in ("bin/trogonreed", "VERSION"):
+        shutil.copy(root / name, place / name)
     (place / "linked").symlink_to("bin/trogonreed")
     make_older(place, 1000)
     return place
@@ -52,7 +68,7 @@ def give_program(root, place):
 
 
 class Checkout:
-    """A fresh checkout and a PATH that has just the tools needed, and rt where it is given one."""
+    """A fresh checkout, and a PATH that has only the tools needed, and the stand-in for rt where there is one."""
 
     def __init__(self, root, room, name):
         self.place = skeleton(root, room / "fresh" / name)
@@ -67,14 +83,15 @@ class Checkout:
         self.log = self.place / "target/trogonreed.log"
 
     def rt(self, action):
-        # It reads what it is given, says something on both sides, and takes no other run beside it.
-        lines = ["#!/bin/sh", 'echo "$PWD $*" >>"$CALLS"', 'echo $$ >"$CALLS.pid"', "cat", "echo out of rt", "echo on the side >&2"]
+        # It reads its input, says something on both outputs, and allows no other run at the same time.
+        lines = ["#!/bin/sh", 'echo "$PWD $*" >>"$CALLS"', 'echo $$ >"$CALLS.pid"', "cat"]
+        lines += [f"echo {RT_SAYS[0]}", f"echo {RT_SAYS[1]} >&2"]
         lines += ['mkdir "$CALLS.busy" || exit 1', f"( {action} )", "status=$?", 'rmdir "$CALLS.busy"', "exit $status"]
         (self.tools / "rt").write_text("\n".join(lines) + "\n")
         (self.tools / "rt").chmod(0o755)
 
     def called(self):
-        """How often rt was called since last asked, or what was wrong with a call."""
+        """How often rt was called since the last count, or which calls were wrong."""
         calls = self.calls.read_text().splitlines()
         self.calls.write_text("")
         wrong = [call for call in calls if call != f"{self.place} check list_program"]
@@ -95,6 +112,7 @@ class Checkout:
         test(name, right and count == calls, f"{found}, calls of rt: {count}")
 
 
+RT_SAYS = ["out of rt", "on the side"]
 BUILDING, FAILED, MISSING = "proving and building", "target/trogonreed.log", "rt is not on the PATH"
 
 
@@ -113,9 +131,11 @@ def builds(test, fresh):
     found = fresh.use("--help")
     test("--help builds nothing", found.status == 0 and fresh.called() == 0, str(found))
     found = fresh.use("list", "lost")
-    test("a missing file is refused before anything is built", found.is_refusal("lost") and fresh.called() == 0, str(found))
+    right = found.is_refusal("lost") and fresh.called() == 0
+    test("a missing file is refused before anything is built", right, str(found))
     fresh.tries(test, "the first use builds, and leaves its standard input alone", [BUILDING], 1, True)
-    test("what rt says is in the log", fresh.log.read_bytes() == b"out of rt\non the side\n", str(fresh.log.read_bytes()))
+    said = fresh.log.read_text()
+    test("what rt says is in the log", said == "".join(f"{line}\n" for line in RT_SAYS), said)
     fresh.tries(test, "the second use does not", [], 0, True)
     (fresh.tools / "rt").unlink()
     fresh.tries(test, "what is built needs no rt", [], 0, True)
@@ -172,7 +192,7 @@ def lacks(test, fresh):
         (fresh.tools / tool).symlink_to(shutil.which(tool))
     (fresh.place / "target").write_text("")
     (fresh.place / "target").chmod(0o444)
-    fresh.tries(test, "target is no folder", ["target cannot be written"], 0, False)
+    fresh.tries(test, "target is not a folder", ["target cannot be written"], 0, False)
     (fresh.place / "crates.txt").unlink()
     fresh.tries(test, "there is no crates.txt", ["crates.txt"], 0, False)
 
@@ -183,7 +203,7 @@ def two_at_once(test, fresh):
         for live in (one, two):
             live.send(STREAM)
             live.close_wire()
-        for name, live in [("one", one), ("the other", two)]:
+        for name, live in [("the first", one), ("the second", two)]:
             found = live.ended()
             right = (found.status, found.out) == (0, LISTING) and is_line(found.err, BUILDING)
             test(f"two first uses at once, {name}", right, str(found))
@@ -192,7 +212,7 @@ def two_at_once(test, fresh):
 
 
 def broken_off(test, fresh):
-    """Whoever ends a use while rt runs, in whatever way, leaves none of rt behind."""
+    """However a use is ended while rt runs, nothing of rt is left."""
     receivers = [("the front door", os.kill), ("all of the run, as by a terminal", os.killpg)]
     numbers = (signal.SIGINT, signal.SIGTERM, signal.SIGHUP, signal.SIGQUIT, signal.SIGKILL)
     for number, (who, send), action in itertools.product(numbers, receivers, (STUCK, STUBBORN)):
@@ -203,11 +223,15 @@ def broken_off(test, fresh):
     fresh.tries(test, "a use that was broken off does not hinder the next", [BUILDING], 1, True)
 
 
+def busy(fresh):
+    """A folder that is there while rt runs."""
+    return pathlib.Path(f"{fresh.calls}.busy")
+
+
 def breaks_off(test, fresh, number, who, send):
-    busy = pathlib.Path(f"{fresh.calls}.busy")
     name = f"{number.name} to {who} while rt runs"
     with fresh.live() as live:
-        wait_for(busy.exists)
+        wait_for(busy(fresh).exists)
         session = session_of(int(pathlib.Path(f"{fresh.calls}.pid").read_text()))
         running = left_in(session)
         send(live.process.pid, number)
@@ -215,8 +239,8 @@ def breaks_off(test, fresh, number, who, send):
         test(name, found.status in ends_of(number) and found.out == b"" and is_line(found.err), str(found))
         gone = wait_for(lambda: not left_in(session))
         test(f"{name}: it is ended too", running and gone, f"{running} ran, and {left_in(session)} is left")
-    if busy.exists():
-        busy.rmdir()
+    if busy(fresh).exists():
+        busy(fresh).rmdir()
 
 
 def not_whole(test, fresh):
