@@ -1,4 +1,4 @@
-"""listen is safe to use: one listener to a device, never the terminal that it was started from, and Ctrl-C ends the input alone."""
+"""listen is safe to use: a device has one listener, the own terminal is refused, and Ctrl-C ends only the input."""
 import contextlib
 import fcntl
 import os
@@ -48,7 +48,8 @@ def one_listener(test, door, room):
             found = run([door, "listen", second])
             test(f"a second listener{way}", found.is_refusal("already listened to", str(second)), str(found))
         test("a second listener changes no setting", settings_of(name) == settings)
-        wrong = wrong or play(live, [(FRAME, [LINE.format(9, 18)]), (FRAME * 3, [LINE.format(at, at + 9) for at in (18, 27, 36)])])
+        steps = [(FRAME, [LINE.format(9, 18)]), (FRAME * 3, [LINE.format(at, at + 9) for at in (18, 27, 36)])]
+        wrong = wrong or play(live, steps)
         test("the first listener goes on undisturbed", not wrong, wrong)
         live.close_wire()
         found = live.ended()
@@ -73,7 +74,7 @@ def lock_goes(test, door):
             os.kill(live.process.pid, number)
             nothing_left(test, f"listen, ended by {number.name},", live.process.pid)
         with listening(door, master, name) as (live, again):
-            test(f"a new listener behind {number.name}", not wrong and not again, wrong or again)
+            test(f"a new listener after {number.name}", not wrong and not again, wrong or again)
         os.close(slave)
 
 
@@ -117,8 +118,9 @@ def refuses_own(test, door, room, what, places, named):
     given = {"stdin": subprocess.DEVNULL, "stdout": subprocess.PIPE, "stderr": subprocess.PIPE}
     given |= {place: slave for place in places}
     found = run([door, "listen", device], start_new_session=True, preexec_fn=own, pass_fds=[slave], **given)
-    said = b"" if "stderr" in places else found.err
-    right = (found.status, found.out) == (2, b"") and ("stderr" in places or b"started from" in said and said.count(b"\n") == 1)
+    right = (found.status, found.out) == (2, b"")
+    if "stderr" not in places:
+        right = right and b"started from" in found.err and found.err.count(b"\n") == 1
     test(f"the own terminal by {named}, open at {what}", right, str(found))
     test(f"the own terminal by {named}, open at {what}: its settings stay", termios.tcgetattr(slave) == before)
     os.close(slave)
@@ -131,18 +133,19 @@ def refuses_own(test, door, room, what, places, named):
 def control_c(test, door):
     """Typed at the terminal that it was started from, and is not the device."""
     for what, data, last in [("", b"", "clean 9"), (", in a frame", b"\xff\xff\x00\x05", "open 9")]:
-        desk, own = os.openpty()
+        keyboard, own = os.openpty()
         with device_of() as (master, name):
             more = {"stdin": own, "preexec_fn": lambda: fcntl.ioctl(0, termios.TIOCSCTTY, 0)}
             with listening(door, master, name, **more) as (live, wrong):
                 live.send(data)
                 relay = below(live.process.pid, "cat")
                 wait_for(lambda: written_by(relay) == len(FRAME + data))
-                os.write(desk, b"\x03")
+                os.write(keyboard, b"\x03")
                 found = live.ended()
-                test(f"Ctrl-C ends the input{what}", not wrong and found.is_quiet(f"{last}\n".encode()), wrong or str(found))
+                right = not wrong and found.is_quiet(f"{last}\n".encode())
+                test(f"Ctrl-C ends the input{what}", right, wrong or str(found))
                 nothing_left(test, f"Ctrl-C{what}", live.process.pid)
-        os.close(desk)
+        os.close(keyboard)
         os.close(own)
 
 
@@ -176,4 +179,5 @@ def killed(test, door):
         live.process.kill()
         wait_for(lambda: not left_in(live.process.pid))
         found = live.ended()
-        test("listen, killed", not wrong and (found.status, found.out) == (-signal.SIGKILL, b"clean 9\n"), wrong or str(found))
+        right = not wrong and (found.status, found.out) == (-signal.SIGKILL, b"clean 9\n")
+        test("listen, killed", right, wrong or str(found))

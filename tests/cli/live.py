@@ -13,7 +13,7 @@ from door import PATIENCE, PAUSE, SILENT, Live, below, ends_of, hung_up, is_full
 from door import program_of, stands_still, terminal, wait_for, written_by
 from model import HEADING
 
-# Written by hand: bytes, the lines behind them, and silence where no line is due yet.
+# Written by hand: bytes, the lines that they lead to, and silence where there is no line yet.
 STEPS = [
     ("", [HEADING]),
     ("00 FF FF 00 05 07 01 00 00", SILENT),
@@ -36,7 +36,7 @@ STEPS = [
     ("FF FF 00 05 07 01 00 00", SILENT),
     ("0E", ["sum 49 58 - - - -"]),
     ("11 13 0D 0A 03 04 1A 1C 7F 15 16 FF", SILENT),
-    # Volume 3, leaf 255, and nothing behind it.
+    # Volume 3, leaf 255, and nothing after it.
     ("FF 00 0E 05 02 00 00 04 05 00 03 00 00 00 FF 55 00", SILENT),
     ("20", ["frame 69 88 5 2 0 9"]),
     ("", SILENT),
@@ -54,8 +54,8 @@ def steps_of(data, sizes):
     steps, at = [(b"", [HEADING])], 0
     for size in sizes:
         if at < len(data):
-            due = [line for place, line in lines if at < place <= at + size]
-            steps.append((data[at : at + size], due))
+            decided = [line for place, line in lines if at < place <= at + size]
+            steps.append((data[at : at + size], decided))
             at += size
     return steps, end
 
@@ -143,7 +143,8 @@ def unlike_a_wire(settings):
     on = {"CREAD": cflag, "CLOCAL": cflag}
     off = dict.fromkeys(["PARENB", "CSTOPB", "CRTSCTS"], cflag)
     off |= dict.fromkeys(["ECHO", "ECHONL", "ICANON", "ISIG", "IEXTEN"], lflag)
-    off |= dict.fromkeys(["IXON", "IXOFF", "IXANY", "ICRNL", "INLCR", "IGNCR", "ISTRIP", "BRKINT", "PARMRK", "INPCK"], iflag)
+    off |= dict.fromkeys(["IXON", "IXOFF", "IXANY", "ICRNL", "INLCR", "IGNCR"], iflag)
+    off |= dict.fromkeys(["ISTRIP", "BRKINT", "PARMRK", "INPCK"], iflag)
     off |= {"OPOST": oflag}
     wrong += [f"{name} is off" for name, flags in on.items() if not flags & getattr(termios, name)]
     wrong += [f"{name} is on" for name, flags in off.items() if flags & getattr(termios, name)]
@@ -164,11 +165,11 @@ def session_leader(test, door):
         test("a session of its own", not wrong and hung_up(found, "clean 10"), wrong or str(found))
 
 
-# Signals: the first ends the input, and the last line comes; where that cannot be, all ends at once.
+# Signals: the first ends the input, and the last line comes; where that is not possible, all ends at once.
 
 
 def nothing_left(test, name, session):
-    test(f"{name} leaves no process behind", wait_for(lambda: not left_in(session)), str(left_in(session)))
+    test(f"{name} leaves no process", wait_for(lambda: not left_in(session)), str(left_in(session)))
 
 
 def ends_input(test, door, word, who, send):
@@ -191,7 +192,7 @@ def ends_input(test, door, word, who, send):
 
 
 def ends_at_once(test, door, name, words, sends):
-    """Signals, one after the other, to a run whose output nobody reads: it ends by the last, and says nothing."""
+    """Signals, in this order, to a run whose output nobody reads: it ends by the last, and says nothing."""
     with Live([door, *words], start_new_session=True) as live:
         writer = threading.Thread(target=send_all, args=(live, model.wire(7, 1) * 999, 99), daemon=True)
         if words == ["list"]:
@@ -222,7 +223,7 @@ def at_once(test, door, room):
 def stopped(test, door):
     with Live([door, "list"], start_new_session=True) as live:
         os.killpg(live.process.pid, signal.SIGSTOP)
-        # Told to go on while a stop is under way, a process just begun can stay stopped for ever.
+        # A process that is just begun can stay stopped for ever if the signal to go on comes during the stop.
         test("a run can be stopped", stands_still(live.process.pid))
         os.killpg(live.process.pid, signal.SIGCONT)
         wrong = play(live, stated_steps()[:3])
@@ -236,12 +237,13 @@ def dies(test, door):
         live.line()
         os.kill(program_of(live.process.pid), signal.SIGSEGV)
         found = live.ended()
-        test("a program that dies is reported", found.status == 1 and found.out == b"" and is_line(found.err), str(found))
+        right = (found.status, found.out) == (1, b"") and is_line(found.err)
+        test("a program that dies is reported", right, str(found))
         nothing_left(test, "a program that dies", live.process.pid)
 
 
 def waits_for_its_input(test, door, room):
-    """A named pipe that nobody writes to yet; the signal comes before there is anything to list, while the run's processes begin."""
+    """A named pipe that nobody writes to yet: the signal comes before the input, while the run's processes begin."""
     os.mkfifo(room / "silent")
     for word, (who, send), begun in itertools.product(("SIGINT", "SIGTERM", "SIGHUP"), RECEIVERS, (1, 2, 3, 4)):
         number = getattr(signal, word)
@@ -269,7 +271,8 @@ def half_a_message(test, door, room):
             begins = below(live.process.pid, "sleep") and live.line() == HEADING
             ends(live.process.pid)
             found = live.ended()
-            test(f"{name} in half a message", begins and found.is_refusal("standard input", status=1, out=lines), str(found))
+            right = begins and found.is_refusal("standard input", status=1, out=lines)
+            test(f"{name} in half a message", right, str(found))
             nothing_left(test, f"{name} in half a message", live.process.pid)
 
 
@@ -288,14 +291,15 @@ def signals(test, door, room):
 
 
 def control_c(test, door):
-    """Typed at a terminal that is the run's own, as on a desk."""
+    """Typed at a terminal that is the run's own."""
     master, slave = os.openpty()
     owns = {"start_new_session": True, "preexec_fn": lambda: fcntl.ioctl(0, termios.TIOCSCTTY, 0)}
     with Live([door, "list"], wire=master, stdin=slave, **owns) as live:
         os.close(slave)
         wrong = play(live, [(b"", [HEADING]), (b"abc\n\x03", [])])
         found = live.ended()
-        test("Ctrl-C", not wrong and found.out in (b"clean 4\n", b"clean 0\n") and found.is_quiet(found.out), wrong or str(found))
+        right = not wrong and found.out in (b"clean 4\n", b"clean 0\n") and found.is_quiet(found.out)
+        test("Ctrl-C", right, wrong or str(found))
         nothing_left(test, "Ctrl-C", live.process.pid)
 
 
@@ -306,7 +310,7 @@ MOST_KIB, MARGIN_KIB = 6 * 1024, 256
 
 
 def block(seed):
-    """Some 64 KiB of frames, refused ones and noise, behind which no frame is open, and their lines."""
+    """Some 64 KiB of frames, refused ones and noise, with no frame open at their end, and their lines."""
     rand = random.Random(f"{seed} block")
     parts, size = [], 0
     while size < 2**16:
@@ -321,8 +325,10 @@ def block(seed):
 
 
 def lines_at(lines, offset):
-    shifted = (" ".join([kind, str(int(start) + offset), str(int(end) + offset), *rest]) for kind, start, end, *rest in lines)
-    return "".join(line + "\n" for line in shifted).encode()
+    def shifted(kind, start, end, *rest):
+        return " ".join([kind, str(int(start) + offset), str(int(end) + offset), *rest])
+
+    return "".join(shifted(*line) + "\n" for line in lines).encode()
 
 
 def received(live, size):
@@ -350,7 +356,7 @@ def through(test, door, data, lines, copies):
         sender.start()
         found = received(live, len(expected))
         test(f"{name}, each line", found == expected, first_difference(found, expected))
-        # Its input is still open, so that it can be looked at.
+        # Its input is still open, so that it still runs.
         program = program_of(live.process.pid)
         peak = peak_memory(program) if program else MOST_KIB * 99
         sender.join(PATIENCE)

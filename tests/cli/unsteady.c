@@ -1,5 +1,5 @@
-/* For the listing program to be run over (LD_PRELOAD): reads and writes that are interrupted, must wait, or move few bytes.
-   No signal handler is in the program, so that a signal alone interrupts none of its calls. */
+/* A library for LD_PRELOAD: reads and writes that are interrupted, must wait, or move few bytes.
+   The program has no signal handler, so that a signal alone interrupts none of its calls. */
 #define _GNU_SOURCE
 #include <dlfcn.h>
 #include <errno.h>
@@ -33,7 +33,7 @@ ssize_t write(int fd, const void *data, size_t size) {
     return fd != 1 ? real(fd, data, size) : fails(&calls[1]) ? -1 : real(fd, data, few(size));
 }
 
-/* So that a test sees whether the program was run over this. */
-__attribute__((destructor)) static void tell(void) {
+/* So that a test sees whether the program was run with this. */
+__attribute__((destructor)) static void print_faults(void) {
     dprintf(2, "%u faults\n", faults);
 }

@@ -1,4 +1,4 @@
-"""Half a listing is never passed off as a whole one: outputs that fill up, close, do not wait or lose their reader."""
+"""Half a listing never counts as a whole one: outputs that fill up, close, do not wait or lose their reader."""
 import os
 import resource
 import select
@@ -32,7 +32,7 @@ def all_outputs(test, door, program, room):
 
 
 def both_ways(name):
-    """A file that the program reads by itself, and an input that is handed on: words, and what the run is given."""
+    """A file, which the program reads itself, and standard input, which the relay reads: the words, and the data."""
     yield f"{name}, a file", lambda room, what: (["list", room / what], {})
     yield f"{name}, standard input", lambda room, what: (["list"], {"data": (room / what).read_bytes()})
 
@@ -94,8 +94,8 @@ def full_room(test, door, room):
             with open(place / "listing", "wb") as out:
                 found = run([door, *words], stdout=out, env=os.environ | {"TMPDIR": str(place)}, **more)
             listed = (place / "listing").read_bytes()
-            right = found.is_refusal("standard output", "No space left on device", status=1) and is_front(listed, expected)
-            test(name, right, f"{found}, {len(listed)} bytes listed")
+            right = found.is_refusal("standard output", "No space left on device", status=1)
+            test(name, right and is_front(listed, expected), f"{found}, {len(listed)} bytes listed")
         # It is full now, so that a message kept in a file would be lost.
         found = unread_folder(door, room, os.environ | {"TMPDIR": str(place)})
         test("a failed read, with no room for temporary files", is_failed_read(found), str(found))
@@ -170,7 +170,7 @@ def is_asleep(pid):
 
 
 def read_some(reader):
-    """Empty at the end, which a terminal tells by an error."""
+    """Empty at the end, which is an error where it is a terminal."""
     try:
         return reader.read(65536)
     except OSError:
@@ -193,11 +193,14 @@ def no_reader(test, door, room):
     for name, way in both_ways("the reader went away"):
         for what, action in [("", signal.SIG_DFL), (", the signal ignored", signal.SIG_IGN)]:
             words, more = way(room, "many frames")
-            given = {"preexec_fn": lambda action=action: signal.signal(signal.SIGPIPE, action), "restore_signals": False}
+
+            def sets(action=action):
+                signal.signal(signal.SIGPIPE, action)
+
             ours, theirs = os.pipe()
             os.close(ours)
             with open(theirs, "wb") as gone:
-                found = run([door, *words], stdout=gone, **given, **more)
+                found = run([door, *words], stdout=gone, preexec_fn=sets, restore_signals=False, **more)
             test(name + what, (found.status, found.err) == (141, b""), str(found))
     script = '{ "$@"; echo "status $?" >&2; } | head -n 1'
     for name, way in both_ways("head -n 1"):
@@ -264,7 +267,8 @@ def unsteady(test, program, room):
     """Calls that are interrupted, must wait, or move a few bytes only."""
     source = os.path.join(os.path.dirname(__file__), "unsteady.c")
     compiler = next(filter(shutil.which, ["cc", "gcc", "clang"]), None)
-    built = compiler and run([compiler, "-w", "-shared", "-fPIC", "-o", room / "unsteady.so", source, "-ldl"], patience=60)
+    command = [compiler, "-w", "-shared", "-fPIC", "-o", room / "unsteady.so", source, "-ldl"]
+    built = compiler and run(command)
     if not built or built.status != 0:
         test("a library of unsteady calls is built", False, str(built or "there is no C compiler"))
         return
