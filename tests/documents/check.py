@@ -3,10 +3,11 @@
 Every name in a code span of README.md, CONTRIBUTING.md and docs/*.md is declared somewhere: a definition, claim, call,
 type, field, variant, file, folder, wrong program or command word. In a table of claims the first column names
 theorems, and in a table of calls public functions. Notes and CHANGELOG.md speak of earlier trees, so their names are
-not looked up. docs/WRONG_PROGRAMS.md has a row for each wrong program of a definition, with the claims that refuse it.
+not looked up. docs/WRONG_PROGRAMS.md is what tests/mutants/table.py makes of the edits.
 Beside this, rules.py checks the numbers of rules and their citations, trace.py what holds each rule, specs.py the
 specifications, and promises.py the promises of public calls.
 """
+import itertools
 import pathlib
 import re
 import sys
@@ -15,10 +16,11 @@ import promises
 import rules
 import specs
 import trace
-from tree import ROOT, SPAN, crate_of, edits, files, found, name_of, tables, text_of, theorems
+from tree import ROOT, SPAN, edits, files, found, name_of, tables, text_of, theorems
 
-sys.path.insert(1, str(pathlib.Path(__file__).resolve().parents[1] / "lib"))
+sys.path[1:1] = [str(pathlib.Path(__file__).resolve().parents[1] / folder) for folder in ("lib", "mutants")]
 from checks import Checks  # noqa: E402
+from table import page, what  # noqa: E402
 
 MAX_COLUMNS = 120
 NAME = re.compile(r"[^\W\d][\w′]*(?:-[\w′]+)*")
@@ -108,23 +110,20 @@ def misvalued(text):
     return sorted(wrong)
 
 
-def refused():
-    """The wrong programs of definitions, NAME/rule_x, with the claims that refuse each."""
-    rules = {path: text for path, text in edits().items() if path.stem.startswith("rule_")}
-    claims = {path: sorted(re.findall(r"^claim: (\S+)$", text, re.M)) for path, text in rules.items()}
-    return {f"{crate_of(path)}/{path.stem}": names for path, names in claims.items()}
+def claims_in(text):
+    """The claims that an edit names."""
+    return re.findall(r"^claim: (\S+)$", text, re.M)
 
 
-def tabled(text):
-    """The same of the table."""
-    rows = [cells for head, cells in tables(text) if head == "wrong program"]
-    return {cells[0].strip("`"): sorted(SPAN.findall(cells[-1])) for cells in rows}
+def unnamed(path, text):
+    """Whether an edit lacks what it is to say: what is wrong, and for a definition the claims that refuse it."""
+    return not what(text) or path.stem.startswith("rule_") and not claims_in(text)
 
 
-def differences(table, tree):
-    lost = [f"{name} is not in the table" for name in tree if name not in table]
-    stale = [f"{name} is not an edit" for name in table if name not in tree]
-    return lost + stale + [f"{name} names other claims" for name in table if table[name] != tree.get(name, table[name])]
+def first_difference(found, expected):
+    """The first line in which two pages differ, or ''."""
+    pairs = itertools.zip_longest(found.splitlines(), expected.splitlines())
+    return next((f"line {number}: {line}" for number, (line, other) in enumerate(pairs, 1) if line != other), "")
 
 
 def long_lines(text):
@@ -153,10 +152,12 @@ def check_api(checks):
 
 
 def check_wrong_programs(checks):
-    tree, table = refused(), tabled(text_of(ROOT / "docs" / "WRONG_PROGRAMS.md"))
-    checks.none("wrong programs of a definition that name no claim", [name for name in tree if not tree[name]])
-    checks.none("the table of wrong programs", differences(table, tree))
-    checks.test("a missing row is found", bool(differences(dict(list(table.items())[1:]), tree)))
+    proved, text = theorems(), text_of(ROOT / "docs" / "WRONG_PROGRAMS.md")
+    checks.none("edits without their words", [name_of(path) for path, edit in edits().items() if unnamed(path, edit)])
+    claims = {claim for edit in edits().values() for claim in claims_in(edit)}
+    checks.none("claims of edits that are not theorems", sorted(claims - proved))
+    checks.test("the page of wrong programs", not (line := first_difference(text, page())), f"made anew: {line}")
+    checks.test("a missing entry is found", first_difference(text.replace("- `base/", "", 1), page()) != "")
     stated = re.findall(r"(\d+)\s+wrong programs", text_of(ROOT / "README.md"))
     checks.test("README counts the wrong programs", set(stated) == {str(len(edits()))}, f"{stated}, not {len(edits())}")
 
