@@ -1,4 +1,4 @@
--- Numbers looked up: what stands under each of some numbers stands under any one of them. Assumes nothing.
+-- Numbers looked up: what holds under each key of a list holds under any one of them. Assumes nothing.
 use Prim.Native.Nat.{ℕ, zero, suc, _+_, _≤_, _<_}
 use mathlib.Core.Path.{_≡_, refl, sym}
 use mathlib.Core.Bool.{Bool, true, false, cond, _||_, true≢false}
@@ -40,8 +40,8 @@ agree f g [] x e = λ h. absurd (true≢false (sym h))
 agree f g (k ∷ ks) x e =
     by-test (λ b. b ≡ true → f x ≡ g x) (eqb x k) (λ i _. rw (eqb-true x k i) (cc)) λ _. agree f g ks x (cc)
 
--- ---- what a `match` on a number tells of it: that it is one of an arm's keys,
--- or lies in a range and is none of some arms' keys
+-- ---- what a `match` on a number shows of it: it is one of an arm's keys, or it is in a range and not among the keys
+-- of some arms
 
 one-of : (keys : List ℕ) (x : ℕ) → OneOf keys x → among x keys ≡ true
 unfolding among
@@ -64,7 +64,7 @@ abbrev keyed : List (List ℕ) → ℕ → Bool
 keyed [] x = false
 keyed (keys ∷ arms) x = hasKey keys x || keyed arms x
 
--- none of some arms' keys, behind what is known already
+-- not among the keys of some arms, after what is known already
 abbrev NoneOf : Type 0 → List (List ℕ) → ℕ → Type 0
 NoneOf N [] x = N
 NoneOf N (keys ∷ arms) x = NoneOf (N × (OneOf keys x → ⊥)) arms x
@@ -79,8 +79,8 @@ unkeyed N (keys ∷ arms) x r =
     let rest = unkeyed (N × (OneOf keys x → ⊥)) arms x r in
     (rest .0 .0, rw (off (hasKey keys x) (λ t. rest .0 .1 (hit keys x t)), rest .1))
 
--- both take the value that an arm returns to the one that is looked up.
--- That each of the numbers has it is a test, which `refl` passes
+-- both turn the value that an arm returns into the one that is looked up. That each of the numbers has it is a test,
+-- which `refl` passes
 module _ {A : Type 0} (f : ℕ → A) (v : A) where
   pub at-keys : (keys : List ℕ) (x : ℕ) → map f keys ≡ map (λ _. v) keys → OneOf keys x → v ≡ f x
   at-keys keys x e h = sym (agree f (λ _. v) keys x e (one-of keys x h))

@@ -1,4 +1,4 @@
--- Laws of tests, rows, lists, stores, keys, sums and numbers that more than one crate cites.
+-- Laws of tests, rows, lists, stores, keys, sums and numbers that more than one crate cites; then the claims.
 pub mod Tests
 pub mod Rows
 pub mod Lists
@@ -7,4 +7,7 @@ pub mod Rising
 pub mod Keys
 pub mod Sums
 pub mod Numbers
-pub mod Claims
+pub mod NumbersExact
+pub mod OutcomesExact
+pub mod PartsExact
+pub mod KeysExact

@@ -1,4 +1,4 @@
--- Lists of numbers: none, cut at their end, and number by number. Assumes nothing.
+-- Lists of numbers: empty, cut at their end, and number by number. Assumes nothing.
 use Prim.Native.Nat.{ℕ, min}
 use mathlib.Core.Path.{_≡_, refl, sym, _∙_}
 use mathlib.Core.List.{List, [], _∷_}
@@ -11,7 +11,7 @@ pub no-bytes : (r : List ℕ) → length r ≡ 0 → r ≡ []
 no-bytes [] e = refl
 no-bytes (x ∷ xs) e = absurd (omega arith)
 
--- a cut behind a list's end is one at its end
+-- a cut beyond the end of a list is one at its end
 pub take-min : (n : ℕ) (l : List ℕ) → take (min n (length l)) l ≡ take n l
 take-min n l = min-cases n (length l) _ (λ h e. rw e) (λ h e. rw e (take-length l ∙ sym (take-all n l h)))
 

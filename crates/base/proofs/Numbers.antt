@@ -11,10 +11,10 @@ use Rattle.base.specs.Numbers.{twoAt, two}
 pub two-back : (n : ℕ) → n / 256 * 256 + n % 256 ≡ n
 two-back n = omega arith
 
--- behind others
+-- after others
 pub two-after : (f : List ℕ) {k : ℕ} → length f ≡ k → (n : ℕ) (r : List ℕ) → twoAt (f ++ two n r) k ≡ n
 two-after f e n r = rw (← e) (simp (getD-append-add, getD-append-seam) (omega arith))
 
--- in what is left of a list
+-- in the rest of a list
 pub two-left : (p : List ℕ) (at i : ℕ) → twoAt (drop at p) i ≡ twoAt p (at + i)
 two-left p at i = simp (getD-drop, add-assoc)

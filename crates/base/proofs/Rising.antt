@@ -6,12 +6,12 @@ use mathlib.Core.List.{List·Memᴰ·cases-cons}
 use mathlib.Core.Logic.{_⊎_, inl, inr}
 use native.Mathlib.Omega.{arith}
 
--- by strictly rising start, from m on
+-- in order of strictly rising start, from m on
 abbrev pub RisingFrom : {A : Type 0} → (A → ℕ) → ℕ → List A → Type 0
 RisingFrom start m [] = Unit {0}
 RisingFrom start m (x ∷ xs) = (m ≤ start x) × RisingFrom start (start x + 1) xs
 
--- what is in a list and is not its first is behind it
+-- a member that is not the first is after it
 after-first : {A : Type 0} (y : A) (r : List A) (x : A) → List·Memᴰ x (y ∷ r) → (x ≡ y → ⊥) → List·Memᴰ x r
 after-first y r x k other = go (List·Memᴰ·cases-cons k)
   where

@@ -1,4 +1,4 @@
--- Stores, one behind the other. Assumes nothing.
+-- Stores, one after another. Assumes nothing.
 use Prim.Native.Nat.{ℕ, suc, _+_, _≤_}
 use mathlib.Core.Path.{_≡_}
 use mathlib.Core.List.{List, [], _∷_, _++_}
@@ -17,7 +17,7 @@ sets-append (v ∷ vs) ws l i =
 pub sets-front : (vs l : List ℕ) → length vs ≤ length l → sets l 0 vs ≡ vs ++ drop (length vs) l
 sets-front vs l h = rw zero-add at (sets-eq vs l 0 (rw zero-add h))
 
--- what is put, and more behind it, is their join put
+-- some bytes put, and more after them, are their join put
 pub put-join : (out xs ys : List ℕ) (at : ℕ) {a b : List ℕ} {p q : ℕ}
     → PutAt out at xs p a → PutAt a p ys q b → PutAt out at (xs ++ ys) q b
 put-join out xs ys at e f = (rw length-append (omega arith), rw sets-append (cc))

@@ -18,7 +18,7 @@ pub checksum-snoc : (b : List ℕ) (v : ℕ) → (checksum b + v) % 256 ≡ chec
 unfolding total
 checksum-snoc b v = omega (arith, total-append b (v ∷ []))
 
--- a sum that went on over one list, and then over another, went on over their join
+-- a sum that goes on over one list and then over another goes on over their join
 pub sum-append : (xs ys : List ℕ) (u : ℕ) {v w : ℕ}
     → v ≡ (u + total xs) % 256 → w ≡ (v + total ys) % 256 → w ≡ (u + total (xs ++ ys)) % 256
 sum-append xs ys u e f = rw total-append (omega arith)

@@ -1,27 +1,27 @@
--- Tests: what one that picks tells of what is picked. Assumes nothing.
+-- Tests: what follows for a value that a test chooses. Assumes nothing.
 use mathlib.Core.Path.{_≡_, refl, sym, _∙_}
 use mathlib.Core.Bool.{Bool, true, false, cond, not, _&&_, true≢false}
 use borrow.Author.Tests.{eq-eqb, ne-eqb, lt-ltb, le-ltb, le-leb, lt-leb, not-true, not-false}
 
--- with these `search` takes what the code's tests told into a definition's `cond`
+-- with these `search` carries the results of the code's tests into a definition's `cond`
 pub ruleset tests = (eq-eqb, ne-eqb, lt-ltb, le-ltb, le-leb, lt-leb)
 
--- what holds of each of two things, where a test picks it, holds of the one that is picked
+-- what holds of each of two values, where a test chooses it, holds of the chosen one
 pub by-test : {A : Type 0} (P : A → Type 0) (t : Bool) {x y : A} → (t ≡ true → P x) → (t ≡ false → P y) → P (cond t x y)
 by-test P true f g = f refl
 by-test P false f g = g refl
 
--- what holds whatever a test says
+-- what holds for both results of a test
 pub either-way : {P : Type 0} (t : Bool) → (t ≡ true → P) → (t ≡ false → P) → P
 either-way true f g = f refl
 either-way false f g = g refl
 
--- two things that are one need no test
+-- a test between two equal values does not matter
 pub cond-same : {A : Type 0} (t : Bool) (x : A) → cond t x x ≡ x
 cond-same true x = refl
 cond-same false x = refl
 
--- two tests that are both passed
+-- both of two tests hold
 pub both : (a : Bool) {b : Bool} → (a && b) ≡ true → (a ≡ true) × (b ≡ true)
 both true e = (refl, e)
 both false e = absurd (true≢false (sym e))

@@ -1,10 +1,16 @@
--- What the layers share, and a reader of any of them has to believe: rows by the table's numbers, outcomes, stores,
--- parts, numbers, sums and keys. Nothing of a protocol's bytes.
+-- What the layers share. No rule of frames or messages is here.
+
+-- Statements: what must be believed
 pub mod Rows
 pub mod Outcomes
-pub mod Stores
-pub mod Parts
 pub mod Numbers
 pub mod Sums
+pub mod Parts
+-- Model: what is computed
 pub mod Keys
-pub mod Claims
+pub mod Stores
+-- Claims: what is proved
+pub mod NumbersExact
+pub mod OutcomesExact
+pub mod PartsExact
+pub mod KeysExact

@@ -1,4 +1,4 @@
--- A row is one answer: its number in paper 01's table, and its values.
+-- Statement: an answer as a row: its number and its values. PROTOCOL 6.7, 12.4.
 use Prim.Native.Nat.{ℕ}
 use mathlib.Core.List.{List}
 
@@ -7,6 +7,6 @@ pub record Row : Type 0 where
   pub number : ℕ
   pub values : List ℕ
 
--- a row of the two
+-- a row of these two
 abbrev pub row : ℕ → List ℕ → Row
 row n v = record { number = n; values = v }

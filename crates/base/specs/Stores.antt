@@ -1,10 +1,10 @@
--- Bytes stored in an output from a place on.
+-- Model: bytes stored in a buffer from a place on, held to the frame and the line written by the public contracts.
 use Prim.Native.Nat.{ℕ, _+_}
 use mathlib.Core.Path.{_≡_}
 use mathlib.Core.List.{List}
 use lib.ListN.{length}
 use lib.Seq.{sets}
 
--- what a call leaves that puts bytes at a place of `out`: it returns the place behind them, and the output is `after`
+-- what an inner call leaves that puts bytes at a place of `out`: it returns the next place, and the buffer is `after`
 abbrev pub PutAt : List ℕ → ℕ → List ℕ → ℕ → List ℕ → Type 0
 PutAt out at bytes next after = (next ≡ at + length bytes) × (after ≡ sets out at bytes)

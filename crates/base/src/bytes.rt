@@ -1,11 +1,11 @@
-// Bytes at a place, and numbers of two and four bytes, big-endian. A byte that is not there reads as 0.
+// Bytes at a place, and big-endian numbers of two and four bytes. A missing byte reads as 0. PROTOCOL 1.4, 2.11.
 use super::slices::rest;
 ghost use mathlib.Core.Path.{_≡_};
 ghost use mathlib.Core.List.{[]};
 ghost use lib.ListN.{getD};
 ghost use Rattle.base.specs.Numbers.{twoAt, fourAt, two, four};
 
-// The byte at a place, or 0 behind the end.
+// The byte at a place, or 0 beyond the end.
 pub fn byte_at(bytes: &[u8], at: usize) -> u8
     ensures { λ r. ⌜ r ≡ getD (now (bytes .entry)) at 0 ⌝ }
 {

@@ -1,4 +1,4 @@
-// What the layers share: bytes at a place, big-endian numbers, and a part of the caller's bytes.
+// What the layers share: bytes at a place, big-endian numbers, and slices of the caller's data.
 mod bytes;
 mod slices;
 

@@ -1,4 +1,4 @@
-// Parts of the caller's bytes, returned where they lie.
+// Slices of the caller's data: the very bytes, not a copy. PROTOCOL 7.9.
 ghost use mathlib.Core.Path.{_≡_};
 ghost use Prim.Native.Nat.{min};
 ghost use lib.ListN.{length, drop};
@@ -14,7 +14,7 @@ pub fn min(a: usize, b: usize) -> usize
     b
 }
 
-// So many bytes from a place on, or as many as there are; none, at the end, where the place lies behind it.
+// `size` bytes from a place on, cut where the bytes end; an empty slice at the end, if the place is beyond it.
 pub fn part(bytes: &[u8], start: usize, size: usize) -> &[u8]
     ensures { λ r. ⌜ IsPart (bytes .entry) r (min start (length (now (bytes .entry)))) size ⌝ }
 {

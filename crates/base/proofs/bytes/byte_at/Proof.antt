@@ -1,4 +1,4 @@
--- `bytes::byte_at` meets its contract: behind the end a list reads as its default.
+-- `bytes::byte_at` meets its contract: beyond the end a list reads as its default.
 use mathlib.Core.Path.{sym}
 use lib.ListN.{List·getD-eq-default}
 use borrow.Author.Needs.{needs}

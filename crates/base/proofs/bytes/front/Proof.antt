@@ -1,5 +1,5 @@
 -- `bytes::front` meets its contract; the prover finds all of it.
--- The file stands here so that a wrong order of bytes is refused here.
+-- The file is here so that a wrong order of bytes is refused here.
 use borrow.Author.Needs.{needs}
 use Rattle.base.proofs.bytes.front.Statement.{statement}
 use Rattle.base.proofs.bytes.front.Tie as tie

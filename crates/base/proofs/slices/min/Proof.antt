@@ -1,5 +1,5 @@
 -- `slices::min` meets its contract; the prover finds all of it.
--- The file stands here so that a wrong test is refused here.
+-- The file is here so that a wrong test is refused here.
 use borrow.Author.Needs.{needs}
 use Rattle.base.proofs.slices.min.Statement.{statement}
 use Rattle.base.proofs.slices.min.Tie as tie

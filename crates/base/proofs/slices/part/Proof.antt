@@ -1,4 +1,4 @@
--- `slices::part` meets its contract: a part that would pass the end is cut there.
+-- `slices::part` meets its contract: a slice is cut at the end of the bytes.
 use Prim.Native.Nat.{ℕ, _+_, _-_, min}
 use mathlib.Core.Path.{_≡_, refl}
 use mathlib.Core.List.{List}

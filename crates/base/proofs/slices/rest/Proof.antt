@@ -1,4 +1,4 @@
--- `slices::rest` meets its contract: no part is longer than the whole.
+-- `slices::rest` meets its contract: no slice is longer than the whole.
 use mathlib.Core.Path.{_∙_}
 use native.Mathlib.Omega.{arith}
 use lib.ListN.{length, drop, length-drop}
