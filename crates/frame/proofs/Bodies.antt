@@ -1,5 +1,4 @@
--- One body byte of an open frame: the body goes on, or it is complete or refused,
--- and never two of these. Assumes nothing.
+-- One body byte of an open frame: the body goes on, or is complete, or is refused; never two of these. Assumes nothing.
 use Prim.Native.Nat.{ℕ, _+_, _*_, _%_, _^_, _≤_, _<_}
 use mathlib.Core.Path.{_≡_, sym, ap, _∙_}
 use mathlib.Core.List.{List, [], _∷_, _++_}
@@ -23,7 +22,7 @@ use Rattle.base.proofs.Sums.{checksum-snoc}
 use Rattle.frame.proofs.Puts.{stored}
 use Rattle.frame.proofs.Here.{lengthOf-append}
 
--- h, l and m are the place in the body, the length and the sum of a body that is begun with b and not complete
+-- h, l and m are place, length and sum of a body that begins with b and is not complete
 pub record Partial (limit h l m : ℕ) (b : List ℕ) : Type 0 where
   pub count : length b ≡ h
   pub summed : m ≡ checksum b
@@ -58,7 +57,7 @@ module _ (limit : ℕ) (b : List ℕ) where
   never-both Cut p u = p
   never-both Sum p u = omega (arith, p .0, u .under)
 
-  -- the one verdict that a body can end in
+  -- the only verdict that a body can end in
   abbrev ending : Verdict
   ending =
       cond (ltb (lengthOf b) 5) Short (cond (ltb limit (lengthOf b)) Long (cond (eqb (sumIn b) (sumDue b)) Frame Sum))
@@ -89,7 +88,7 @@ unfinished-of p some =
       bounds = λ k. p .bounds (omega (arith, p .count));
     }
 
--- behind a header there is no body byte yet
+-- after a header there is no body byte yet
 pub partial-none : {limit h l m : ℕ} (body : List ℕ) → h ≡ 0 → m ≡ 0 → Partial limit h l m (take h body)
 unfolding total
 partial-none body e s =
@@ -128,7 +127,7 @@ whole-held body h v k full =
     let all : lengthOf b + 2 ≡ h + 1 = omega arith in
     ap (λ (j : ℕ). take j b) all ∙ stored body h v k
 
--- the byte v, behind the body bytes b so far
+-- the byte v, after the body bytes b so far
 module _ {limit : ℕ} {b : List ℕ} (s : Scan) (p : Partial limit (s .filled) (s .length) (s .sum) b) (v : ℕ)
     (first : getD (b ++ v ∷ []) 0 0 ≢ 255) where
   abbrev h : ℕ

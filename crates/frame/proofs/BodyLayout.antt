@@ -1,14 +1,13 @@
--- The wire form, byte by byte. Assumes nothing.
+-- body-layout and chunks-joined; made-good is in RoundTrip. Assumes nothing.
 use Prim.Native.Nat.{ℕ, _+_, _-_, _*_, _%_, _≤_}
 use mathlib.Core.Path.{_≡_, refl, sym, ap, _∙_}
 use mathlib.Core.List.{List, [], _∷_, _++_, append-assoc}
 use native.Mathlib.Omega.{arith}
-use borrow.Author.Tests.{ne-eqb}
 use lib.ListN.{length, length-append}
 use lib.Seq.{getD-at, take-at, take-all}
 use Rattle.base.specs.Sums.{total, checksum}
-use Rattle.frame.specs.Wire.{stuff, lengthOf, Good}
-use Rattle.frame.specs.Spelled.{BodyLayouts, StuffsEach, AllChunksJoined}
+use Rattle.frame.specs.Wire.{lengthOf, Good}
+use Rattle.frame.specs.BodyLayout.{BodyLayouts, AllChunksJoined}
 
 module _ (b0 b1 b2 b3 b4 b5 s : ℕ) (p : List ℕ) where
   abbrev head : List ℕ
@@ -17,7 +16,7 @@ module _ (b0 b1 b2 b3 b4 b5 s : ℕ) (p : List ℕ) where
   abbrev body : List ℕ
   body = head ++ s ∷ []
 
-  -- the sum over the bytes before it, added up from the left
+  -- the sum of the bytes that precede it, added up from the left
   sum-left : checksum head ≡ (b0 + b1 + b2 + b3 + b4 + b5 + total p) % 256
   unfolding total
   sum-left = ap (λ (n : ℕ). n % 256) (omega arith)
@@ -64,10 +63,6 @@ body-layout b0 b1 b2 b3 b4 b5 s p r =
       no-flags = refl;
       no-payload = take-all (b0 * 256 + b1 - 5) [] (omega arith);
     }
-
-pub stuffing : StuffsEach
-unfolding stuff
-stuffing x xs = record { none = refl; ff = refl; other = λ n. rw (ne-eqb x 255 n); header = refl }
 
 pub chunks-joined : AllChunksJoined
 chunks-joined a b c = record { worked = refl; in-order = sym (append-assoc a b c) }

@@ -1,4 +1,4 @@
--- Each line that is said stands in the stream, by rising start, and what the reader has begun is the stream's end.
+-- Each decision answered is one of the stream, in order of rising start, and the pending bytes are the stream's end.
 -- Assumes nothing.
 use Prim.Native.Nat.{ℕ, _+_, _≤_, _<_}
 use mathlib.Core.Path.{_≡_, refl, sym, ap, _∙_}
@@ -13,8 +13,9 @@ use lib.Dec.{eqb}
 use borrow.Author.Tests.{eqb-true, eqb-false}
 use Rattle.frame.specs.Wire.{wire, lengthOf}
 use Rattle.frame.specs.Frames.{frontBody}
-use Rattle.frame.specs.Decisions.{Decides, is-frame, is-short, is-long, is-stuff, is-cut, is-sum, bodyHeld, Decision}
+use Rattle.frame.specs.Decisions.{Decides, is-frame, is-short, is-long, is-stuff, is-cut, is-sum, Decision}
 use Rattle.frame.specs.Decisions.{IsDecision, DecisionsFrom}
+use Rattle.frame.specs.Logs.{bodyHeld}
 use Rattle.frame.specs.Table.{codeOf}
 use Rattle.frame.specs.Rules.{bodyByteOf, onFFIn, onOtherIn, advanceOf, decidesOf, putOf}
 use Rattle.frame.specs.Calls.{nextOf}
@@ -31,22 +32,22 @@ use Rattle.frame.proofs.Puts.{stored}
 use Rattle.frame.proofs.Bodies.{body-cases}
 use Rattle.frame.proofs.Fold.{eventCode, decisionAt, afterAll, decidedAll}
 
--- the raw bytes, from place o on, of which e is decided; gone are those that are no longer pending then
+-- the bytes `raw`, from place o on, for which e is decided; `gone` are those that are not pending any more
 pub record Answered (limit o : ℕ) (raw gone : List ℕ) (r : State) (e : Event) (held : List ℕ) : Type 0 where
   pub decides : Decides limit raw (eventCode e) (bodyHeld (eventCode e) held)
   pub starts : r .scan .start ≡ o
   pub rises : 1 ≤ length gone
 
--- a step on the last of the raw bytes
+-- a step on the last of the bytes `raw`
 pub record Shows (limit o : ℕ) (raw : List ℕ) (r : State) (s : Step) : Type 0 where
   pub gone : List ℕ
   pub bytes : raw ≡ gone ++ pending (after r s)
-  pub line : decidesOf (s .event) ≡ true → Answered limit o raw gone r (s .event) (after r s .body)
+  pub decision : decidesOf (s .event) ≡ true → Answered limit o raw gone r (s .event) (after r s .body)
 
 -- a byte that decides nothing
 quiet : {limit o : ℕ} {raw : List ℕ} {r : State} {s : Step}
     → s .event ≡ Quiet → (gone : List ℕ) → raw ≡ gone ++ pending (after r s) → Shows limit o raw r s
-quiet q gone e = record { gone = gone; bytes = e; line = λ d. absurd (true≢false (sym d ∙ ap decidesOf q)) }
+quiet q gone e = record { gone = gone; bytes = e; decision = λ d. absurd (true≢false (sym d ∙ ap decidesOf q)) }
 
 body-decides : (limit : ℕ) (b held : List ℕ) {raw : List ℕ} (e : Verdict)
     → Ends limit b e → raw ≡ wire b → (length b ≡ lengthOf b + 2 → frontBody held ≡ b)
@@ -58,7 +59,7 @@ body-decides limit b held Stuff p q w = absurd p
 body-decides limit b held Cut p q w = absurd p
 body-decides limit b held Sum p q w = is-sum b refl (w (p .0)) q (p .0) (p .1) (p .2) (p .3)
 
--- a raw byte of the state r, by phase
+-- a byte of the state r, by phase
 module _ (limit : ℕ) (r : State) (room : length (r .body) ≡ limit + 2) (inside : r .scan .filled ≤ limit + 1) where
   abbrev b : List ℕ
   b = held r
@@ -76,7 +77,7 @@ module _ (limit : ℕ) (r : State) (room : length (r .body) ≡ limit + 2) (insi
       (λ e′ q. record {
         gone = raw;
         bytes = sym (append-nil raw);
-        line = λ d. record {
+        decision = λ d. record {
           decides =
               body-decides limit (b ++ v ∷ []) (putOf true (r .body) h v) e′ q e
               (whole-held (r .body) h v (omega arith));
@@ -94,7 +95,7 @@ module _ (limit : ℕ) (r : State) (room : length (r .body) ≡ limit + 2) (insi
       record {
         gone = wire b;
         bytes = wire-wait b (255 ∷ []);
-        line = λ d. record {
+        decision = λ d. record {
           decides = is-cut b refl refl (wire-wait b (255 ∷ []))
               (unfinished-of (i .part) (i .some-byte));
           starts = refl;
@@ -125,7 +126,7 @@ module _ (limit : ℕ) (r : State) (room : length (r .body) ≡ limit + 2) (insi
       record {
         gone = (wire b ++ 255 ∷ []) ++ x ∷ [];
         bytes = sym (append-nil ((wire b ++ 255 ∷ []) ++ x ∷ []));
-        line = λ d. record {
+        decision = λ d. record {
           decides = is-stuff b x refl refl (wire-wait b (x ∷ []))
               (unfinished-of (i .part) (i .some-byte)) (eqb-false x 85 q) k;
           starts = refl;
@@ -133,7 +134,7 @@ module _ (limit : ℕ) (r : State) (room : length (r .body) ≡ limit + 2) (insi
         };
       })
 
--- ---- all bytes of a reader that the calls can reach
+-- ---- all bytes of a reader that calls can reach
 
 place-in : (limit : ℕ) (f : Phase) (s : Scan) (b : List ℕ)
     → InvIn limit f s b → s .consumed ≡ originIn f s + length (pendingIn f b)
@@ -143,9 +144,9 @@ place-in limit Header s b i = i .0
 place-in limit Open s b i = i .place
 place-in limit Escape s b i = omega (arith, i .place, length-append (wire b) (255 ∷ []))
 
--- lines that start at n or later, with a line before them that starts at m < n, where t
-module _ {P : Decision → Type 0} (a : Decision) (ls : List Decision) {m n : ℕ} (each : (l : Decision) → List·Memᴰ l ls → P l)
-    (low : m ≤ n) (rise : DecisionsFrom n ls) where
+-- decisions that start at n or later, after one that starts at m < n, if t
+module _ {P : Decision → Type 0} (a : Decision) (ls : List Decision) {m n : ℕ}
+    (each : (l : Decision) → List·Memᴰ l ls → P l) (low : m ≤ n) (rise : DecisionsFrom n ls) where
   from-lower : (ls : List Decision) (k : ℕ) → k ≤ n → DecisionsFrom n ls → DecisionsFrom k ls
   from-lower [] k h p = tt
   from-lower (l ∷ ls) k h p = (omega (arith, p .0), p .1)
@@ -169,7 +170,7 @@ regroup before p gone q xs x e =
     ap (λ (k : List ℕ). before ++ k) (sym (append-assoc p (x ∷ []) xs) ∙ ap (λ (k : List ℕ). k ++ xs) e
     ∙ append-assoc gone q xs) ∙ sym (append-assoc before gone (q ++ xs))
 
--- the bytes xs, of a reader that has begun its pending bytes behind the bytes before
+-- the bytes xs, of a reader whose pending bytes follow the bytes `before`
 pub record Deciding (limit : ℕ) (r : State) (before xs : List ℕ) : Type 0 where
   pub sound : (l : Decision) → List·Memᴰ l (decidedAll limit r xs) → IsDecision limit (before ++ (pending r ++ xs)) l
   pub rising : DecisionsFrom (origin r) (decidedAll limit r xs)
@@ -188,7 +189,7 @@ module _ (limit : ℕ) (small : limit ≤ 65279) where
   place-of : (r : State) → Inv limit r → r .scan .consumed ≡ origin r + length (pending r)
   place-of r i = place-in limit (r .scan .phase) (r .scan) (held r) (i .phase)
 
-  -- a byte x before the bytes xs
+  -- a byte x, followed by the bytes xs
   added-on : (x : ℕ) (xs : List ℕ) (r : State) (before : List ℕ) → length before ≡ origin r
       → (w : Shows limit (origin r) (pending r ++ x ∷ []) r (advanceOf limit (r .scan) x))
       → nextOf limit r x .scan .consumed ≡ origin r + length (pending r ++ x ∷ [])
@@ -199,12 +200,13 @@ module _ (limit : ℕ) (small : limit ≤ 65279) where
       let left : before ++ (pending r ++ x ∷ xs) ≡ (before ++ w .gone) ++ (pending (nextOf limit r x) ++ xs) =
       regroup before (pending r) (w .gone) (pending (nextOf limit r x)) xs x (w .bytes) in
       let both =
-      with-decision {P = λ (l : Decision). IsDecision limit (before ++ (pending r ++ x ∷ xs)) l} (decisionAt limit r x) (decidedAll limit
-      (nextOf limit r x) xs) {m = origin r} (λ l k. rw left (rest .sound l k)) (omega arith) (rest .rising)
+      with-decision {P = λ (l : Decision). IsDecision limit (before ++ (pending r ++ x ∷ xs)) l}
+      (decisionAt limit r x) (decidedAll limit (nextOf limit r x) xs) {m = origin r}
+      (λ l k. rw left (rest .sound l k)) (omega arith) (rest .rising)
       (decidesOf (advanceOf limit (r .scan) x .event))
       (λ d.
       let a : Answered limit (origin r) (pending r ++ x ∷ []) (w .gone) r (advanceOf limit (r .scan) x .event)
-      (nextOf limit r x .body) = w .line d in (
+      (nextOf limit r x .body) = w .decision d in (
         record {
           before = before;
           raw = pending r ++ x ∷ [];

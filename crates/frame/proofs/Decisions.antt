@@ -1,4 +1,4 @@
--- Each line of the table over the stream of any calls, and what an end asked tells. Assumes nothing.
+-- each-decision and finish-correct. Assumes nothing.
 use Prim.Native.Nat.{ℕ, _+_, _-_, _^_, _≤_}
 use mathlib.Core.Path.{_≡_, refl, sym, ap, _∙_}
 use mathlib.Core.List.{List, [], _∷_, _++_, List·Memᴰ, Memᴰ·cast, Memᴰ·append-left, Memᴰ·append-right}
@@ -7,14 +7,15 @@ use native.Mathlib.Omega.{arith}
 use lib.ListN.{length, take, drop}
 use lib.Seq.{take-at, drop-at}
 use lib.Dec.{eqb}
-use Rattle.frame.specs.Wire.{unstuff}
+use Rattle.frame.specs.FramesComputed.{unstuff}
 use Rattle.base.specs.Rows.{Row, row}
 use Rattle.base.specs.Outcomes.{outcome}
 use Rattle.frame.specs.Calls.{finishRowIn, freshOf}
-use Rattle.frame.specs.Logs.{logOf, stateAfter, stream}
-use Rattle.frame.specs.Decisions.{Decides, is-frame, is-short, is-long, is-stuff, is-cut, is-sum, Decision, IsDecision, Opens}
-use Rattle.frame.specs.Decisions.{at-header, in-body, at-ff, IsOpen}
-use Rattle.frame.specs.Claims.{EachDecision, FinishCorrect, FinishesCorrect}
+use Rattle.frame.specs.LogsComputed.{logOf, stateAfter}
+use Rattle.frame.specs.Logs.{stream}
+use Rattle.frame.specs.Decisions.{Decides, is-frame, is-short, is-long, is-stuff, is-cut, is-sum, Decision}
+use Rattle.frame.specs.Decisions.{IsDecision, Opens, at-header, in-body, at-ff, IsOpen}
+use Rattle.frame.specs.StreamCorrect.{EachDecision, FinishCorrect, FinishesCorrect}
 use Rattle.frame.specs.State.{Phase, Idle, Half, Header, Open, Escape, Scan, State}
 use Rattle.frame.proofs.Stuffing.{stuffed-form}
 use Rattle.frame.proofs.Moves.{held, pending, pendingIn, origin, Inv, InvIn}
@@ -25,9 +26,9 @@ use Rattle.frame.proofs.Fold.{afterAll, decidedAll, after-append, decid
 use Rattle.frame.proofs.Deciding.{Deciding, addDecision}
 use Rattle.frame.proofs.Reading.{Between, At, decision-path, read-header, read-body, read-ff, reads}
 
--- ---- a line is fixed by its number and its stretch
+-- ---- a decision is fixed by its number and its stretch
 
--- the body that the raw bytes of a line have, where it is to be held
+-- the body of the bytes of a decision, if the reader holds it
 abbrev bodyIn : ℕ → List ℕ → List ℕ
 bodyIn n raw = cond (eqb n 1 || eqb n 15) (unstuff false (drop 2 raw)) []
 
@@ -46,13 +47,14 @@ raw-in {limit} {xs} {l} w =
     rw (w .bytes) (drop-at (w .before) (w .raw ++ w .after) (l .start) (sym (w .starts))) in
     sym (rw rest (take-at (w .raw) (w .after) (l .end - l .start) (omega (arith, w .starts, w .ends))))
 
-same-body : {limit : ℕ} {xs : List ℕ} {l k : Decision} → IsDecision limit xs l → IsDecision limit xs k → l .number ≡ k .number
+same-body : {limit : ℕ} {xs : List ℕ} {l k : Decision}
+    → IsDecision limit xs l → IsDecision limit xs k → l .number ≡ k .number
     → l .start ≡ k .start → l .end ≡ k .end → l .body ≡ k .body
 same-body {limit} {xs} {l} {k} v w n s e =
     let raws : v .raw ≡ w .raw = raw-in v ∙ rw (s, e) (sym (raw-in w)) in
     body-in (v .decides) ∙ rw (n, raws) (sym (body-in (w .decides)))
 
--- ---- each line
+-- ---- each decision
 
 module _ (limit : ℕ) (small : limit ≤ 65279) where
   pub from-fresh : (xs : List ℕ) → Deciding limit (freshOf limit) [] xs
@@ -87,10 +89,10 @@ pub each-decision : EachDecision
 each-decision limit small calls =
     let s : List ℕ = stream (logOf limit (freshOf limit) calls) in
     let w : Deciding limit (freshOf limit) [] s = from-fresh limit small s in
-    rw (folded limit calls (freshOf limit) .lines)
+    rw (folded limit calls (freshOf limit) .decisions)
     (record { sound = w .sound; complete = complete limit small s; rising = w .rising })
 
--- ---- an end asked
+-- ---- a finish
 
 -- the phases of an open frame
 abbrev pub Opened : Phase → Type 0
@@ -124,7 +126,7 @@ clean-row Header s n = absurd (n tt)
 clean-row Open s n = absurd (n tt)
 clean-row Escape s n = absurd (n tt)
 
--- what is pending of an open frame
+-- the pending bytes of an open frame
 pub pending-opens : (limit : ℕ) (f : Phase) (s : Scan) (b : List ℕ)
     → InvIn limit f s b → Opened f → Opens limit (pendingIn f b)
 pending-opens limit Idle s b i n = absurd n

@@ -1,5 +1,5 @@
--- What any call of any reader owes its caller: it counts no byte that was not offered,
--- and takes one where it can. Assumes nothing.
+-- within, progress, empty-call, state-kept and finish-keeps. (in-pieces is in Stored, never-state in StreamCorrect.)
+-- Assumes nothing.
 use Prim.Native.Nat.{ℕ, _+_, _^_, _≤_, _<_}
 use mathlib.Core.Path.{_≡_, refl}
 use mathlib.Core.List.{List, [], _∷_}
@@ -10,7 +10,7 @@ use lib.Dec.{leb}
 use borrow.Author.Tests.{le-leb, leb-true}
 use Rattle.base.specs.Keys.{among}
 use Rattle.frame.specs.Table.{codeOf, countOf, eventRow}
-use Rattle.frame.specs.Logs.{feedNumbers}
+use Rattle.frame.specs.Accounts.{feedNumbers}
 use Rattle.frame.specs.Rules.{advanceOf, decidesOf, inRangeOf, maxConsumed}
 use Rattle.base.specs.Outcomes.{Outcome}
 use Rattle.frame.specs.Calls.{nextOf, runOf}
@@ -19,14 +19,14 @@ use Rattle.frame.specs.declared.scan.Event.the-variants.{Quiet, Decided}
 use Rattle.frame.specs.declared.scan.Verdict.{Verdict}
 use Rattle.frame.specs.declared.scan.Verdict.the-variants.{Frame, Short, Long, Stuff, Cut, Sum}
 use Rattle.frame.specs.State.{State}
-use Rattle.frame.specs.Claims.{Within, Progress, EmptyCall}
+use Rattle.frame.specs.EachCall.{Within, Progress, EmptyCall, StateKept, FinishKeeps}
 use Rattle.base.proofs.Tests.{by-test, both}
 
 pub count-event : (e : Event) (n s p : ℕ) → countOf (eventRow e n s p) ≡ n
 count-event Quiet n s p = refl
 count-event (Decided v) n s p = refl
 
--- a verdict's line: FRAME or a refused frame
+-- the number of a verdict: FRAME or a refused frame
 pub record Numbered (d : ℕ) : Type 0 where
   pub is-feed : among d feedNumbers ≡ true
   pub low : 1 ≤ d
@@ -73,10 +73,18 @@ some-run limit x xs r =
 
 pub progress : Progress
 progress limit r [] a b h = absurd (omega arith)
-progress limit r (x ∷ xs) a b h = rw (a, le-leb (r .scan .consumed + length (x ∷ xs)) (2 ^ 62) b) (some-run limit x xs r)
+progress limit r (x ∷ xs) a b h =
+    rw (a, le-leb (r .scan .consumed + length (x ∷ xs)) (2 ^ 62) b) (some-run limit x xs r)
 
 pub empty-call : EmptyCall
 unfolding runOf
 empty-call limit r a =
     let ranges = both (leb (r .scan .consumed) maxConsumed) a in
-    rw (a, le-leb (r .scan .consumed + 0) (2 ^ 62) (omega (arith, leb-true (r .scan .consumed) maxConsumed (ranges .0))))
+    let low = leb-true (r .scan .consumed) maxConsumed (ranges .0) in
+    rw (a, le-leb (r .scan .consumed + 0) (2 ^ 62) (omega (arith, low)))
+
+pub state-kept : StateKept
+state-kept limit r bytes h = (rw h, rw h)
+
+pub finish-keeps : FinishKeeps
+finish-keeps limit r = by-test (λ (y : Outcome State). y .state ≡ r) (inRangeOf limit (r .scan)) (λ e. refl) (λ e. refl)

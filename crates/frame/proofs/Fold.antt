@@ -1,5 +1,5 @@
--- The reader as a fold over bytes, which goes on where something is decided.
--- What calls say and leave is the fold of their stream. Assumes nothing.
+-- The reader as a fold over bytes, which goes on after a decision. What calls answer and leave is the fold of their
+-- stream. Assumes nothing.
 use Prim.Native.Nat.{ℕ, suc, _+_, _^_, _≤_}
 use mathlib.Core.Path.{_≡_, refl, sym, ap, _∙_}
 use mathlib.Core.List.{List, [], _∷_, _++_}
@@ -12,23 +12,24 @@ use Rattle.frame.specs.Table.{codeOf, eventRow}
 use Rattle.frame.specs.Rules.{advanceOf, decidesOf, inRangeOf}
 use Rattle.base.specs.Outcomes.{Outcome, outcome}
 use Rattle.frame.specs.Calls.{nextOf, finishRowIn, runOf}
-use Rattle.frame.specs.Logs.{Call, feed, finish, callOf, entryOf, logOf, stateAfter, offered, consumedBy, stream}
-use Rattle.frame.specs.Logs.{decided}
-use Rattle.frame.specs.Decisions.{Decision, addDecision, decisionsOf, bodyHeld}
+use Rattle.frame.specs.Logs.{Call, feed, finish, offered, consumedBy, stream, decided, addDecision, decisionsOf}
+use Rattle.frame.specs.Logs.{bodyHeld}
+use Rattle.frame.specs.LogsComputed.{callOf, entryOf, logOf, stateAfter}
+use Rattle.frame.specs.Decisions.{Decision}
 use Rattle.frame.specs.State.{Phase, Idle, Half, Header, Open, Escape, State}
 use Rattle.frame.specs.declared.scan.Event.{Event}
 use Rattle.frame.specs.declared.scan.Event.the-variants.{Quiet, Decided}
 use Rattle.frame.specs.declared.scan.Verdict.{Verdict}
 use Rattle.frame.specs.declared.scan.Verdict.the-variants.{Frame, Short, Long, Stuff, Cut, Sum}
 use Rattle.base.proofs.Tests.{by-test}
-use Rattle.frame.proofs.Counts.{count-event}
+use Rattle.frame.proofs.EachCall.{count-event}
 use Rattle.frame.proofs.Moves.{Inv, moves}
 
--- an event's number in the table
+-- the number of an event's answer
 abbrev pub eventCode : Event → ℕ
 eventCode e = eventRow e 0 0 0 .number
 
--- the line of the byte x, where it decides
+-- the decision of the byte x, if it decides
 abbrev pub decisionAt : ℕ → State → ℕ → Decision
 decisionAt limit r x =
     record {
@@ -45,7 +46,8 @@ afterAll limit r (x ∷ xs) = afterAll limit (nextOf limit r x) xs
 unfoldable pub decidedAll : ℕ → State → List ℕ → List Decision
 decidedAll limit r [] = []
 decidedAll limit r (x ∷ xs) =
-    cond (decidesOf (advanceOf limit (r .scan) x .event)) (decisionAt limit r x ∷ decidedAll limit (nextOf limit r x) xs)
+    cond (decidesOf (advanceOf limit (r .scan) x .event))
+    (decisionAt limit r x ∷ decidedAll limit (nextOf limit r x) xs)
     (decidedAll limit (nextOf limit r x) xs)
 
 module _ (limit : ℕ) where
@@ -69,14 +71,14 @@ module _ (limit : ℕ) where
 
   -- ---- calls, of any reader
 
-  -- a call c took k of the bytes bs, after n others
-  record Took (c : Call) (r : State) (n : ℕ) (bs : List ℕ) (y : Outcome State) : Type 0 where
+  -- a call c consumed k of the bytes bs, after n others
+  record Ran (c : Call) (r : State) (n : ℕ) (bs : List ℕ) (y : Outcome State) : Type 0 where
     k : ℕ
     counts : consumedBy c (y .row) ≡ n + k
     reader : y .state ≡ afterAll limit r (take k bs)
     decisions : (ls : List Decision) → addDecision (entryOf r c y) ls ≡ decidedAll limit r (take k bs) ++ ls
 
-  -- a verdict is a line
+  -- a verdict is a decision
   decided-decision : (v : Verdict) → decided (codeOf v) ≡ true
   decided-decision Frame = refl
   decided-decision Short = refl
@@ -91,13 +93,13 @@ module _ (limit : ℕ) where
   added-event c Quiet n s p r q ls d = absurd (true≢false (sym d))
   added-event c (Decided v) n s p r q ls d = rw (decided-decision v)
 
-  took : (all bs : List ℕ) (n : ℕ) (r : State) → Took (feed all) r n bs (runOf limit bs n r)
+  ran : (all bs : List ℕ) (n : ℕ) (r : State) → Ran (feed all) r n bs (runOf limit bs n r)
   unfolding runOf afterAll decidedAll
-  took all [] n r = record { k = 0; counts = omega arith; reader = refl; decisions = λ ls. refl }
-  took all (x ∷ xs) n r =
+  ran all [] n r = record { k = 0; counts = omega arith; reader = refl; decisions = λ ls. refl }
+  ran all (x ∷ xs) n r =
       let e : Event = advanceOf limit (r .scan) x .event in
       let q : State = nextOf limit r x in
-      by-test (Took (feed all) r n (x ∷ xs)) (decidesOf e)
+      by-test (Ran (feed all) r n (x ∷ xs)) (decidesOf e)
       (λ d. record {
         k = 1;
         counts = count-event e (n + 1) (r .scan .start) (q .scan .consumed);
@@ -105,54 +107,59 @@ module _ (limit : ℕ) where
         decisions = λ ls. rw d (added-event (feed all) e (n + 1) (r .scan .start) (q .scan .consumed) r q ls d);
       })
       (λ d.
-      let w : Took (feed all) q (n + 1) xs (runOf limit xs (n + 1) q) = took all xs (n + 1) q in
-      record { k = suc (w .k); counts = omega (arith, w .counts); reader = w .reader; decisions = λ ls. rw d (w .decisions ls) })
+      let w : Ran (feed all) q (n + 1) xs (runOf limit xs (n + 1) q) = ran all xs (n + 1) q in
+      record {
+        k = suc (w .k);
+        counts = omega (arith, w .counts);
+        reader = w .reader;
+        decisions = λ ls. rw d (w .decisions ls);
+      })
 
-  -- a call that takes nothing and decides nothing
-  took-none : (c : Call) (r : State) (bs : List ℕ) (a : Row)
+  -- a call that consumes nothing and decides nothing
+  ran-none : (c : Call) (r : State) (bs : List ℕ) (a : Row)
       → consumedBy c a ≡ 0 → ((ls : List Decision) → addDecision (entryOf r c (outcome a r)) ls ≡ ls)
-      → Took c r 0 bs (outcome a r)
+      → Ran c r 0 bs (outcome a r)
   unfolding afterAll decidedAll
-  took-none c r bs a none s = record { k = 0; counts = omega arith; reader = refl; decisions = s }
+  ran-none c r bs a none s = record { k = 0; counts = omega arith; reader = refl; decisions = s }
 
-  took-end : (r : State) (f : Phase) → Took finish r 0 [] (outcome (finishRowIn f (r .scan)) r)
-  took-end r Idle = took-none finish r [] (finishRowIn Idle (r .scan)) refl (λ ls. refl)
-  took-end r Half = took-none finish r [] (finishRowIn Half (r .scan)) refl (λ ls. refl)
-  took-end r Header = took-none finish r [] (finishRowIn Header (r .scan)) refl (λ ls. refl)
-  took-end r Open = took-none finish r [] (finishRowIn Open (r .scan)) refl (λ ls. refl)
-  took-end r Escape = took-none finish r [] (finishRowIn Escape (r .scan)) refl (λ ls. refl)
+  ran-finish : (r : State) (f : Phase) → Ran finish r 0 [] (outcome (finishRowIn f (r .scan)) r)
+  ran-finish r Idle = ran-none finish r [] (finishRowIn Idle (r .scan)) refl (λ ls. refl)
+  ran-finish r Half = ran-none finish r [] (finishRowIn Half (r .scan)) refl (λ ls. refl)
+  ran-finish r Header = ran-none finish r [] (finishRowIn Header (r .scan)) refl (λ ls. refl)
+  ran-finish r Open = ran-none finish r [] (finishRowIn Open (r .scan)) refl (λ ls. refl)
+  ran-finish r Escape = ran-none finish r [] (finishRowIn Escape (r .scan)) refl (λ ls. refl)
 
-  took-call : (r : State) (c : Call) → Took c r 0 (offered c) (callOf limit r c)
-  took-call r (feed bs) =
-      by-test (Took (feed bs) r 0 bs) (inRangeOf limit (r .scan))
-      (λ a. by-test (Took (feed bs) r 0 bs) (leb (r .scan .consumed + length bs) (2 ^ 62)) (λ b. took bs bs 0 r)
-      (λ b. took-none (feed bs) r bs _ refl (λ ls. refl)))
-      (λ a. took-none (feed bs) r bs _ refl (λ ls. refl))
-  took-call r finish =
-      by-test (Took finish r 0 []) (inRangeOf limit (r .scan)) (λ a. took-end r (r .scan .phase))
-      (λ a. took-none finish r [] _ refl (λ ls. refl))
+  ran-call : (r : State) (c : Call) → Ran c r 0 (offered c) (callOf limit r c)
+  ran-call r (feed bs) =
+      by-test (Ran (feed bs) r 0 bs) (inRangeOf limit (r .scan))
+      (λ a. by-test (Ran (feed bs) r 0 bs) (leb (r .scan .consumed + length bs) (2 ^ 62)) (λ b. ran bs bs 0 r)
+      (λ b. ran-none (feed bs) r bs _ refl (λ ls. refl)))
+      (λ a. ran-none (feed bs) r bs _ refl (λ ls. refl))
+  ran-call r finish =
+      by-test (Ran finish r 0 []) (inRangeOf limit (r .scan)) (λ a. ran-finish r (r .scan .phase))
+      (λ a. ran-none finish r [] _ refl (λ ls. refl))
 
-  -- what the calls say and leave
+  -- what the calls answer and leave
   pub record Folded (r : State) (cs : List Call) : Type 0 where
-    pub lines : decisionsOf (logOf limit r cs) ≡ decidedAll limit r (stream (logOf limit r cs))
+    pub decisions : decisionsOf (logOf limit r cs) ≡ decidedAll limit r (stream (logOf limit r cs))
     pub reader : stateAfter limit r cs ≡ afterAll limit r (stream (logOf limit r cs))
 
   pub folded : (cs : List Call) (r : State) → Folded r cs
   unfolding logOf stateAfter stream decisionsOf afterAll decidedAll
-  folded [] r = record { lines = refl; reader = refl }
+  folded [] r = record { decisions = refl; reader = refl }
   folded (c ∷ cs) r =
       let y : Outcome State = callOf limit r c in
-      let w : Took c r 0 (offered c) y = took-call r c in
+      let w : Ran c r 0 (offered c) y = ran-call r c in
       let rest : Folded (y .state) cs = folded cs (y .state) in
       let s : List ℕ = stream (logOf limit (y .state) cs) in
       let count : consumedBy c (y .row) ≡ w .k = omega (arith, w .counts) in
       record {
-        lines = w .decisions (decisionsOf (logOf limit (y .state) cs))
-            ∙ rw (count, decided-append (take (w .k) (offered c)) s r, ← w .reader, rest .lines);
+        decisions = w .decisions (decisionsOf (logOf limit (y .state) cs))
+            ∙ rw (count, decided-append (take (w .k) (offered c)) s r, ← w .reader, rest .decisions);
         reader = rest .reader ∙ rw (count, after-append (take (w .k) (offered c)) s r, ← w .reader);
       }
 
--- ---- bytes of a reader that the calls can reach
+-- ---- bytes of a reader that calls can reach
 
 pub record Kept (limit : ℕ) (r q : State) (xs : List ℕ) : Type 0 where
   pub holds : Inv limit q

@@ -1,5 +1,4 @@
--- A header that no FF follows has its line, or its frame is still open:
--- a frame's start stays until its line is said. Assumes nothing.
+-- no-header-lost: a frame's start stays until the frame is decided. Assumes nothing.
 use Prim.Native.Nat.{ℕ, _+_, _≤_}
 use mathlib.Core.Path.{_≡_, refl, sym, ap, _∙_}
 use mathlib.Core.List.{List, [], _∷_, _++_, List·Memᴰ, List·Memᴰ·head, Memᴰ·append-right}
@@ -12,9 +11,10 @@ use lib.Dec.{eqb}
 use borrow.Author.Tests.{ne-eqb}
 use Rattle.frame.specs.Rules.{bodyByteOf, onFFIn, onOtherIn, advanceOf, decidesOf}
 use Rattle.frame.specs.Calls.{nextOf, freshOf}
-use Rattle.frame.specs.Logs.{logOf, stream}
+use Rattle.frame.specs.LogsComputed.{logOf}
+use Rattle.frame.specs.Logs.{stream}
 use Rattle.frame.specs.Decisions.{Decision, IsOpen}
-use Rattle.frame.specs.Claims.{NoHeaderLost}
+use Rattle.frame.specs.StreamCorrect.{NoHeaderLost}
 use Rattle.frame.specs.State.{Phase, Idle, Half, Header, Open, Escape, Scan, Step, State}
 use Rattle.base.proofs.Tests.{by-test}
 use Rattle.frame.proofs.Bodies.{Partial, partial-none, first-on, body-cases}
@@ -68,14 +68,14 @@ module _ (limit : ℕ) (r : State) where
       (λ q. by-test On (eqb x 85)
       (λ w. body-follows 255 (i .part) (first-on (i .part) 255 (i .some-byte))) (λ w. inl refl))
 
--- a line that starts at st is said, or the frame is open still
+-- a decision that starts at st is answered, or the frame is still open
 abbrev Kept : ℕ → ℕ → State → List ℕ → Type 0
 Kept limit st r xs =
     ((a : Decision) × (a .start ≡ st) × List·Memᴰ a (decidedAll limit r xs))
     ⊎ (Inside (afterAll limit r xs .scan .phase) × (afterAll limit r xs .scan .start ≡ st))
 
 module _ (limit : ℕ) where
-  -- a step of the frame, before bytes that keep it
+  -- a step of the frame, followed by bytes that keep it
   step-on : (x : ℕ) (xs : List ℕ) (r : State)
       → (Inside (nextOf limit r x .scan .phase) → Kept limit (nextOf limit r x .scan .start) (nextOf limit r x) xs)
       → Follows (r .scan .start) (advanceOf limit (r .scan) x) → Kept limit (r .scan .start) r (x ∷ xs)
@@ -116,7 +116,7 @@ module _ (limit : ℕ) where
         go Open n i = let none : length (held r) ≡ 0 = ap length (a .held-is) in absurd (omega (arith, i .some-byte))
         go Escape n i = absurd n
 
-    -- the same behind any bytes of a fresh reader
+    -- the same after any bytes of a fresh reader
     from-before : (before after : List ℕ) (x : ℕ)
         → x ≢ 255 → Kept limit (length before) (freshOf limit) (before ++ 255 ∷ 255 ∷ x ∷ after)
     from-before before after x k =
@@ -135,8 +135,9 @@ module _ (limit : ℕ) where
         (wider (decidedAll limit (freshOf limit) before) (decidedAll limit q h)
         (header-kept x after (afterAll limit q h) a k))
       where
-        wider : {A : Type 0} {st : ℕ} (u v : List Decision) {w : List Decision} → ((a : Decision) × (a .start ≡ st) × List·Memᴰ a w)
-            ⊎ A → ((a : Decision) × (a .start ≡ st) × List·Memᴰ a (u ++ (v ++ w))) ⊎ A
+        wider : {A : Type 0} {st : ℕ} (u v : List Decision) {w : List Decision}
+            → ((a : Decision) × (a .start ≡ st) × List·Memᴰ a w) ⊎ A
+            → ((a : Decision) × (a .start ≡ st) × List·Memᴰ a (u ++ (v ++ w))) ⊎ A
         wider u v (inl p) = inl (p .0, p .1, Memᴰ·append-right u (Memᴰ·append-right v (p .2)))
         wider u v (inr p) = inr p
 
@@ -166,6 +167,6 @@ module _ (limit : ℕ) (small : limit ≤ 65279) where
 
 pub no-header-lost : NoHeaderLost
 no-header-lost limit small calls before after x e k =
-    rw (folded limit calls (freshOf limit) .lines)
+    rw (folded limit calls (freshOf limit) .decisions)
     (decided-or-open limit small (stream (logOf limit (freshOf limit) calls)) (length before)
     (rw e (from-before limit small before after x k)))

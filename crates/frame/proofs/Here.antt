@@ -1,4 +1,4 @@
--- `here` computes what stands at the front of a list.
+-- `here` computes the body of the frame at the front of a list.
 use Prim.Native.Nat.{ℕ, _+_, _≤_}
 use mathlib.Core.Path.{_≡_, refl}
 use mathlib.Core.List.{List, [], _∷_, _++_}
@@ -9,9 +9,9 @@ use lib.ListN.{length, getD, take, drop, List·getD-append}
 use lib.Seq.{take-at}
 use lib.Dec.{eqb, leb}
 use borrow.Author.Tests.{eqb-true, eq-eqb, leb-true, le-leb}
-use Rattle.frame.specs.Wire.{wire, unstuff, lengthOf, Good}
+use Rattle.frame.specs.Wire.{wire, lengthOf, Good}
+use Rattle.frame.specs.FramesComputed.{unstuff, startsWith, candidate, isGood, sumHolds, keep, here}
 use Rattle.base.specs.Sums.{checksum}
-use Rattle.frame.specs.Frames.{startsWith, candidate, isGood, sumHolds, keep, here}
 use Rattle.base.proofs.Tests.{both}
 use Rattle.frame.proofs.Stuffing.{unstuff-stuff}
 
@@ -28,7 +28,7 @@ unfolding startsWith
 startsWith-append [] r = refl
 startsWith-append (x ∷ xs) r = rw (eq-eqb x x refl) (startsWith-append xs r)
 
--- a frame with body b stands at the front of t
+-- a frame with the body b is at the front of t
 pub record FrameHere (limit : ℕ) (t b : List ℕ) : Type 0 where
   pub rest : List ℕ
   pub bytes : t ≡ wire b ++ rest

@@ -1,15 +1,13 @@
--- An answer can be read back from its line of the table, and a reader from its state,
--- so no two have the same. Assumes nothing.
+-- rows-injective, states-injective and contracts-complete: an answer is read back from its row, and a reader from its
+-- state. Assumes nothing.
 use Prim.Native.Nat.{ℕ}
-use mathlib.Core.Path.{_≡_, refl}
+use mathlib.Core.Path.{_≡_, refl, ap}
 use Rattle.base.specs.Rows.{Row}
 use Rattle.base.proofs.Rows.{injective-by, under, value}
 use Rattle.frame.specs.Table.{rowOf, finishRowOf, writeRowOf}
 use Rattle.frame.specs.State.{Phase, Idle, Half, Header, Open, Escape, State, phaseOf, stateOf}
-use Rattle.frame.specs.Claims.{RowsInjective, StatesInjective, FinishKeeps}
-use Rattle.frame.specs.Rules.{inRangeOf}
-use Rattle.base.proofs.Tests.{by-test}
-use Rattle.base.specs.Outcomes.{Outcome}
+use Rattle.frame.specs.Injective.{RowsInjective, StatesInjective, ContractsComplete}
+use Rattle.base.specs.Outcomes.{Outcome, Output}
 use Rattle.frame.specs.declared.place.WirePlace.{WirePlace}
 use Rattle.frame.specs.declared.scan.Phase.{Phase as CodePhase}
 use Rattle.frame.specs.declared.scan.Phase.the-variants as phase
@@ -108,5 +106,12 @@ reader-back r = rw (phase-back (r .scan .phase))
 pub states-injective : StatesInjective
 states-injective = injective-by stateOf readerFrom reader-back
 
-pub finish-keeps : FinishKeeps
-finish-keeps limit r = by-test (λ (y : Outcome State). y .state ≡ r) (inRangeOf limit (r .scan)) (λ e. refl) (λ e. refl)
+-- ---- the contracts
+
+pub contracts-complete : ContractsComplete
+contracts-complete =
+    record {
+      fed = λ f y e. (ap (λ (z : Outcome State). z .row) e, ap (λ (z : Outcome State). z .state) e);
+      finished = λ f y e. (ap (λ (z : Outcome State). z .row) e, ap (λ (z : Outcome State). z .state) e);
+      written = λ r after w e. (ap (λ (z : Output). z .row) e, ap (λ (z : Output). z .out) e);
+    }

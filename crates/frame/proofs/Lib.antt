@@ -1,19 +1,25 @@
--- The laws, from lists up to the claims of specs/Claims.antt.
-pub mod Rows
-pub mod Named
+-- Laws, from lists and bytes up to the claims of specs/.
+
+-- answers, states, and the writer
+pub mod Injective
+pub mod Variants
 pub mod Stuffing
-pub mod Spelled
+pub mod BodyLayout
 pub mod Writing
-pub mod Written
+pub mod WriterExact
+-- the reader: one byte, one call
 pub mod Puts
 pub mod Steps
 pub mod Stored
 pub mod Ranges
-pub mod Counts
+pub mod EachCall
+pub mod WorkedReader
+-- the frames of a stream
 pub mod Here
 pub mod Skip
 pub mod Listed
 pub mod Unique
+-- a list of calls: stream-correct
 pub mod Bodies
 pub mod Moves
 pub mod Accounts
@@ -22,9 +28,9 @@ pub mod Sent
 pub mod StreamCorrect
 pub mod WrongLogs
 pub mod LogExact
-pub mod Worked
-pub mod Sender
-pub mod Round
+pub mod Sending
+pub mod RoundTrip
+-- the decisions of a stream
 pub mod Fold
 pub mod Deciding
 pub mod Reading

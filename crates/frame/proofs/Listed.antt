@@ -1,4 +1,4 @@
--- `framesOf` lists the frames of a stream, each once, by rising start, and no two overlap.
+-- `framesOf` lists the frames of a stream, each once, in order of rising start, and no two overlap.
 use Prim.Native.Nat.{ℕ, suc, _+_, _≤_}
 use mathlib.Core.Path.{_≡_, refl, sym, ap, _∙_}
 use mathlib.Core.List.{List, [], _∷_, _++_, List·Memᴰ, List·Memᴰ·head, List·Memᴰ·tail, List·Memᴰ·not-nil}
@@ -9,11 +9,12 @@ use native.Mathlib.Nat.{add-zero}
 use native.Mathlib.Omega.{arith}
 use lib.ListN.{length}
 use Rattle.frame.specs.Wire.{Good, wire}
-use Rattle.frame.specs.Frames.{AllFrom, Apart, Lists, Found, here, listed, framesFrom, framesOf}
+use Rattle.frame.specs.Frames.{AllFrom, Apart, Lists, Found}
+use Rattle.frame.specs.FramesComputed.{here, listed, framesFrom, framesOf}
 use Rattle.frame.proofs.Here.{FrameHere, here-sound, here-some}
 use Rattle.frame.proofs.Skip.{after-header, good-first}
 
--- a frame of t, whose places count from n
+-- a frame of t, where the first byte of t is at place n
 record FrameFrom (limit n : ℕ) (t : List ℕ) (f : Found) : Type 0 where
   before : List ℕ
   after : List ℕ

@@ -1,13 +1,14 @@
--- A list of calls, entry by entry. Assumes nothing.
+-- log-exact, log-chains and worked-logs. Assumes nothing.
 use Prim.Native.Nat.{ℕ}
 use mathlib.Core.Path.{_≡_, refl, ap}
 use mathlib.Core.List.{List, [], _∷_, map, head-eq-of-cons-eq, List·Memᴰ, List·Memᴰ·not-nil, List·Memᴰ·cases-cons}
 use mathlib.Core.Logic.{_⊎_, inl, inr}
 use native.Mathlib.Omega.{arith}
 use Rattle.frame.specs.State.{State}
-use Rattle.frame.specs.Logs.{Call, feed, finish, callOf, Entry, entryOf, logOf, stateAfter, stream, OffersFront}
-use Rattle.frame.specs.Logs.{joined}
-use Rattle.frame.specs.LogExact.{callIn, Answered, lastOf, LogsExact, LogsWorked}
+use Rattle.frame.specs.Logs.{Call, feed, finish, Entry, stream, Chains}
+use Rattle.frame.specs.LogsComputed.{callOf, entryOf, logOf, stateAfter}
+use Rattle.frame.specs.Offers.{OffersFront, joined}
+use Rattle.frame.specs.LogExact.{callIn, Answered, lastOf, LogsExact, LogChains, LogsWorked}
 use Rattle.frame.proofs.Logged.{not-finish, not-feed}
 
 answered-first : (limit : ℕ) (r : State) (c : Call) → Answered limit (entryOf r c (callOf limit r c))
@@ -43,6 +44,11 @@ log-exact limit r calls =
       answered = all-answered limit r calls;
       left = last-left limit r calls;
     }
+
+pub log-chains : LogChains
+unfolding logOf Chains
+log-chains limit r [] = tt
+log-chains limit r (c ∷ cs) = (refl, log-chains limit (callOf limit r c .state) cs)
 
 pub worked-logs : LogsWorked
 unfolding joined stream OffersFront

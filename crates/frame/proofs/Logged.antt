@@ -11,21 +11,23 @@ use lib.ListN.{length, getD, take, length-append}
 use lib.Seq.{length-take-le}
 use lib.Dec.{eqb, leb}
 use borrow.Author.Tests.{le-leb, leb-true, leb-false, ne-eqb}
-use Rattle.frame.specs.Frames.{Found, frontBody, framesFrom}
+use Rattle.frame.specs.Frames.{Found, frontBody}
+use Rattle.frame.specs.FramesComputed.{framesFrom}
 use Rattle.base.specs.Rows.{Row, row}
 use Rattle.base.specs.Keys.{among}
 use Rattle.frame.specs.Table.{codeOf, eventRow}
 use Rattle.frame.specs.Rules.{advanceOf, decidesOf, inRangeOf, maxConsumed, maxFilled}
 use Rattle.base.specs.Outcomes.{Outcome, outcome}
 use Rattle.frame.specs.Calls.{nextOf, finishRowIn, runOf, feedOf, finishOf}
-use Rattle.frame.specs.Logs.{Call, feed, finish, callOf, Entry, entryOf, logOf, stateAfter, offered, consumedBy}
-use Rattle.frame.specs.Logs.{consumedIn, stream, addDelivered, delivered, decided, finishNumbers, Account}
-use Rattle.frame.specs.Logs.{Accounts}
+use Rattle.frame.specs.Logs.{Call, feed, finish, Entry, offered, consumedBy, consumedIn, stream, addDelivered}
+use Rattle.frame.specs.Logs.{delivered, decided}
+use Rattle.frame.specs.LogsComputed.{callOf, entryOf, logOf, stateAfter}
+use Rattle.frame.specs.Accounts.{finishNumbers, Account, Accounts}
 use Rattle.frame.specs.State.{Phase, Idle, Half, Header, Open, Escape, State}
 use Rattle.frame.specs.declared.scan.Event.{Event}
 use Rattle.frame.specs.declared.scan.Event.the-variants.{Quiet, Decided}
 use Rattle.base.proofs.Tests.{by-test}
-use Rattle.frame.proofs.Counts.{Numbered, numbered}
+use Rattle.frame.proofs.EachCall.{Numbered, numbered}
 use Rattle.frame.proofs.Accounts.{not-state}
 use Rattle.frame.proofs.Moves.{Inv, origin, pending, deliveredBy, moves, nothing-left}
 
@@ -34,8 +36,8 @@ consumed r = r .scan .consumed
 
 -- ---- the bytes of a call
 
--- a call took k of the bytes bs, after n others, by its last event
-record Took (limit : ℕ) (r : State) (n : ℕ) (bs : List ℕ) (y : Outcome State) : Type 0 where
+-- a call consumed k of the bytes bs, after n others; the last one gave the event
+record Ran (limit : ℕ) (r : State) (n : ℕ) (bs : List ℕ) (y : Outcome State) : Type 0 where
   k : ℕ
   event : Event
   start : ℕ
@@ -54,10 +56,10 @@ silent : (e : Event) → decidesOf e ≡ false → (f : Found) (l : List Found) 
 silent Quiet d f l = refl
 silent (Decided v) d f l = absurd (true≢false d)
 
-took : (limit : ℕ) → limit ≤ 65279 → (bs : List ℕ) (n : ℕ) (r : State) → Inv limit r
-    → Took limit r n bs (runOf limit bs n r)
+ran : (limit : ℕ) → limit ≤ 65279 → (bs : List ℕ) (n : ℕ) (r : State) → Inv limit r
+    → Ran limit r n bs (runOf limit bs n r)
 unfolding runOf
-took limit small [] n r i =
+ran limit small [] n r i =
     record {
       k = 0;
       event = Quiet;
@@ -71,11 +73,11 @@ took limit small [] n r i =
       holds = i;
       frames = λ t. refl;
     }
-took limit small (x ∷ xs) n r i =
+ran limit small (x ∷ xs) n r i =
     let m = moves limit small r x i in
     let e : Event = advanceOf limit (r .scan) x .event in
     let one : consumed (nextOf limit r x) ≡ consumed r + 1 = m .one ∙ sym (add-one (consumed r)) in
-    by-test (Took limit r n (x ∷ xs)) (decidesOf e)
+    by-test (Ran limit r n (x ∷ xs)) (decidesOf e)
     (λ d. record {
       k = 1;
       event = e;
@@ -90,8 +92,8 @@ took limit small (x ∷ xs) n r i =
       frames = λ t. rw (← one) (m .frames t);
     })
     (λ d.
-    let w : Took limit (nextOf limit r x) (n + 1) xs (runOf limit xs (n + 1) (nextOf limit r x)) =
-    took limit small xs (n + 1) (nextOf limit r x) (m .holds) in
+    let w : Ran limit (nextOf limit r x) (n + 1) xs (runOf limit xs (n + 1) (nextOf limit r x)) =
+    ran limit small xs (n + 1) (nextOf limit r x) (m .holds) in
     let count : n + 1 + w .k ≡ n + suc (w .k) = omega arith in
     let end : consumed (nextOf limit r x) + w .k ≡ consumed r + suc (w .k) = omega arith in
     record {
@@ -111,7 +113,7 @@ took limit small (x ∷ xs) n r i =
 
 -- ---- one call
 
--- what a call of a reader that the calls can reach gives
+-- what a call of a reader that calls can reach gives
 pub record Called (limit : ℕ) (r : State) (c : Call) (y : Outcome State) : Type 0 where
   pub holds : Inv limit (y .state)
   pub longest : consumed (y .state) ≤ 2 ^ 62
@@ -122,14 +124,14 @@ pub record Called (limit : ℕ) (r : State) (c : Call) (y : Outcome State) : Typ
   pub frames : (t : List ℕ) → framesFrom limit (origin r) (pending r ++ (take (consumedBy c (y .row)) (offered c) ++ t))
       ≡ addDelivered (entryOf r c y) (framesFrom limit (origin (y .state)) (pending (y .state) ++ t))
 
--- bytes given are no end asked
+-- a feed is not a finish
 pub not-finish : {A : Type 0} {bs : List ℕ} → feed bs ≡ finish → A
 not-finish e = let z : _≡_ {A = ℕ} 0 1 = cc in absurd (omega arith)
 
 pub not-feed : {A : Type 0} {bs : List ℕ} → finish ≡ feed bs → A
 not-feed e = not-finish (sym e)
 
--- no byte is given
+-- a feed with no data
 none-fed : {bs : List ℕ} → feed bs ≡ feed [] → bs ≡ []
 none-fed e = cc
 
@@ -215,12 +217,13 @@ module _ (limit : ℕ) (small : limit ≤ 65279) (r : State) (i : Inv limit r) (
       rw in-range
       (by-test (Called limit r (feed bs)) (leb (consumed r + length bs) (2 ^ 62))
       (λ d.
-      let w : Took limit r 0 bs (runOf limit bs 0 r) = took limit small bs 0 r i in
+      let w : Ran limit r 0 bs (runOf limit bs 0 r) = ran limit small bs 0 r i in
       let n : 0 + w .k ≡ w .k = omega arith in
       with-row limit r (feed bs) (runOf limit bs 0 r) (eventRow (w .event) (w .k) (w .start) (consumed r + w .k))
       (w .row-is ∙ ap (λ (j : ℕ). eventRow (w .event) j (w .start) (consumed r + w .k)) n)
-      (event-called limit r (runOf limit bs 0 r .state) bs (w .k) (w .start) (leb-true (consumed r + length bs) (2 ^ 62) d)
-      (w .within) (w .place) (w .holds) (w .idle) (w .event) (w .all) (w .some) (w .frames)))
+      (event-called limit r (runOf limit bs 0 r .state) bs (w .k) (w .start)
+      (leb-true (consumed r + length bs) (2 ^ 62) d) (w .within) (w .place) (w .holds)
+      (w .idle) (w .event) (w .all) (w .some) (w .frames)))
       (λ d.
       let over : 2 ^ 62 < consumed r + length bs = leb-false (consumed r + length bs) (2 ^ 62) d in
       record {
@@ -299,7 +302,7 @@ pub record Logged (limit : ℕ) (r : State) (log : List Entry) : Type 0 where
   pub shapes : (e : Entry) → List·Memᴰ e log → e .row .number ≡ 1
       → e .row ≡ row 1 (consumedIn e ∷ getD (e .row .values) 1 0 ∷ getD (e .row .values) 2 0 ∷ [])
 
--- what holds of the first and of the others holds of each
+-- what holds of the first and of all others holds of each
 each : (P : Entry → Type 0) (a e : Entry) (l : List Entry)
     → P a → ((e : Entry) → List·Memᴰ e l → P e) → List·Memᴰ e (a ∷ l) → P e
 each P a e l first rest m = go (List·Memᴰ·cases-cons m)

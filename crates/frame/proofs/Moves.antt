@@ -1,5 +1,5 @@
--- One raw byte over the stream. A state stands for the raw bytes of the frame that it has begun, its pending bytes;
--- a byte keeps the list of frames of the pending bytes and any rest, but for the frame that it hands out.
+-- One byte of the stream. A state stands for the bytes on the wire of the frame that it has begun, its pending bytes.
+-- A byte leaves the list of frames of the pending bytes and any rest as it is, except for the frame that it delivers.
 -- Assumes nothing.
 use Prim.Native.Nat.{ℕ, suc, _+_, _-_, _%_, _^_, _≤_}
 use mathlib.Core.Path.{_≡_, refl, sym, ap, _∙_}
@@ -14,7 +14,8 @@ use lib.Seq.{getD-at}
 use lib.Dec.{eqb}
 use borrow.Author.Tests.{eqb-true, eqb-false, eq-eqb, ne-eqb, le-leb}
 use Rattle.frame.specs.Wire.{stuff, wire, lengthOf, Good}
-use Rattle.frame.specs.Frames.{Found, frontBody, isGood, sumHolds, framesFrom, here}
+use Rattle.frame.specs.Frames.{Found, frontBody}
+use Rattle.frame.specs.FramesComputed.{isGood, sumHolds, framesFrom, here}
 use Rattle.frame.specs.Table.{codeOf}
 use Rattle.frame.specs.Rules.{putOf, grownOf, endedOf, bodyByteOf, onFFIn, onOtherIn, advanceOf}
 use Rattle.frame.specs.State.{Phase, Idle, Half, Header, Open, Escape, Scan, Step, State}
@@ -57,7 +58,7 @@ originIn Escape s = s .start
 abbrev pub origin : State → ℕ
 origin r = originIn (r .scan .phase) (r .scan)
 
--- an open frame of which n raw bytes are there
+-- an open frame with n bytes on the wire so far
 pub record Begun (limit : ℕ) (s : Scan) (b : List ℕ) (n : ℕ) : Type 0 where
   pub some-byte : 1 ≤ length b
   pub place : s .consumed ≡ s .start + n
@@ -76,7 +77,7 @@ pub record Inv (limit : ℕ) (r : State) : Type 0 where
   pub room : length (r .body) ≡ limit + 2
   pub inside : r .scan .filled ≤ limit + 1
 
--- the frame that an event hands out, before others
+-- the frame that an event delivers, followed by others
 abbrev pub deliveredBy : Event → Found → List Found → List Found
 deliveredBy Quiet f l = l
 deliveredBy (Decided v) f l = cond (eqb (codeOf v) 1) (f ∷ l) l
@@ -123,14 +124,14 @@ length-ff b = rw (stuff-append b (255 ∷ [])) (length-append (stuff b) (255 ∷
 pub wire-wait : (b t : List ℕ) → (wire b ++ 255 ∷ []) ++ t ≡ wire b ++ 255 ∷ t
 wire-wait b t = rw (append-assoc (stuff b) (255 ∷ []) t)
 
--- behind a header no body byte is there
+-- after a header there is no body byte yet
 pub wire-none : {b : List ℕ} → b ≡ [] → wire b ≡ 255 ∷ 255 ∷ []
 unfolding stuff
 wire-none e = rw e refl
 
 -- ---- a body byte
 
--- the next body byte v of the state r, whatever its phase, stands in the stream
+-- the next body byte v of the state r, in any phase, is in the stream
 module _ (limit : ℕ) (r : State) (room : length (r .body) ≡ limit + 2) (inside : r .scan .filled ≤ limit + 1)
     (p : Partial limit (r .scan .filled) (r .scan .length) (r .scan .sum) (held r)) (v : ℕ)
     (first : getD (held r ++ v ∷ []) 0 0 ≢ 255)
@@ -175,7 +176,7 @@ module _ (limit : ℕ) (r : State) (room : length (r .body) ≡ limit + 2) (insi
         frames = f;
       }
 
-  -- a refused frame is none
+  -- a refused frame is not a frame of the stream
   refused : (e : Verdict)
       → eqb (codeOf e) 1 ≡ false → ((t : List ℕ) → here limit (wire grown ++ t) ≡ none) → Moves (endedOf (r .scan) v e)
   refused e other none-here =
@@ -210,7 +211,7 @@ module _ (limit : ℕ) (r : State) (room : length (r .body) ≡ limit + 2) (insi
   pub body-moves : Moves (bodyByteOf limit (r .scan) v)
   body-moves = body-cases (r .scan) p v first Moves continues ended-moves
 
--- ---- a raw byte, by phase
+-- ---- a byte on the wire, by phase
 
 module _ (limit : ℕ) (small : limit ≤ 65279) (r : State) (room : length (r .body) ≡ limit + 2)
     (inside : r .scan .filled ≤ limit + 1) where
@@ -229,7 +230,7 @@ module _ (limit : ℕ) (small : limit ≤ 65279) (r : State) (room : length (r .
   one : r .scan .consumed + 1 ≡ suc (r .scan .consumed)
   one = add-one (r .scan .consumed)
 
-  -- raw bytes that are the wire form with one body byte more
+  -- bytes on the wire that are a stuffed body with one byte more
   on-body : (f : Phase) (x v : ℕ)
       → Partial limit (r .scan .filled) (r .scan .length) (r .scan .sum) b → getD (b ++ v ∷ []) 0 0 ≢ 255
       → suc (r .scan .consumed) ≡ at + length (wire (b ++ v ∷ [])) → originIn f (r .scan) ≡ at
@@ -243,7 +244,7 @@ module _ (limit : ℕ) (small : limit ≤ 65279) (r : State) (room : length (r .
             ∙ ap (λ (j : List ℕ). framesFrom limit at j) (same t) ∙ m .frames t;
       }
 
-  -- a frame that is begun, before bytes that it cannot go on with, is none
+  -- a frame that is begun, followed by bytes with which it cannot go on, is not a frame of the stream
   broken : (x : ℕ) (t : List ℕ) {n : ℕ} → Begun limit (r .scan) b n → x ≢ 85
       → framesFrom limit at (wire b ++ 255 ∷ x ∷ t) ≡ framesFrom limit (at + length (wire b)) (255 ∷ x ∷ t)
   broken x t i k =
@@ -327,7 +328,7 @@ module _ (limit : ℕ) (small : limit ≤ 65279) (r : State) (room : length (r .
             ∙ pass-pair limit n 255 x t k ∙ pass-other limit (suc n) x t k ∙ at-place limit t (omega (arith, i .place));
       })
 
--- a raw byte, of any reader that the calls can reach
+-- a byte, of any reader that calls can reach
 pub moves : (limit : ℕ) → limit ≤ 65279 → (r : State) (x : ℕ) → Inv limit r
     → Moved limit (origin r) (λ t. pending r ++ x ∷ t) r (advanceOf limit (r .scan) x)
 moves limit small r x i =
@@ -338,7 +339,7 @@ moves limit small r x i =
 -- ---- where a frame begins or the bytes end
 
 module _ (limit : ℕ) where
-  -- nothing that is pending is a frame
+  -- the pending bytes are not a frame
   pub nothing-left : (r : State) → Inv limit r → framesFrom limit (origin r) (pending r ++ []) ≡ []
   unfolding framesFrom stuff
   nothing-left r i = go (r .scan .phase) (r .scan) (held r) (i .phase)
@@ -358,7 +359,7 @@ module _ (limit : ℕ) where
           (none-lone limit b (rw (h .part .count) (h .part .under)))
           ∙ pass-lone limit (s .start + length (wire b)) 255
 
-  -- a header that follows ends whatever is pending
+  -- a header that follows ends the pending bytes
   pub settles : limit ≤ 65279 → (r : State) → Inv limit r → (t : List ℕ)
       → framesFrom limit (origin r) (pending r ++ 255 ∷ 255 ∷ t) ≡ framesFrom limit (r .scan .consumed) (255 ∷ 255 ∷ t)
   settles small r i t = go (r .scan .phase) (r .scan) (held r) (i .phase)

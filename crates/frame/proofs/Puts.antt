@@ -1,5 +1,5 @@
--- A byte put at its place of the body: what stands there, and that nothing else changes. All laws of the reader rely on
--- these facts alone. Assumes nothing.
+-- A byte put at its place of the body: it is there, and nothing else changes. All laws of the reader rely on these
+-- facts alone. Assumes nothing.
 use Prim.Native.Nat.{ℕ, _+_, _<_}
 use mathlib.Core.Path.{_≡_, refl, sym, ap, _∙_}
 use mathlib.Core.List.{List, [], _∷_, _++_}
@@ -29,7 +29,7 @@ module _ (body : List ℕ) (at v : ℕ) (room : at < length body) where
   size : length after ≡ length body
   size = put-length true body at v
 
-  -- the bytes before it
+  -- the bytes up to it
   front : take at after ≡ take at body
   front =
       let n : length (take at after) ≡ at = length-take-le at after (omega (arith, size)) in

@@ -1,4 +1,4 @@
--- STATE exactly when a field is outside its range. Assumes nothing.
+-- reader-ranges, used-exactly, fresh-reader and limits. Assumes nothing.
 use Prim.Native.Nat.{ℕ, _+_, _^_, _<_}
 use mathlib.Core.Path.{_≡_, refl}
 use mathlib.Core.Bool.{false}
@@ -15,10 +15,10 @@ use Rattle.frame.specs.State.{Phase, Idle, Half, Header, Open, Escape, S
 use Rattle.frame.specs.Rules.{inRangeOf, maxConsumed, maxFilled, advanceOf, decidesOf}
 use Rattle.frame.specs.Table.{eventRow}
 use Rattle.frame.specs.Calls.{zeros, finishRowIn, nextOf, runOf}
-use Rattle.frame.specs.Ranges.{OutOfRange, ReaderRangesAll, UsedAlways, FreshReader}
+use Rattle.frame.specs.Ranges.{OutOfRange, ReaderRangesAll, UsedAlways, FreshReader, Limits}
 use Rattle.frame.specs.declared.scan.Event.{Event}
 use Rattle.frame.specs.declared.scan.Event.the-variants.{Quiet, Decided}
-use Rattle.frame.proofs.Counts.{numbered}
+use Rattle.frame.proofs.EachCall.{numbered}
 
 -- ---- the test
 
@@ -35,7 +35,7 @@ inside-not r e =
     (λ t. inr (leb-false (r .scan .filled) (maxFilled frameLimit) (rw t at e)))
     (λ t. inl (leb-false (r .scan .consumed) maxConsumed t))
 
--- ---- what a run and an end are answered stands below STATE and USED
+-- ---- the numbers of a run and of a finish are below those of STATE and USED
 
 event-below : (e : Event) (n s p : ℕ) → eventRow e n s p .number < 17
 event-below Quiet n s p = omega arith
@@ -93,3 +93,6 @@ used-exactly r bytes =
 pub fresh-reader : FreshReader
 unfolding zeros
 fresh-reader = refl
+
+pub limits : Limits
+limits = record { code = refl; greatest = refl; allowed = omega arith }

@@ -1,5 +1,5 @@
--- Each stretch of the stream that the table answers is told:
--- from any reader, a header and the bytes behind it lead to the deciding byte. Assumes nothing.
+-- Each decision of the stream is answered: from any reader, a header and the bytes that follow it lead to the deciding
+-- byte. Assumes nothing.
 use Prim.Native.Nat.{ℕ, _+_, _≤_, _<_}
 use mathlib.Core.Path.{_≡_, refl, sym, ap, _∙_}
 use mathlib.Core.List.{List, [], _∷_, _++_, append-assoc, append-nil, List·Memᴰ, List·Memᴰ·head, Memᴰ·append-right}
@@ -11,7 +11,8 @@ use lib.Seq.{getD-at}
 use lib.Dec.{eqb, ltb}
 use borrow.Author.Tests.{eqb-true, ne-eqb, ltb-true, ltb-false}
 use Rattle.frame.specs.Wire.{stuff, wire, lengthOf}
-use Rattle.frame.specs.Decisions.{Unfinished, Decides, is-frame, is-short, is-long, is-stuff, is-cut, is-sum, Decision}
+use Rattle.frame.specs.Decisions.{Unfinished, Decides, is-frame, is-short, is-long, is-stuff, is-cut, is-sum}
+use Rattle.frame.specs.Decisions.{Decision}
 use Rattle.frame.specs.Rules.{escapeOf, bodyByteOf, advanceOf, decidesOf}
 use Rattle.frame.specs.Calls.{nextOf}
 use Rattle.frame.specs.State.{Phase, Idle, Half, Header, Open, Escape, Scan, Step, State}
@@ -105,7 +106,7 @@ pub record At (limit st : ℕ) (b : List ℕ) (r : State) : Type 0 where
   pub held-is : held r ≡ b
   pub starts : r .scan .start ≡ st
 
--- before the last raw byte of the body byte v
+-- before the last byte on the wire of the body byte v
 record Due (limit : ℕ) (r : State) (v : ℕ) : Type 0 where
   pre : List ℕ
   last : ℕ
@@ -123,7 +124,7 @@ module _ (limit : ℕ) (r : State) (room : length (r .body) ≡ limit + 2) where
   abbrev b : List ℕ
   b = held r
 
-  -- before a body byte of one raw byte
+  -- before a body byte of one byte on the wire
   due-alone : (v : ℕ) → eqb v 255 ≡ false → Partial limit (r .scan .filled) (r .scan .length) (r .scan .sum) b
       → advanceOf limit (r .scan) v ≡ bodyByteOf limit (r .scan) v → Due limit r v
   unfolding afterAll stuff
@@ -195,7 +196,7 @@ module _ (limit : ℕ) (r : State) (room : length (r .body) ≡ limit + 2) where
 
 -- ---- to the deciding byte
 
--- before the last of the raw bytes, which decides e for the frame that starts at st
+-- before the last of the bytes `raw`, which decides e for the frame that starts at st
 pub record Ready (limit : ℕ) (r : State) (raw : List ℕ) (st : ℕ) (e : Verdict) : Type 0 where
   pub pre : List ℕ
   pub last : ℕ
@@ -263,7 +264,7 @@ module _ (limit : ℕ) (small : limit ≤ 65279) where
       let d : Due limit r v = due a v first in
       let q : State = d .q in
       let b-is : held q ≡ b = d .same ∙ a .held-is in
-      let says : advanceOf limit (q .scan) (d .last) .event ≡ Decided e =
+      let shows : advanceOf limit (q .scan) (d .last) .event ≡ Decided e =
       rw (d .step)
       (body-cases (q .scan) (d .part) v (rw b-is first) (λ (s : Step). s .event ≡ Decided e)
       (λ k low w. absurd (never-both limit (b ++ v ∷ []) e p (rw b-is at (unfinished-of w (omega (arith, w .count))))))
@@ -273,7 +274,7 @@ module _ (limit : ℕ) (small : limit ≤ 65279) where
         last = d .last;
         parts = d .split;
         starts = rw (d .runs) (d .starts ∙ a .starts);
-        event = rw (d .runs) says;
+        event = rw (d .runs) shows;
       }
 
   -- a stuffed body that decides nothing
@@ -335,27 +336,27 @@ module _ (limit : ℕ) (small : limit ≤ 65279) where
             step-end (read-body a (ends-front limit small a v e ends)) v e ends in
             rw (s .parts, stuff-append a (v ∷ [])) (ready-after (wire a) w)
 
-    -- CUT and STUFF: the byte x behind an FF that waits
+    -- CUT and STUFF: the byte x that follows an FF that waits
     ff-ready : (b : List ℕ) (x : ℕ) (e : Verdict) → Unfinished limit b → ((s : Scan) → s .phase ≡ Escape
         → advanceOf limit s x .event ≡ Decided e) → Ready limit r (wire b ++ 255 ∷ x ∷ []) st e
-    ff-ready b x e u says =
+    ff-ready b x e u shows =
         let w = read-ff b u in
         record {
           pre = wire b ++ 255 ∷ [];
           last = x;
           parts = sym (append-assoc (wire b) (255 ∷ []) (x ∷ []));
           starts = w .1;
-          event = says (afterAll limit r (wire b ++ 255 ∷ []) .scan) (w .0);
+          event = shows (afterAll limit r (wire b ++ 255 ∷ []) .scan) (w .0);
         }
 
-    -- the byte's line is among those that are said, with some body
+    -- the byte's decision is among those answered, with some body
     abbrev Shown : List ℕ → ℕ → Type 0
     Shown raw n = (b : List ℕ)
         × List·Memᴰ (record { number = n; start = st; end = st + length raw; body = b }) (decidedAll limit r raw)
 
-    says : {raw : List ℕ} {n : ℕ} (e : Verdict) → n ≡ codeOf e → Ready limit r raw st e → Shown raw n
+    shows : {raw : List ℕ} {n : ℕ} (e : Verdict) → n ≡ codeOf e → Ready limit r raw st e → Shown raw n
     unfolding decidedAll afterAll
-    says {raw} {n} e code w =
+    shows {raw} {n} e code w =
         let q : State = afterAll limit r (w .pre) in
         let ev : advanceOf limit (q .scan) (w .last) .event ≡ Decided e = w .event in
         let yes : decidesOf (advanceOf limit (q .scan) (w .last) .event) ≡ true = ap decidesOf ev in
@@ -381,9 +382,9 @@ module _ (limit : ℕ) (small : limit ≤ 65279) where
     stuff-at x k n s e = rw (ne-eqb x 255 n, e, ne-eqb x 85 k)
 
     pub reads : {raw : List ℕ} {n : ℕ} {body : List ℕ} → Decides limit raw n body → Shown raw n
-    reads (is-frame b n h e g) = says Frame n (rw e (body-ready b Frame g))
-    reads (is-short b n h e l k) = says Short n (rw e (body-ready b Short (l, k)))
-    reads (is-long b n h e l f five k) = says Long n (rw e (body-ready b Long (l, f, five, k)))
-    reads (is-stuff b x n h e u k f) = says Stuff n (rw e (ff-ready b x Stuff u (stuff-at x k f)))
-    reads (is-cut b n h e u) = says Cut n (rw e (ff-ready b 255 Cut u cut-at))
-    reads (is-sum b n h e l k m w) = says Sum n (rw e (body-ready b Sum (l, k, m, w)))
+    reads (is-frame b n h e g) = shows Frame n (rw e (body-ready b Frame g))
+    reads (is-short b n h e l k) = shows Short n (rw e (body-ready b Short (l, k)))
+    reads (is-long b n h e l f five k) = shows Long n (rw e (body-ready b Long (l, f, five, k)))
+    reads (is-stuff b x n h e u k f) = shows Stuff n (rw e (ff-ready b x Stuff u (stuff-at x k f)))
+    reads (is-cut b n h e u) = shows Cut n (rw e (ff-ready b 255 Cut u cut-at))
+    reads (is-sum b n h e l k m w) = shows Sum n (rw e (body-ready b Sum (l, k, m, w)))

@@ -1,4 +1,4 @@
--- What the writer writes is read back: after any calls, the calls that take a wire form end in FRAME at its last byte.
+-- round-trip, read-anywhere and made-good: calls that consume a written frame end in FRAME at its last byte.
 -- Assumes nothing.
 use Prim.Native.Nat.{ℕ, _+_, _-_, _≤_, _<_}
 use mathlib.Core.Path.{_≡_, refl, sym, ap, _∙_}
@@ -15,21 +15,24 @@ use borrow.Author.Tests.{eqb-true}
 use Rattle.frame.specs.Wire.{stuff, wire, lengthOf, commandOf, numberOf, flagsOf, payloadOf, unsummed, bodyOf}
 use Rattle.frame.specs.Wire.{Good}
 use Rattle.base.specs.Sums.{checksum}
-use Rattle.frame.specs.Frames.{Found, frontBody, framesFrom}
+use Rattle.frame.specs.Frames.{Found, frontBody}
+use Rattle.frame.specs.FramesComputed.{framesFrom}
 use Rattle.base.specs.Rows.{row}
 use Rattle.frame.specs.Calls.{freshOf}
-use Rattle.frame.specs.Logs.{Entry, consumedIn, logOf, stateAfter, offered, stream, delivered, decided, Account}
-use Rattle.frame.specs.Logs.{Accounts}
-use Rattle.frame.specs.Claims.{MadeGood, ReadBack, RoundTrip, ReadAnywhere}
+use Rattle.frame.specs.Logs.{Entry, consumedIn, offered, stream, delivered, decided}
+use Rattle.frame.specs.LogsComputed.{logOf, stateAfter}
+use Rattle.frame.specs.Accounts.{Account, Accounts}
+use Rattle.frame.specs.BodyLayout.{MadeGood}
+use Rattle.frame.specs.RoundTrip.{ReadBack, RoundTrip, ReadAnywhere}
 use Rattle.frame.specs.State.{State}
 use Rattle.frame.proofs.Skip.{good-first, take-wire}
 use Rattle.frame.proofs.Moves.{Inv, origin, pending, settles}
 use Rattle.frame.proofs.Logged.{Logged, logged, reached}
-use Rattle.frame.proofs.Accounts.{frame-takes}
+use Rattle.frame.proofs.Accounts.{frame-consumes}
 use Rattle.frame.proofs.StreamCorrect.{fresh-holds, stream-correct}
 use Rattle.base.proofs.Lists.{no-bytes}
 
--- ---- a body made of its parts
+-- ---- a body made of its four values
 
 module _ (command number flags : ℕ) (payload : List ℕ) where
   abbrev made : List ℕ
@@ -81,7 +84,7 @@ made-good limit command number flags payload fits =
       payload-is = payload-made command number flags payload;
     }
 
--- ---- a body that is held: its parts are those of the bytes held
+-- ---- a body that is held: its fields are those of the bytes held
 
 module _ (u b : List ℕ) (e : frontBody u ≡ b) where
   at : (i : ℕ) → i < lengthOf u + 2 → getD u i 0 ≡ getD b i 0
@@ -99,7 +102,7 @@ module _ (u b : List ℕ) (e : frontBody u ≡ b) where
       ∙ take-append-le (lengthOf u - 5) (drop 6 b) rest (omega (arith, same-length, length-drop 6 b))
       ∙ ap (λ (j : ℕ). take (j - 5) (drop 6 b)) same-length
 
--- ---- the call that hands out the one frame of a log
+-- ---- the call that delivers the only frame of a log
 
 abbrev foundIn : Entry → Found
 foundIn e =
@@ -140,7 +143,7 @@ single (a ∷ l) f e = go (eqb (a .row .number) 1) refl e (λ k. single l f k)
           found = s .found;
         }
 
--- what a log's parts owe to the counts
+-- the counts of the early, the last and the late calls of a log
 record Split (n : ℕ) (early : List Entry) (last : Entry) (late : List Entry) : Type 0 where
   account : Account (n + length (stream early)) last
   size : length (stream (early ++ last ∷ late)) ≡ length (stream early) + (consumedIn last + length (stream late))
@@ -219,7 +222,7 @@ module _ (limit : ℕ) (small : limit ≤ 65279) (command number flags : ℕ) (p
         late = s .late;
         parts = s .parts;
         nothing-later = no-bytes (stream (s .late)) (omega (arith, w .account .ends is-decided));
-        some-consumed = frame-takes (w .account) (s .number);
+        some-consumed = frame-consumes (w .account) (s .number);
         frame = ok .shapes e (member-of (s .parts) (w .member)) (s .number)
             ∙ frame-row (start ∙ at-n) (end ∙ ap (λ (k : ℕ). k + length (wire body)) at-n);
         body = held;

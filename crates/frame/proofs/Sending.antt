@@ -1,4 +1,5 @@
--- A sender that offers its bytes, in any pieces, until they are taken has them all taken. Assumes nothing.
+-- sent-whole: a sender that offers its bytes, in any pieces, until they are consumed has all of them consumed; and
+-- sent-again, from stream-correct. Assumes nothing.
 use Prim.Native.Nat.{ℕ, zero, suc, _+_, _^_, _≤_}
 use mathlib.Core.Path.{_≡_, refl, sym, ap, _∙_}
 use mathlib.Core.List.{List, [], _∷_, _++_, append-assoc}
@@ -7,14 +8,15 @@ use lib.ListN.{length, take, drop, take-append-drop, length-append, length-drop}
 use Rattle.frame.specs.Table.{countOf}
 use Rattle.base.specs.Outcomes.{Outcome}
 use Rattle.frame.specs.Calls.{freshOf, feedOf}
-use Rattle.frame.specs.Logs.{Call, feed, callOf, Entry, entryOf, consumedIn, logOf, stateAfter, offered, stream}
-use Rattle.frame.specs.Logs.{offer, send, joined}
-use Rattle.frame.specs.Claims.{SentWhole}
+use Rattle.frame.specs.Logs.{Call, feed, Entry, consumedIn, offered, stream}
+use Rattle.frame.specs.LogsComputed.{callOf, entryOf, logOf, stateAfter, offer, send}
+use Rattle.frame.specs.Offers.{joined}
+use Rattle.frame.specs.Sending.{SentAgain, SentWhole}
 use Rattle.frame.specs.State.{State}
-use Rattle.frame.proofs.Counts.{within, progress}
+use Rattle.frame.proofs.EachCall.{within, progress}
 use Rattle.frame.proofs.Moves.{Inv}
 use Rattle.frame.proofs.Logged.{Called, called, in-range, Reached, reached}
-use Rattle.frame.proofs.StreamCorrect.{fresh-holds}
+use Rattle.frame.proofs.StreamCorrect.{fresh-holds, stream-correct}
 use Rattle.base.proofs.Lists.{no-bytes}
 
 stream-append : (a b : List Entry) → stream (a ++ b) ≡ stream a ++ stream b
@@ -31,13 +33,14 @@ log-append limit [] b r = refl
 log-append limit (c ∷ a) b r =
     ap (λ (l : List Entry). entryOf r c (callOf limit r c) ∷ l) (log-append limit a b (callOf limit r c .state))
 
--- what is left where a byte was taken, if there was one
+-- what is left where a byte was consumed, if there was one
 fewer : (n c : ℕ) (bs : List ℕ) → (1 ≤ length bs → 1 ≤ c) → length bs ≤ suc n → length (drop c bs) ≤ n
 fewer n c [] some few = let none : List ℕ = [] in omega (arith, length-drop c none)
 fewer n c (x ∷ xs) some few = omega (arith, length-drop c (x ∷ xs), some (omega arith))
 
 module _ (limit : ℕ) (small : limit ≤ 65279) where
-  offered-whole : (n : ℕ) (bs : List ℕ) (r : State) → Inv limit r → r .scan .consumed + length bs ≤ 2 ^ 62 → length bs ≤ n
+  offered-whole : (n : ℕ) (bs : List ℕ) (r : State)
+      → Inv limit r → r .scan .consumed + length bs ≤ 2 ^ 62 → length bs ≤ n
       → stream (logOf limit r (offer limit n r bs)) ≡ bs
   unfolding logOf stream offer
   offered-whole zero bs r i room few = sym (no-bytes bs (omega arith))
@@ -74,3 +77,6 @@ pub sent-whole : SentWhole
 sent-whole limit small earlier pieces room =
     let q = reached limit small earlier (freshOf limit) (fresh-holds limit) (omega arith) in
     sent-pieces limit small pieces (stateAfter limit (freshOf limit) earlier) (q .holds) (omega (arith, q .place))
+
+pub sent-again : SentAgain
+sent-again limit small calls = stream-correct limit small calls .again

@@ -1,13 +1,14 @@
--- Where untaken bytes always come again first, the stream is the front of what was sent,
--- and the whole once all is taken. Assumes nothing.
+-- Where the data left always comes first in the next offer, the stream is the front of the bytes sent, and all of
+-- them once as many are consumed. Assumes nothing.
 use Prim.Native.Nat.{ℕ, _+_}
 use mathlib.Core.Path.{_≡_, refl, sym, ap, _∙_}
 use mathlib.Core.List.{List, [], _∷_, _++_, append-assoc, append-nil}
 use native.Mathlib.Omega.{arith}
 use lib.ListN.{length, take, drop, take-append-drop, length-append}
 use lib.Seq.{take-append-le}
-use Rattle.frame.specs.Logs.{Entry, consumedIn, offered, stream, Accounts, OffersFront}
-use Rattle.frame.specs.Claims.{Front}
+use Rattle.frame.specs.Logs.{Entry, consumedIn, offered, stream}
+use Rattle.frame.specs.Accounts.{Accounts}
+use Rattle.frame.specs.Offers.{OffersFront, Front}
 use Rattle.base.proofs.Lists.{no-bytes}
 
 front : (n : ℕ) (log : List Entry) (sent : List ℕ)

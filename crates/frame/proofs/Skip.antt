@@ -1,4 +1,4 @@
--- Places at which no frame stands, and what that makes of the list of frames.
+-- Places at which no frame starts, and the list of frames there; why-widest.
 use Prim.Native.Nat.{ℕ, suc, _+_, _≤_, _<_}
 use mathlib.Core.Path.{_≡_, refl, sym, ap, _∙_}
 use mathlib.Core.List.{List, [], _∷_, _++_, append-nil, head-eq-of-cons-eq, tail-eq-of-cons-eq, cons≢nil}
@@ -10,9 +10,9 @@ use native.Mathlib.Omega.{arith}
 use lib.ListN.{length, getD, length-append}
 use lib.Dec.{eqb}
 use borrow.Author.Tests.{eqb-false}
-use Rattle.frame.specs.Wire.{stuffAfter, stuff, wire, unstuff, lengthOf, Good}
-use Rattle.frame.specs.Frames.{isGood, here, framesFrom}
-use Rattle.frame.specs.Claims.{WhyWidest}
+use Rattle.frame.specs.Wire.{stuffAfter, stuff, wire, lengthOf, Good}
+use Rattle.frame.specs.FramesComputed.{unstuff, isGood, here, framesFrom}
+use Rattle.frame.specs.Stuffing.{WhyWidest}
 use Rattle.frame.proofs.Stuffing.{unstuff-stuff, compare-bodies, Longer}
 use Rattle.frame.proofs.Here.{FrameHere, here-none, here-some, candidate-is, startsWith-append, lengthOf-append}
 
@@ -91,9 +91,9 @@ module _ (limit : ℕ) where
         after-header b rest n h k,
       )
 
-  -- ---- a body that is not whole, or is refused
+  -- ---- a body that is not complete, or is refused
 
-  -- a body that has less than its length says, before bytes with which no stuffed body goes on
+  -- a body that is shorter than its length, followed by bytes with which no stuffed body goes on
   unfinished : (b rest z b′ : List ℕ)
       → length b < lengthOf b + 2 → Good limit b′ → stuff b′ ++ rest ≡ stuff b ++ z → Longer b b′ rest z
   unfinished b rest z b′ h g e = go (compare-bodies b′ b rest z e)

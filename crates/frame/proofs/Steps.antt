@@ -52,14 +52,14 @@ module _ {limit : ℕ} {s : Scan} (n : ℕ) (h : Ready limit s (n + 1)) where
   kept-other Open x = kept-body x
   kept-other Escape x = by-test Kept (eqb x 85) (λ _. kept-body _) λ _. omega arith
 
-  -- a byte takes one place of the room that is left, and leaves the state in range
+  -- a byte uses one place of the room left, and leaves the state in range
   pub kept : (x : ℕ) → Ready limit (advanceOf limit s x .scan) n
   kept x = by-test Kept (eqb x 255) (λ _. kept-ff (s .phase)) λ _. kept-other (s .phase) x
 
 -- ---- a run of bytes
 
--- a call that began with the reader r₀ has taken i bytes, which decided nothing,
--- and has the reader r and room for the rest
+-- a call that began with the reader r₀ has consumed i bytes, which decided nothing, and has the reader r and room for
+-- the rest
 pub record At (limit : ℕ) (bytes : List ℕ) (r₀ : State) (i : ℕ) (r : State) : Type 0 where
   pub within : i ≤ length bytes
   pub room : Ready limit (r .scan) (length bytes - i)
@@ -69,7 +69,7 @@ next-byte : (bytes : List ℕ) (i : ℕ) → i < length bytes → drop i bytes �
 next-byte bytes i h = rw (add-one, drop-cons bytes i 0)
 
 module _ {limit : ℕ} {bytes : List ℕ} {r₀ r : State} {i : ℕ} (at : At limit bytes r₀ i r) where
-  -- all bytes are taken: the answer is MORE
+  -- all bytes are consumed: the answer is MORE
   pub run-end : i ≡ length bytes → runOf limit bytes 0 r₀ ≡ outcome (row 0 (i ∷ [])) r
   unfolding runOf
   run-end e = at .same ∙ rw (e, drop-length)
@@ -79,7 +79,7 @@ module _ {limit : ℕ} {bytes : List ℕ} {r₀ r : State} {i : ℕ} (at : At li
     abbrev after : State
     after = record { scan = step .scan; body = body }
 
-    -- the next byte decides nothing: the run goes on behind it
+    -- the next byte decides nothing: the run goes on after it
     pub run-on : decidesOf (step .event) ≡ false → At limit bytes r₀ (i + 1) after
     unfolding runOf
     run-on q =
@@ -90,15 +90,16 @@ module _ {limit : ℕ} {bytes : List ℕ} {r₀ r : State} {i : ℕ} (at : At li
           same = at .same ∙ rw (next-byte bytes i h) (simp (← e, q, f));
         }
 
-    -- the next byte decides: the run stops behind it
+    -- the next byte decides: the run stops after it
     pub run-stop : decidesOf (step .event) ≡ true
-        → runOf limit bytes 0 r₀ ≡ outcome (eventRow (step .event) (i + 1) (r .scan .start) (step .scan .consumed)) after
+        → runOf limit bytes 0 r₀
+        ≡ outcome (eventRow (step .event) (i + 1) (r .scan .start) (step .scan .consumed)) after
     unfolding runOf
     run-stop q = at .same ∙ rw (next-byte bytes i h) (simp (← e, q, f))
 
 -- ---- a state in range
 
--- a state in range, with room for what may still be taken
+-- a state in range, with room for what may still be consumed
 pub in-range : (limit : ℕ) (s : Scan) → limit ≤ 65279 → inRangeOf limit s ≡ true → Ready limit s (2 ^ 62 - s .consumed)
 in-range limit s l e =
     let ranges = both (leb (s .consumed) maxConsumed) e in

@@ -1,4 +1,4 @@
--- Where a body byte goes, and bytes in pieces. Assumes nothing.
+-- byte-stored and stored-at; and in-pieces, of EachCall, which needs the same laws. Assumes nothing.
 use Prim.Native.Nat.{ℕ, suc, _+_, _*_, _^_, _≤_, _<_}
 use mathlib.Core.Path.{_≡_, refl, sym, ap, _∙_}
 use mathlib.Core.List.{List, [], _∷_, _++_}
@@ -13,14 +13,15 @@ use Rattle.base.specs.Outcomes.{Outcome, outcome}
 use Rattle.base.proofs.Tests.{by-test, either-way}
 use Rattle.frame.specs.State.{Phase, Idle, Half, Header, Open, Escape, Step, State}
 use Rattle.frame.specs.Table.{eventRow}
-use Rattle.frame.specs.Rules.{Ready, maxConsumed, maxFilled, inRangeOf, completedOf, bodyByteOf, onFFIn, advanceOf}
-use Rattle.frame.specs.Rules.{decidesOf, putOf}
+use Rattle.frame.specs.Rules.{Ready, maxConsumed, maxFilled, inRangeOf, completedOf, bodyByteOf, onFFIn}
+use Rattle.frame.specs.Rules.{advanceOf, decidesOf, putOf}
 use Rattle.frame.specs.Calls.{nextOf, runOf, feedOf}
-use Rattle.frame.specs.Stored.{BytesStored, TakesOne, StoresAt, later, AllInPieces}
+use Rattle.frame.specs.Stored.{BytesStored, ConsumesOne, StoresAt}
+use Rattle.frame.specs.EachCall.{later, AllInPieces}
 use Rattle.frame.specs.declared.scan.Event.{Event}
 use Rattle.frame.specs.declared.scan.Event.the-variants.{Quiet, Decided}
 use Rattle.frame.proofs.Puts.{put-other, put-length, put-same}
-use Rattle.frame.proofs.Counts.{numbered}
+use Rattle.frame.proofs.EachCall.{numbered}
 use Rattle.frame.proofs.Steps.{kept}
 
 -- ---- one byte
@@ -111,7 +112,7 @@ feed-run limit r bs inside room =
       le-leb (r .scan .consumed + length bs) (2 ^ 62) room,
     )
 
-one-next : (limit : ℕ) (r : State) (x : ℕ) → TakesOne limit r → feedOf limit r (x ∷ []) .state ≡ nextOf limit r x
+one-next : (limit : ℕ) (r : State) (x : ℕ) → ConsumesOne limit r → feedOf limit r (x ∷ []) .state ≡ nextOf limit r x
 unfolding runOf
 one-next limit r x h =
     ap (λ (y : Outcome State). y .state) (feed-run limit r (x ∷ []) (h .1) (omega (arith, h .0)))
@@ -127,7 +128,7 @@ stored-at limit r x h room =
           ∙ stores-stuffed limit r room f;
     }
 
--- what decides is not MORE
+-- a byte that decides is not answered MORE
 decides-some : (e : Event) (n s p : ℕ) → decidesOf e ≡ true → eventRow e n s p .number ≢ 0
 decides-some Quiet n s p d = absurd (true≢false (sym d))
 decides-some (Decided v) n s p d = λ h. omega (arith, numbered v .low)
@@ -136,7 +137,7 @@ module _ (limit : ℕ) where
   abbrev Quiets : List ℕ → ℕ → State → Type 0
   Quiets a n r = runOf limit a n r .row .number ≡ 0
 
-  -- a first byte that decides nothing, where all of them do not
+  -- the first byte decides nothing, if all of them decide nothing
   first-quiet : (x : ℕ) (a : List ℕ) (n : ℕ) (r : State)
       → Quiets (x ∷ a) n r → decidesOf (advanceOf limit (r .scan) x .event) ≡ false
   unfolding runOf

@@ -1,15 +1,17 @@
--- Demand 3, and that no call of a reader that began fresh is answered STATE. Assumes nothing.
+-- stream-correct, the buyer's third demand; and never-state. Assumes nothing.
 use Prim.Native.Nat.{ℕ, _+_, _≤_}
-use mathlib.Core.List.{List, [], _∷_}
-use mathlib.Core.Path.{refl}
+use mathlib.Core.List.{List}
 use native.Mathlib.Omega.{arith}
 use lib.ListN.{length-replicate}
 use Rattle.frame.specs.Calls.{freshOf, zeros}
-use Rattle.frame.specs.Logs.{Call, logOf, stream, callOf, Chains}
-use Rattle.frame.specs.Claims.{StreamsCorrect, SentAgain, NeverState, LogChains, StateKept}
+use Rattle.frame.specs.Logs.{Call, stream}
+use Rattle.frame.specs.LogsComputed.{logOf}
+use Rattle.frame.specs.StreamCorrect.{StreamsCorrect}
+use Rattle.frame.specs.EachCall.{NeverState}
 use Rattle.frame.proofs.Listed.{framesOf-lists}
 use Rattle.frame.proofs.Moves.{Inv}
 use Rattle.frame.proofs.Logged.{Logged, logged}
+use Rattle.frame.proofs.LogExact.{log-chains}
 use Rattle.frame.proofs.Sent.{fronted}
 
 pub fresh-holds : (limit : ℕ) → Inv limit (freshOf limit)
@@ -20,11 +22,6 @@ fresh-holds limit = record { phase = tt; room = length-replicate (limit + 2) 0; 
 pub from-fresh : (limit : ℕ)
     → limit ≤ 65279 → (calls : List Call) → Logged limit (freshOf limit) (logOf limit (freshOf limit) calls)
 from-fresh limit small calls = logged limit small calls (freshOf limit) (fresh-holds limit) (omega arith)
-
-pub log-chains : LogChains
-unfolding logOf Chains
-log-chains limit r [] = tt
-log-chains limit r (c ∷ cs) = (refl, log-chains limit (callOf limit r c .state) cs)
 
 pub stream-correct : StreamsCorrect
 stream-correct limit small calls =
@@ -37,11 +34,5 @@ stream-correct limit small calls =
       again = λ sent. fronted 0 (logOf limit (freshOf limit) calls) sent (ok .accounts);
     }
 
-pub sent-again : SentAgain
-sent-again limit small calls = stream-correct limit small calls .again
-
 pub never-state : NeverState
 never-state limit small calls = from-fresh limit small calls .never
-
-pub state-kept : StateKept
-state-kept limit r bytes h = (rw h, rw h)

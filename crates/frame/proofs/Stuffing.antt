@@ -1,14 +1,16 @@
--- Laws of stuffing.
+-- Laws of stuffing; the claims stuffing and stuffed-form.
 use Prim.Native.Nat.{ℕ, suc, _+_, _*_, _≤_}
 use mathlib.Core.Path.{_≡_, refl, sym, ap, _∙_}
 use mathlib.Core.List.{List, [], _∷_, _++_, append-nil, head-eq-of-cons-eq, tail-eq-of-cons-eq, cons≢nil}
 use mathlib.Core.Bool.{Bool, true, false}
 use mathlib.Core.Logic.{_⊎_, inl, inr}
 use native.Mathlib.Omega.{arith}
+use borrow.Author.Tests.{ne-eqb}
 use lib.ListN.{length}
 use lib.Dec.{eqb}
-use Rattle.frame.specs.Claims.{StuffedForms}
-use Rattle.frame.specs.Wire.{stuffAfter, stuff, unstuff}
+use Rattle.frame.specs.Stuffing.{StuffsEach, StuffedForms}
+use Rattle.frame.specs.Wire.{stuffAfter, stuff}
+use Rattle.frame.specs.FramesComputed.{unstuff}
 
 -- stuff over ++
 pub stuff-append : (a b : List ℕ) → stuff (a ++ b) ≡ stuff a ++ stuff b
@@ -31,14 +33,14 @@ unstuff-stuff (x ∷ xs) r = go (eqb x 255) (unstuff-stuff xs r)
     go true h = rw h
     go false h = rw h
 
--- b goes on where a ends, and what is left of the wire is the rest of b, stuffed
+-- b goes on where a ends, and what is left on the wire is the rest of b, stuffed
 pub record Longer (a b rest z : List ℕ) : Type 0 where
   pub first : ℕ
   pub more : List ℕ
   pub whole : b ≡ a ++ first ∷ more
   pub left : stuff (first ∷ more) ++ rest ≡ z
 
--- two stuffed bodies at the front of one wire: one is a front of the other
+-- of two stuffed bodies at the front of the same bytes, one is a front of the other
 pub compare-bodies : (b a rest z : List ℕ)
     → stuff b ++ rest ≡ stuff a ++ z → ((c : List ℕ) × (a ≡ b ++ c)) ⊎ Longer a b rest z
 unfolding stuff
@@ -63,7 +65,7 @@ compare-bodies (y ∷ ys) (x ∷ xs) rest z e =
     go k true h = finish (k (tail-eq-of-cons-eq h))
     go k false h = finish (k h)
 
--- behind each raw FF of a stuffed form stands a 55
+-- a 55 follows each FF of a stuffed form
 escaped : (b before r : List ℕ) → stuff b ≡ before ++ 255 ∷ r → (r′ : List ℕ) × (r ≡ 85 ∷ r′)
 unfolding stuff
 escaped [] [] r e = absurd (cons≢nil (sym e))
@@ -101,3 +103,7 @@ stuffed-form b =
       at-most-twice = stuff-bound b;
       reads-back = reads-back b;
     }
+
+pub stuffing : StuffsEach
+unfolding stuff
+stuffing x xs = record { none = refl; ff = refl; other = λ n. rw (ne-eqb x 255 n); header = refl }

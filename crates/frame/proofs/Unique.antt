@@ -1,11 +1,12 @@
--- `Lists` and `ListsDecisions` say all: a stream has one such list of frames, and one of lines.
+-- one-list and one-decisions: a stream has one list of frames, and one of decisions.
 use Prim.Native.Nat.{ℕ, _+_}
 use mathlib.Core.Path.{_≡_}
 use mathlib.Core.List.{List, [], _∷_}
 use native.Mathlib.Omega.{arith}
-use Rattle.frame.specs.Frames.{AllFrom, Apart, Lists, Found, framesOf}
+use Rattle.frame.specs.Frames.{AllFrom, Apart, Lists, Found}
+use Rattle.frame.specs.FramesComputed.{framesOf}
 use Rattle.frame.specs.Decisions.{Decision, DecisionsFrom}
-use Rattle.frame.specs.Claims.{OneList, OneDecisions}
+use Rattle.frame.specs.StreamCorrect.{OneList, OneDecisions}
 use Rattle.base.proofs.Rising.{RisingFrom, rising-earlier, same-members}
 use Rattle.frame.proofs.Listed.{framesOf-lists}
 
@@ -13,7 +14,7 @@ use Rattle.frame.proofs.Listed.{framesOf-lists}
 abbrev startOf : Found → ℕ
 startOf f = f .start
 
--- frames that lie apart rise
+-- frames without overlap rise
 apart-rises : (m : ℕ) (l : List Found) → AllFrom m l → Apart l → RisingFrom startOf m l
 apart-rises m [] a b = tt
 apart-rises m (f ∷ l) a b = (
@@ -34,11 +35,11 @@ pub one-list : OneList
 one-list limit small t =
     (framesOf-lists limit small t, (λ l a. lists-unique limit t l (framesOf limit t) a (framesOf-lists limit small t)))
 
--- where a line starts
+-- where a decision starts
 abbrev decisionStart : Decision → ℕ
 decisionStart l = l .start
 
--- lines rise, in the words of the law
+-- decisions rise, in the terms of the law
 decisions-rise : (m : ℕ) (ls : List Decision) → DecisionsFrom m ls → RisingFrom decisionStart m ls
 decisions-rise m [] h = tt
 decisions-rise m (l ∷ ls) h = (h .0, decisions-rise (l .start + 1) ls (h .1))

@@ -1,8 +1,6 @@
--- Each variant and field by its name, by computation. Assumes nothing.
-use mathlib.Core.Path.{refl, ap}
-use Rattle.base.specs.Outcomes.{Output, Outcome}
-use Rattle.frame.specs.State.{State}
-use Rattle.frame.specs.Named.{NamedRows, NamedStates, ContractsComplete}
+-- named-rows and named-states, by computation. Assumes nothing.
+use mathlib.Core.Path.{refl}
+use Rattle.frame.specs.Variants.{NamedRows, NamedStates}
 
 pub named-rows : NamedRows
 named-rows =
@@ -18,7 +16,7 @@ named-rows =
       used = refl;
       clean = λ n. refl;
       left-open = λ n s. refl;
-      end-state = refl;
+      finish-state = refl;
       wrote = λ c. refl;
       payload = refl;
       room = refl;
@@ -39,12 +37,4 @@ named-states =
       escape = refl;
       any-reader = λ r. (refl, refl, refl, refl, refl, refl, refl);
       reader = refl;
-    }
-
-pub contracts-complete : ContractsComplete
-contracts-complete =
-    record {
-      fed = λ f y e. (ap (λ (z : Outcome State). z .row) e, ap (λ (z : Outcome State). z .state) e);
-      finished = λ f y e. (ap (λ (z : Outcome State). z .row) e, ap (λ (z : Outcome State). z .state) e);
-      written = λ r after w e. (ap (λ (z : Output). z .row) e, ap (λ (z : Output). z .out) e);
     }

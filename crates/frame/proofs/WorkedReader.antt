@@ -1,8 +1,7 @@
--- The reader worked out, by computation. Assumes nothing.
+-- worked-reader, by computation. Assumes nothing.
 use mathlib.Core.Path.{refl}
-use native.Mathlib.Omega.{arith}
 use Rattle.frame.specs.Calls.{zeros, runOf}
-use Rattle.frame.specs.Worked.{WorkedReader, Limits}
+use Rattle.frame.specs.WorkedReader.{WorkedReader}
 
 pub worked-reader : WorkedReader
 unfolding zeros runOf
@@ -22,13 +21,10 @@ worked-reader =
       after-cut = refl;
       sum = refl;
       sum-holds-body = refl;
-      end-none = refl;
-      end-half = refl;
-      end-header = refl;
-      end-body = refl;
-      end-waits = refl;
-      end-short = refl;
+      finish-none = refl;
+      finish-half = refl;
+      finish-header = refl;
+      finish-body = refl;
+      finish-waits = refl;
+      finish-short = refl;
     }
-
-pub limits : Limits
-limits = record { code = refl; greatest = refl; allowed = omega arith }

@@ -1,4 +1,4 @@
--- What the writer leaves, from its definition. Assumes nothing.
+-- writer-exact, payload-limit and worked-frame, from the definition of the writer. Assumes nothing.
 use Prim.Native.Nat.{ℕ, _+_, _/_, _%_, _≤_}
 use mathlib.Core.Path.{_≡_, refl, sym, ap, subst, _∙_}
 use mathlib.Core.List.{List, [], _∷_, _++_}
@@ -9,10 +9,10 @@ use lib.Dec.{ltb}
 use Rattle.base.specs.Sums.{total}
 use Rattle.base.specs.Outcomes.{Output, placed}
 use Rattle.base.proofs.Tests.{by-test}
-use Rattle.base.proofs.Claims.{placed-whole-or-not}
+use Rattle.base.proofs.OutcomesExact.{placed-whole-or-not}
 use Rattle.frame.specs.Wire.{stuff, wire, bodyOf, frameLimit}
 use Rattle.frame.specs.Calls.{zeros, runOf}
-use Rattle.frame.specs.Written.{formOf, WritesExactly, WriterExact, PayloadLimits, WorkedFrame}
+use Rattle.frame.specs.WriterExact.{formOf, WritesExactly, WriterExact, PayloadLimits, WorkedFrame}
 
 -- the two ways to write a frame down
 form-is : (command number flags : ℕ) (payload : List ℕ)

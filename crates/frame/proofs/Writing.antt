@@ -1,4 +1,4 @@
--- Laws of writing: bytes stuffed one by one, and a frame from its parts. Assumes nothing.
+-- Laws of writing: bytes stuffed one by one, and a frame from its head, chunks and sum. Assumes nothing.
 use Prim.Native.Nat.{ℕ, suc, _+_, _≤_, _<_}
 use mathlib.Core.Path.{_≡_}
 use mathlib.Core.List.{List, [], _∷_, _++_}
@@ -7,7 +7,8 @@ use native.Mathlib.Omega.{arith}
 use borrow.Author.Tests.{eq-eqb, ne-eqb}
 use lib.ListN.{length, getD, drop, set, length-append, drop-of-length-le}
 use lib.Seq.{drop-cons, sets}
-use Rattle.frame.specs.Wire.{stuff, wire, joinedChunks, framed}
+use Rattle.frame.specs.Wire.{stuff, wire, joinedChunks}
+use Rattle.frame.specs.Calls.{framed}
 use Rattle.base.specs.Stores.{PutAt}
 use Rattle.base.proofs.Stores.{put-join}
 use Rattle.frame.proofs.Stuffing.{stuff-append}
@@ -38,18 +39,18 @@ module _ (b : List ℕ) (i : ℕ) (h : length b ≤ i) where
 
 -- ---- bytes put, stuffed
 
--- what is put, and more behind it, is their join put
+-- some bytes put, and more after them, are their join put
 pub put-append : (out xs ys : List ℕ) (at : ℕ) {a b : List ℕ} {p q : ℕ}
     → PutAt out at (stuff xs) p a → PutAt a p (stuff ys) q b
     → PutAt out at (stuff (xs ++ ys)) q b
 put-append out xs ys at e f = rw stuff-append (put-join out (stuff xs) (stuff ys) at e f)
 
--- a header is put by two stores, and a body behind it
+-- a header put by two stores, and a body after it
 pub put-framed : (out body : List ℕ) {b : List ℕ} {q : ℕ}
     → PutAt (set (set out 0 255) 1 255) 2 (stuff body) q b → PutAt out 0 (wire body) q b
 put-framed out body e = (omega arith, e .1)
 
--- ---- lengths: of a payload's three parts, and of a frame from its parts
+-- ---- sizes: of the three chunks, and of a frame from its head, payload and sum
 
 pub chunks-length : (first second third : List ℕ)
     → length (joinedChunks first second third) ≡ length first + (length second + length third)

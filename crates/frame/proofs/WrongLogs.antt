@@ -1,4 +1,4 @@
--- Each line of demand 3 refuses a list of calls. Assumes nothing.
+-- wrong-logs: fields of stream-correct that each refuse a list of calls. Assumes nothing.
 use Prim.Native.Nat.{ℕ}
 use mathlib.Core.Path.{_≡_, refl, sym, ap, _∙_}
 use mathlib.Core.List.{List, [], _∷_, cons≢nil, head-eq-of-cons-eq}
@@ -7,14 +7,16 @@ use native.Mathlib.Omega.{arith}
 use lib.ListN.{length}
 use Rattle.base.specs.Keys.{among}
 use Rattle.base.specs.Sums.{total}
-use Rattle.frame.specs.Wire.{frameLimit, stuff, unstuff}
-use Rattle.frame.specs.Frames.{Found, found, framesOf, frontBody, startsWith, candidate, sumHolds, isGood, here}
-use Rattle.frame.specs.Frames.{framesFrom}
-use Rattle.frame.specs.Logs.{Entry, stream, delivered, Account, Accounts, Chains}
-use Rattle.frame.specs.Claims.{StreamCorrect}
+use Rattle.frame.specs.Wire.{frameLimit, stuff}
+use Rattle.frame.specs.FramesComputed.{unstuff, framesOf, startsWith, candidate, sumHolds, isGood, here}
+use Rattle.frame.specs.FramesComputed.{framesFrom}
+use Rattle.frame.specs.Frames.{Found, found, frontBody}
+use Rattle.frame.specs.Logs.{Entry, stream, delivered, Chains}
+use Rattle.frame.specs.Accounts.{Account, Accounts}
+use Rattle.frame.specs.StreamCorrect.{StreamCorrect}
 use Rattle.frame.specs.WrongLogs.{heartbeat, WrongLogsRefused}
 
--- the account of a list's first call
+-- the account of the first call of a list
 first : {limit : ℕ} {e : Entry} {es : List Entry} → StreamCorrect limit (e ∷ es) → Account 0 e
 unfolding Accounts
 first d = d .accounts .0
@@ -51,7 +53,7 @@ wrong-logs limit r q =
       short-end = λ d. omega (arith, first d .ends refl);
       used-soon = λ d. omega (arith, first d .used refl);
       used-not = λ bytes h d. omega (arith, first d .unused (λ e. omega arith));
-      used-takes = λ bytes d. omega (arith, first d .used-none refl);
+      used-consumes = λ bytes d. omega (arith, first d .used-none refl);
       used-changes = λ bytes n d. n (first d .used-kept refl);
       finish-length = λ d. omega (arith, first d .finished refl);
       finish-changes = λ n d. n (first d .finish-kept refl);
@@ -59,7 +61,7 @@ wrong-logs limit r q =
       not-chained = λ n d. n (d .chains .1 .0);
       counts-anew = λ d. omega (arith, d .accounts .1 .0 .finished refl);
       no-frame = λ d. cons≢nil (d .frames ∙ none);
-      passed-over = λ d. cons≢nil (sym (d .frames ∙ one-frame));
+      not-delivered = λ d. cons≢nil (sym (d .frames ∙ one-frame));
       other-start = λ d.
           let z : _≡_ {A = ℕ} 1 0 = ap (λ (f : Found). f .start) (head-eq-of-cons-eq (d .frames ∙ one-frame)) in
           omega arith;

@@ -1,20 +1,20 @@
--- The ranges of docs/STATES.md for a reader, and the fresh one, in literal numbers.
+-- Claims: limits, ranges and the fresh reader in literal numbers. PROTOCOL 2.4, 2.10, 3.1, 4.10, 4.11, 4.17, 4.18.
 use Prim.Native.Nat.{ℕ, _+_, _≤_, _<_}
-use mathlib.Core.Path.{_≡_}
-use mathlib.Core.Logic.{_⊎_}
 use mathlib.Core.List.{List, [], _∷_}
+use mathlib.Core.Logic.{_⊎_}
+use mathlib.Core.Path.{_≡_}
 use lib.ListN.{length, replicate}
-use Rattle.base.specs.Rows.{row}
 use Rattle.base.specs.Outcomes.{outcome}
-use Rattle.frame.specs.Wire.{frameLimit}
-use Rattle.frame.specs.State.{Idle, State}
+use Rattle.base.specs.Rows.{row}
 use Rattle.frame.specs.Calls.{freshOf, feedOf, finishOf}
+use Rattle.frame.specs.State.{Idle, State}
+use Rattle.frame.specs.Wire.{widest, frameLimit}
 
--- a field outside its range: more than 2^62 bytes taken, or more than 1,025 of the body there
+-- a field is out of range: more than 2^62 bytes consumed, or more than 1,025 body bytes so far
 abbrev pub OutOfRange : State → Type 0
 OutOfRange r = (4611686018427387904 < r .scan .consumed) ⊎ (1025 < r .scan .filled)
 
--- ---- reader-ranges: STATE, count 0, reader unchanged, exactly when a field is outside its range; of both calls
+-- ---- reader-ranges: STATE, with count 0 and the reader unchanged, exactly when a field is out of range; in both calls
 pub record ReaderRanges (r : State) (bytes : List ℕ) : Type 0 where
   pub fed : OutOfRange r → feedOf frameLimit r bytes ≡ outcome (row 17 (0 ∷ [])) r
   pub fed-only : feedOf frameLimit r bytes .row .number ≡ 17 → OutOfRange r
@@ -25,7 +25,8 @@ pub record ReaderRanges (r : State) (bytes : List ℕ) : Type 0 where
 abbrev pub ReaderRangesAll : Type 0
 ReaderRangesAll = (r : State) (bytes : List ℕ) → ReaderRanges r bytes
 
--- ---- used-exactly: USED, count 0, reader unchanged, exactly when a reader in range would have taken more than 2^62
+-- ---- used-exactly: USED, with count 0 and the reader unchanged, exactly when a reader in range is offered more than
+-- 2^62 bytes in all
 pub record UsedExactly (r : State) (bytes : List ℕ) : Type 0 where
   pub fed : r .scan .consumed ≤ 4611686018427387904 → r .scan .filled ≤ 1025
       → 4611686018427387904 < r .scan .consumed + length bytes → feedOf frameLimit r bytes ≡ outcome (row 18 (0 ∷ [])) r
@@ -35,7 +36,7 @@ pub record UsedExactly (r : State) (bytes : List ℕ) : Type 0 where
 abbrev pub UsedAlways : Type 0
 UsedAlways = (r : State) (bytes : List ℕ) → UsedExactly r bytes
 
--- ---- fresh-reader: all numbers 0, and 1,026 bytes 0
+-- ---- fresh-reader: every number is 0, and so are its 1,026 bytes
 abbrev pub FreshReader : Type 0
 FreshReader =
     freshOf frameLimit
@@ -43,3 +44,9 @@ FreshReader =
       scan = record { phase = Idle; consumed = 0; start = 0; filled = 0; length = 0; sum = 0 };
       body = replicate 1026 0;
     }
+
+-- ---- limits: the limit of the code, and the greatest one of the claims about streams
+pub record Limits : Type 0 where
+  pub code : frameLimit ≡ 1024
+  pub greatest : widest ≡ 65279
+  pub allowed : frameLimit ≤ widest

@@ -1,73 +1,72 @@
--- Lists of calls that break demand 3, each refused by one line of it. Nothing of a reader is used: its states are any.
-use Prim.Native.Nat.{ℕ, _<_, _^_}
-use mathlib.Core.Path.{_≡_}
-use mathlib.Core.Logic.{_≢_}
+-- Claims: wrong lists of calls, each refused by one field of stream-correct. PROTOCOL 5.1 to 5.11, 12.6.
+-- They do not depend on a reader: the states are any.
+use Prim.Native.Nat.{ℕ, _^_, _<_}
 use mathlib.Core.Bool.{false}
 use mathlib.Core.List.{List, [], _∷_}
+use mathlib.Core.Logic.{_≢_}
+use mathlib.Core.Path.{_≡_}
 use lib.ListN.{length}
-use Rattle.base.specs.Rows.{Row, row}
 use Rattle.base.specs.Keys.{among}
-use Rattle.frame.specs.State.{State}
-use Rattle.frame.specs.Wire.{frameLimit}
+use Rattle.base.specs.Rows.{Row, row}
 use Rattle.frame.specs.Calls.{freshOf}
-use Rattle.frame.specs.Logs.{Call, feed, finish, Entry}
-use Rattle.frame.specs.Claims.{StreamCorrect}
+use Rattle.frame.specs.Logs.{Call, feed, finish, entry}
+use Rattle.frame.specs.State.{State}
+use Rattle.frame.specs.StreamCorrect.{StreamCorrect}
+use Rattle.frame.specs.Wire.{frameLimit}
 
--- a call, its answer, and the reader before and after it
-abbrev pub entry : Call → Row → State → State → Entry
-entry c a before after = record { call = c; row = a; before = before; after = after }
-
--- the log of one call breaks demand 3
+-- a log of this one call is not stream-correct
 abbrev pub Refused : ℕ → Call → Row → State → State → Type 0
 Refused limit c a before after = StreamCorrect limit (entry c a before after ∷ []) → ⊥
 
--- example 1 of paper 01
+-- example 1 of PROTOCOL 11.1
 abbrev pub heartbeat : List ℕ
 heartbeat = 0xFF ∷ 0xFF ∷ 0x00 ∷ 0x05 ∷ 0x07 ∷ 0x01 ∷ 0x00 ∷ 0x00 ∷ 0x0D ∷ []
 
 -- ---- wrong-logs: one call of a reader r, which leaves the reader q
 pub record WrongLogs (limit : ℕ) (r q : State) : Type 0 where
-  -- bytes given are answered CLEAN, OPEN, STATE, or what the table does not have
+  -- a feed is answered CLEAN, OPEN, STATE, or a number that no feed has
   pub feed-clean : Refused limit (feed (7 ∷ [])) (row 2 (1 ∷ [])) r q
   pub feed-open : Refused limit (feed (7 ∷ [])) (row 16 (1 ∷ 0 ∷ [])) r q
   pub feed-state : Refused limit (feed (7 ∷ [])) (row 17 (1 ∷ [])) r q
   pub feed-other : (bytes v : List ℕ) (k : ℕ)
       → among k (0 ∷ 1 ∷ 11 ∷ 12 ∷ 13 ∷ 14 ∷ 15 ∷ 18 ∷ []) ≡ false → Refused limit (feed bytes) (row k v) r q
-  -- an end asked is answered MORE, FRAME, STATE, or what the table does not have
+  -- a finish is answered MORE, FRAME, STATE, or a number that no finish has
   pub finish-more : Refused limit finish (row 0 (0 ∷ [])) r q
   pub finish-frame : Refused limit finish (row 1 (0 ∷ 0 ∷ 0 ∷ [])) r q
   pub finish-state : Refused limit finish (row 17 (0 ∷ [])) r q
   pub finish-99 : Refused limit finish (row 99 (0 ∷ [])) r q
   pub finish-other : (v : List ℕ) (k : ℕ) → among k (2 ∷ 16 ∷ []) ≡ false → Refused limit finish (row k v) r q
-  -- more is taken than was offered
+  -- more is consumed than was offered
   pub too-many : Refused limit (feed (7 ∷ [])) (row 11 (2 ∷ 0 ∷ 2 ∷ [])) r q
-  -- MORE takes one byte of two, and none of one
+  -- MORE consumes one byte of two, or none of one
   pub more-one : Refused limit (feed (7 ∷ 7 ∷ [])) (row 0 (1 ∷ [])) r q
   pub more-none : Refused limit (feed (7 ∷ [])) (row 0 (0 ∷ [])) r q
-  -- a refused frame takes no byte
+  -- a refused frame consumes no byte
   pub short-none : Refused limit (feed (7 ∷ [])) (row 11 (0 ∷ 0 ∷ 0 ∷ [])) r q
-  -- an empty call decides something, or changes the reader
+  -- a feed with no data decides something, or changes the reader
   pub empty-short : Refused limit (feed []) (row 11 (0 ∷ 0 ∷ 0 ∷ [])) r q
   pub empty-changes : q ≢ r → Refused limit (feed []) (row 0 (0 ∷ [])) r q
-  -- a frame ends elsewhere than where the counts come to
+  -- a frame has an end that the counts do not add up to
   pub short-end : Refused limit (feed (7 ∷ [])) (row 11 (1 ∷ 0 ∷ 9 ∷ [])) r q
-  -- USED comes too soon, or not; it takes a byte; it changes the reader
+  -- USED comes too soon, or does not come; it consumes a byte; it changes the reader
   pub used-soon : Refused limit (feed (7 ∷ [])) (row 18 (0 ∷ [])) r q
   pub used-not : (bytes : List ℕ) → 2 ^ 62 < length bytes → Refused limit (feed bytes) (row 0 (length bytes ∷ [])) r q
-  pub used-takes : (bytes : List ℕ) → Refused limit (feed bytes) (row 18 (1 ∷ [])) r q
+  pub used-consumes : (bytes : List ℕ) → Refused limit (feed bytes) (row 18 (1 ∷ [])) r q
   pub used-changes : (bytes : List ℕ) → q ≢ r → Refused limit (feed bytes) (row 18 (0 ∷ [])) r q
-  -- an end asked names another length, or changes the reader
+  -- a finish returns another total, or changes the reader
   pub finish-length : Refused limit finish (row 2 (5 ∷ [])) r q
   pub finish-changes : q ≢ r → Refused limit finish (row 2 (0 ∷ [])) r q
-  -- the first call is of a reader that is not fresh, or the second of another than the first left
+  -- the first call gets a reader that is not fresh, or the second one not the reader that the first left
   pub not-fresh : r ≢ freshOf limit → Refused limit finish (row 2 (0 ∷ [])) r r
-  pub not-chained : q ≢ r → StreamCorrect limit (entry finish (row 2 (0 ∷ [])) r r ∷ entry finish (row 2 (0 ∷ [])) q q ∷ []) → ⊥
+  pub not-chained : q ≢ r
+      → StreamCorrect limit (entry finish (row 2 (0 ∷ [])) r r ∷ entry finish (row 2 (0 ∷ [])) q q ∷ []) → ⊥
   -- the second call counts from 0 again
-  pub counts-anew : StreamCorrect limit (entry (feed (7 ∷ [])) (row 0 (1 ∷ [])) r q ∷ entry finish (row 2 (0 ∷ [])) q q ∷ []) → ⊥
-  -- FRAME where no frame stands, and a frame that is passed over
+  pub counts-anew :
+      StreamCorrect limit (entry (feed (7 ∷ [])) (row 0 (1 ∷ [])) r q ∷ entry finish (row 2 (0 ∷ [])) q q ∷ []) → ⊥
+  -- FRAME where the stream has no frame, and a frame that is not delivered
   pub no-frame : Refused frameLimit (feed (7 ∷ [])) (row 1 (1 ∷ 0 ∷ 1 ∷ [])) r q
-  pub passed-over : Refused frameLimit (feed heartbeat) (row 15 (9 ∷ 0 ∷ 9 ∷ [])) r q
-  -- a frame from another start, or with another body than it has
+  pub not-delivered : Refused frameLimit (feed heartbeat) (row 15 (9 ∷ 0 ∷ 9 ∷ [])) r q
+  -- a frame with a wrong start, or with a wrong body
   pub other-start : Refused frameLimit (feed heartbeat) (row 1 (9 ∷ 1 ∷ 9 ∷ [])) r q
   pub other-body : q .body ≡ [] → Refused frameLimit (feed heartbeat) (row 1 (9 ∷ 0 ∷ 9 ∷ [])) r q
 

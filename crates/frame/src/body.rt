@@ -1,4 +1,4 @@
-// The parts of a body, read where they lie. Each call takes any bytes; a part that is not there reads as 0 or as empty.
+// The fields of a body, read at their places. Any bytes will do: a missing field reads as 0 or empty. PROTOCOL 2.11.
 ghost use mathlib.Core.Path.{_≡_};
 ghost use Prim.Native.Nat.{_-_, min};
 ghost use lib.ListN.{length};
@@ -12,7 +12,7 @@ pub fn command(body: &[u8]) -> u8
     base::byte_at(body, 2)
 }
 
-// The number that pairs an answer with its command.
+// The sequence number, which pairs a reply with its command.
 pub fn number(body: &[u8]) -> u8
     ensures { λ r. ⌜ r ≡ numberOf (now (body .entry)) ⌝ }
 {
@@ -26,7 +26,7 @@ pub fn flags(body: &[u8]) -> u16
     base::two_at(body, 4)
 }
 
-// The payload, a part of the lent body: as many bytes behind the flags as the length gives it and the body has.
+// The payload, as a slice of the caller's body and not a copy: L - 5 bytes after the flags, cut where the body ends.
 pub fn payload(body: &[u8]) -> &[u8]
     ensures { λ r. ⌜ (now r ≡ payloadOf (now (body .entry)))
         × IsPart (body .entry) r (min 6 (length (now (body .entry)))) (lengthOf (now (body .entry)) - 5) ⌝ }

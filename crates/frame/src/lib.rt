@@ -1,11 +1,11 @@
-// Frames of the Gizwits serial protocol: their wire form, the writer, the streaming reader, and a body's parts.
+// Frames of the Gizwits serial protocol: the writer, the streaming reader, and the fields of a body.
 mod body;
 mod place;
 mod reader;
 mod scan;
 mod writer;
 
-// The greatest length that a frame may name.
+// The greatest length L of a frame: PROTOCOL 2.4.
 pub const LIMIT: usize = 1024;
 
 pub use body::command;

@@ -1,17 +1,17 @@
-// Places on the wire and places in the body, counted apart.
+// Two types of places, on the wire and in the body, so that neither is used as the other. PROTOCOL 1.5.
 ghost use mathlib.Core.Path.{_≡_};
 ghost use Prim.Native.Nat.{_+_, _-_, _<_, _^_};
 
-// A place on the wire, which every raw byte advances, a stuffed 55 too.
+// A place on the wire counts every byte received, a stuffed 55 too.
 pub struct WirePlace(pub u64);
 
-// A place in the body, which an FF and its stuffed 55 advance by one.
+// A place in the body counts body bytes: an FF and its stuffed 55 are one.
 pub struct BodyPlace(pub usize);
 
-// The bytes that a reader takes in all: 2^62.
+// The bytes that a reader may consume in all, 2^62: PROTOCOL 4.18.
 pub(crate) const MAX_CONSUMED: u64 = 4611686018427387904;
 
-// The place before, or 0.
+// The previous place, or 0.
 pub(crate) fn previous_place(p: WirePlace) -> WirePlace
     ensures { λ r. ⌜ r .0 ≡ p .0 - 1 ⌝ }
 {
@@ -22,7 +22,7 @@ pub(crate) fn previous_place(p: WirePlace) -> WirePlace
     WirePlace(n - 1)
 }
 
-// The place behind.
+// The next place.
 pub(crate) fn next_place(p: WirePlace) -> WirePlace
     requires { ⌜ p .0 < 2 ^ 62 ⌝ }
     ensures { λ r. ⌜ r .0 ≡ p .0 + 1 ⌝ }

@@ -1,4 +1,4 @@
-// The streaming reader: bytes given, end asked.
+// The streaming reader: feed and finish. PROTOCOL 3.1 to 3.3, 4.1 to 4.18.
 use super::LIMIT;
 use super::place::MAX_CONSUMED;
 use super::place::WirePlace;
@@ -19,13 +19,13 @@ ghost use Rattle.frame.specs.Rules.{Ready, putOf};
 ghost use Rattle.frame.specs.Table.{rowOf, finishRowOf, countOf, eventRow};
 ghost use Rattle.frame.specs.Calls.{finishRowIn, freshOf, runOf, feedOf, finishOf, fedOf, finishedOf};
 
-// A reader, and the body that it holds.
+// A reader, with the array that holds a body: PROTOCOL 3.1.
 pub struct Reader {
     pub scan: Scan,
     pub body: [u8; 1026],
 }
 
-// What bytes given are answered: paper 01's table.
+// The answers to a feed: PROTOCOL 4.1 to 4.11.
 pub enum FeedResult {
     More {
         count: usize,
@@ -45,7 +45,7 @@ pub struct Fed {
     pub reader: Reader,
 }
 
-// What an end asked is answered.
+// The answers to a finish: PROTOCOL 4.3, 4.9, 4.10.
 pub enum FinishResult {
     Clean {
         consumed: WirePlace,
@@ -75,7 +75,7 @@ impl Reader {
 }
 
 impl FeedResult {
-    // The bytes that the call took.
+    // The bytes that the call consumed.
     pub fn count(self) -> usize
         ensures { λ r. ⌜ r ≡ countOf (rowOf self) ⌝ }
     {
@@ -88,7 +88,7 @@ impl FeedResult {
     }
 }
 
-// The answer that an event gives.
+// The answer of the call whose last byte gave this event.
 fn answered(event: Event, count: usize, start: WirePlace, end: WirePlace) -> FeedResult
     ensures { λ r. ⌜ rowOf r ≡ eventRow event count (start .0) (end .0) ⌝ }
 {
@@ -103,7 +103,7 @@ fn answered(event: Event, count: usize, start: WirePlace, end: WirePlace) -> Fee
     }
 }
 
-// The body with a byte at a place, where one is put.
+// Stores a body byte at its place, if there is one: PROTOCOL 3.2.
 fn store(body: &mut [u8; 1026], put: bool, at: usize, byte: u8)
     requires { ⌜ at < 1026 ⌝ }
     ensures { λ r. ⌜ now (body .exit) ≡ putOf put (now (body .entry)) at byte ⌝ }
@@ -113,7 +113,7 @@ fn store(body: &mut [u8; 1026], put: bool, at: usize, byte: u8)
     }
 }
 
-// The byte loop.
+// The byte loop: it stops directly after the first byte that decides. PROTOCOL 3.3.
 fn run(reader: Reader, bytes: &[u8]) -> Fed
     requires { ⌜ Ready frameLimit (scanOf (reader .scan)) (length (now bytes)) ⌝ }
     ensures { λ r. ⌜ fedOf r ≡ runOf frameLimit (now (bytes .entry)) 0 (stateOf reader) ⌝ }
@@ -143,7 +143,7 @@ fn run(reader: Reader, bytes: &[u8]) -> Fed
     }
 }
 
-// Bytes given.
+// Offers data to the reader: STATE, then USED, then the byte rules. PROTOCOL 4.15.
 pub fn feed(reader: Reader, bytes: &[u8]) -> Fed
     ensures { λ r. ⌜ fedOf r ≡ feedOf frameLimit (stateOf reader) (now (bytes .entry)) ⌝ }
 {
@@ -163,7 +163,7 @@ pub fn feed(reader: Reader, bytes: &[u8]) -> Fed
     run(reader, bytes)
 }
 
-// What an end asked is answered in a state in range.
+// The answer to a finish of a reader in range.
 fn finish_result(scan: Scan) -> FinishResult
     ensures { λ r. ⌜ finishRowOf r ≡ finishRowIn (phaseOf (scan .phase)) (scanOf scan) ⌝ }
 {
@@ -179,7 +179,7 @@ fn finish_result(scan: Scan) -> FinishResult
     }
 }
 
-// End asked.
+// Says that the input ends; the reader stays as it is.
 pub fn finish(reader: Reader) -> Finished
     ensures { λ r. ⌜ finishedOf r ≡ finishOf frameLimit (stateOf reader) ⌝ }
 {

@@ -1,4 +1,4 @@
-// The byte rules: what one raw byte does to the reader's small state.
+// The byte rules: what one byte on the wire does to the reader's scan. PROTOCOL 3.4 to 3.18.
 use super::place::BodyPlace;
 use super::place::MAX_CONSUMED;
 use super::place::WirePlace;
@@ -12,19 +12,19 @@ ghost use Rattle.frame.specs.Rules.{endedOf, completedOf, bodyByteOf, on
 ghost use Rattle.frame.specs.Rules.{advanceOf, inRangeOf, decidesOf, Ready};
 
 pub enum Phase {
-    // No frame is open, and the last raw byte is no FF.
+    // No frame is open; the last byte is not FF, or there is none.
     Idle,
-    // No frame is open, and the last raw byte is an FF.
+    // No frame is open; the last byte is FF.
     Half,
-    // A header was just made.
+    // A frame is open without a body byte; the last byte ends its header.
     Header,
-    // A frame is open, and the last raw byte is no FF.
+    // A frame is open with a body byte; the last byte is not FF.
     Open,
-    // A frame is open, and an FF other than its header's waits for its successor.
+    // A frame is open with a body byte; an FF waits for the next byte.
     Escape,
 }
 
-// Where the reader stands; docs/STATES.md has each field's range.
+// Where the reader is; docs/STATES.md has the range of each field.
 pub struct Scan {
     pub phase: Phase,
     pub consumed: WirePlace,
@@ -34,7 +34,7 @@ pub struct Scan {
     pub sum: u8,
 }
 
-// What a frame that was begun comes to: paper 01's FRAME and its refused frames.
+// What an open frame ends in: PROTOCOL 4.2, 4.4 to 4.8.
 pub enum Verdict {
     Frame,
     Short,
@@ -44,13 +44,13 @@ pub enum Verdict {
     Sum,
 }
 
-// What a raw byte decides, if anything.
+// What one byte on the wire decides, if anything.
 pub enum Event {
     Quiet,
     Decided { verdict: Verdict },
 }
 
-// A raw byte's work: the next state, the body byte to store, if any, and what is decided.
+// What one byte does: the next scan, the body byte to store, if any, and what is decided.
 pub struct Step {
     pub scan: Scan,
     pub put: bool,
@@ -58,7 +58,7 @@ pub struct Step {
     pub event: Event,
 }
 
-// No frame is open. None ends in a raw FF, so the last raw byte is no FF.
+// No frame is open, and the last byte is not FF: a decided frame never ends in FF, by PROTOCOL 2.8 and 3.11.
 pub(crate) fn closed(consumed: WirePlace) -> Scan
     ensures { λ r. ⌜ scanOf r ≡ closedOf (consumed .0) ⌝ }
 {
@@ -72,7 +72,7 @@ pub(crate) fn closed(consumed: WirePlace) -> Scan
     }
 }
 
-// No frame is open, and an FF was taken.
+// No frame is open, and the last byte is FF.
 fn half(consumed: WirePlace) -> Scan
     ensures { λ r. ⌜ scanOf r ≡ halfOf (consumed .0) ⌝ }
 {
@@ -86,7 +86,7 @@ fn half(consumed: WirePlace) -> Scan
     }
 }
 
-// A header was made, and starts one place before its last byte.
+// A header was made, whose second byte is at the place `last`: PROTOCOL 3.4.
 fn header(last: WirePlace, consumed: WirePlace) -> Scan
     ensures { λ r. ⌜ scanOf r ≡ headerOf (last .0) (consumed .0) ⌝ }
 {
@@ -100,7 +100,7 @@ fn header(last: WirePlace, consumed: WirePlace) -> Scan
     }
 }
 
-// An FF of the body waits.
+// An FF of the body waits for the next byte: PROTOCOL 3.8.
 fn escape(scan: Scan, consumed: WirePlace) -> Scan
     ensures { λ r. ⌜ scanOf r ≡ escapeOf (scanOf scan) (consumed .0) ⌝ }
 {
@@ -128,7 +128,7 @@ fn silent(scan: Scan, event: Event) -> Step
     }
 }
 
-// A header in an open frame: that frame is refused, and the new one is open.
+// A header in an open frame refuses that frame and opens the next one: PROTOCOL 3.10.
 fn cut(last: WirePlace, consumed: WirePlace) -> Step
     ensures { λ r. ⌜ stepOf r ≡ cutOf (last .0) (consumed .0) ⌝ }
 {
@@ -167,7 +167,7 @@ fn grown(scan: Scan, length: u16, v: u8) -> Step
     stored(next, v, Event::Quiet)
 }
 
-// The frame ends with the body byte v.
+// The frame is decided with the body byte v: PROTOCOL 3.16.
 fn ended(scan: Scan, v: u8, verdict: Verdict) -> Step
     requires { ⌜ scan .consumed .0 < 2 ^ 62 ⌝ }
     ensures { λ r. ⌜ stepOf r ≡ endedOf (scanOf scan) v verdict ⌝ }
@@ -176,7 +176,7 @@ fn ended(scan: Scan, v: u8, verdict: Verdict) -> Step
     stored(closed(next_place(last)), v, Event::Decided { verdict })
 }
 
-// The body is complete with the byte v, its sum.
+// The body is complete with its sum v: PROTOCOL 3.13, 3.14.
 fn completed(scan: Scan, v: u8) -> Step
     requires { ⌜ scan .consumed .0 < 2 ^ 62 ⌝ }
     ensures { λ r. ⌜ stepOf r ≡ completedOf (scanOf scan) v ⌝ }
@@ -187,7 +187,7 @@ fn completed(scan: Scan, v: u8) -> Step
     ended(scan, v, Verdict::Sum)
 }
 
-// A byte of the body, when the raw byte that gives it is taken.
+// The body byte v, at the byte on the wire that completes it: PROTOCOL 3.12 to 3.14.
 fn body_byte(limit: usize, scan: Scan, v: u8) -> Step
     requires { ⌜ Ready limit (scanOf scan) 1 ⌝ }
     ensures { λ r. ⌜ stepOf r ≡ bodyByteOf limit (scanOf scan) v ⌝ }
@@ -210,14 +210,14 @@ fn body_byte(limit: usize, scan: Scan, v: u8) -> Step
     if (length as usize) < filled {
         return completed(scan, v);
     }
-    // No body goes past the limit, whatever length a foreign state names.
+    // A record that a caller made up may name any length: PROTOCOL 3.18.
     if limit < filled {
         return completed(scan, v);
     }
     grown(scan, length, v)
 }
 
-// A raw FF: directly behind another it makes a header, in each phase.
+// A byte FF: PROTOCOL 3.4, 3.5, 3.8, 3.10.
 fn on_ff(scan: Scan) -> Step
     requires { ⌜ scan .consumed .0 < 2 ^ 62 ⌝ }
     ensures { λ r. ⌜ stepOf r ≡ onFFOf (scanOf scan) ⌝ }
@@ -234,7 +234,7 @@ fn on_ff(scan: Scan) -> Step
     }
 }
 
-// A byte that is in no body, with no frame open behind it.
+// A byte that belongs to no body, and after which no frame is open.
 fn outside(last: WirePlace, event: Event) -> Step
     requires { ⌜ last .0 < 2 ^ 62 ⌝ }
     ensures { λ r. ⌜ stepOf r ≡ outsideOf (last .0) event ⌝ }
@@ -242,7 +242,7 @@ fn outside(last: WirePlace, event: Event) -> Step
     silent(closed(next_place(last)), event)
 }
 
-// Behind an FF of the body, 55 makes it a body byte; another byte breaks the stuffing.
+// A byte other than FF that follows an FF of the body: PROTOCOL 3.9, 3.11.
 fn on_escaped(limit: usize, scan: Scan, byte: u8) -> Step
     requires { ⌜ Ready limit (scanOf scan) 1 ⌝ }
     ensures { λ r. ⌜ stepOf r ≡ onEscapedOf limit (scanOf scan) byte ⌝ }
@@ -255,7 +255,7 @@ fn on_escaped(limit: usize, scan: Scan, byte: u8) -> Step
     outside(last, Event::Decided { verdict })
 }
 
-// A raw byte other than FF.
+// A byte other than FF: PROTOCOL 3.6, 3.7, 3.15.
 fn on_other(limit: usize, scan: Scan, byte: u8) -> Step
     requires { ⌜ Ready limit (scanOf scan) 1 ⌝ }
     ensures { λ r. ⌜ stepOf r ≡ onOtherOf limit (scanOf scan) byte ⌝ }
@@ -271,7 +271,7 @@ fn on_other(limit: usize, scan: Scan, byte: u8) -> Step
     }
 }
 
-// One raw byte.
+// One byte on the wire.
 pub(crate) fn advance(limit: usize, scan: Scan, byte: u8) -> Step
     requires { ⌜ Ready limit (scanOf scan) 1 ⌝ }
     ensures { λ r. ⌜ stepOf r ≡ advanceOf limit (scanOf scan) byte ⌝ }
@@ -292,7 +292,7 @@ pub(crate) fn decides(event: Event) -> bool
     }
 }
 
-// Whether each field is in its range.
+// Whether each field is in its range: PROTOCOL 4.17.
 pub(crate) fn in_range(limit: usize, scan: Scan) -> bool
     requires { ⌜ limit ≤ 65279 ⌝ }
     ensures { λ r. ⌜ r ≡ inRangeOf limit (scanOf scan) ⌝ }

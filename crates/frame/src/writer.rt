@@ -1,28 +1,28 @@
-// The writer: a frame straight from its parts, with no copy of its body.
+// The writer: a frame goes into the caller's buffer byte by byte, without a copy of its body. PROTOCOL 6.1 to 6.7.
 use super::LIMIT;
 ghost use mathlib.Core.Path.{_≡_};
 ghost use mathlib.Core.List.{[], _∷_};
 ghost use Prim.Native.Nat.{_+_, _≤_, _<_, _/_, _%_, _^_};
 ghost use lib.ListN.{length};
 ghost use Rattle.base.specs.Stores.{PutAt};
-ghost use Rattle.frame.specs.Wire.{stuff, headOf, joinedChunks, framed, frameLimit};
+ghost use Rattle.frame.specs.Wire.{stuff, headOf, joinedChunks, frameLimit};
+ghost use Rattle.frame.specs.Calls.{framed, writeOf, Writes, Measured};
 ghost use Rattle.base.specs.Sums.{total};
-ghost use Rattle.frame.specs.Calls.{writeOf, Writes, Measured};
 
-// What a frame to be written is answered.
+// The answers to a write: PROTOCOL 6.3, 6.4, 6.7.
 pub enum WriteResult {
     Wrote { count: usize },
     Payload,
     Room,
 }
 
-// Raw bytes and the sum of the body bytes that they stand for.
+// The size on the wire of some body bytes, and their sum.
 struct Measure {
     count: usize,
     sum: u8,
 }
 
-// The body's first six bytes.
+// The first six bytes of a body: length, command, sequence number, flags.
 fn head_of(size: usize, command: u8, number: u8, flags: u16) -> [u8; 6]
     requires { ⌜ size + 5 ≤ 65279 ⌝ }
     ensures { λ r. ⌜ r ≡ headOf size command number flags ⌝ }
@@ -38,7 +38,7 @@ fn head_of(size: usize, command: u8, number: u8, flags: u16) -> [u8; 6]
     ]
 }
 
-// How many raw bytes a body byte takes.
+// The size of a body byte on the wire.
 fn width(v: u8) -> usize
     ensures { λ r. ⌜ r ≡ length (stuff (v ∷ [])) ⌝ }
 {
@@ -48,7 +48,7 @@ fn width(v: u8) -> usize
     1
 }
 
-// What some bytes add to a measure.
+// The measure `from` with these bytes added.
 fn measured(from: Measure, bytes: &[u8]) -> Measure
     requires { ⌜ (from .count ≤ 2 ^ 20) × (length (now bytes) ≤ 2 ^ 20) ⌝ }
     ensures { λ r. ⌜ (r .count ≡ from .count + length (stuff (now (bytes .entry))))
@@ -65,7 +65,7 @@ fn measured(from: Measure, bytes: &[u8]) -> Measure
     Measure { count, sum }
 }
 
-// The length of a frame on the wire, and its sum.
+// The size of a frame on the wire, and its sum.
 fn sized(head: [u8; 6], first: &[u8], second: &[u8], third: &[u8]) -> Measure
     requires { ⌜ length (joinedChunks (now first) (now second) (now third)) ≤ 2 ^ 17 ⌝ }
     ensures { λ r. ⌜ Measured head
@@ -80,7 +80,7 @@ fn sized(head: [u8; 6], first: &[u8], second: &[u8], third: &[u8]) -> Measure
     }
 }
 
-// A body byte, stuffed, at a place of the output; the place behind it.
+// Puts a body byte, stuffed, at a place of the buffer; returns the next place.
 fn put_byte(out: &mut [u8], at: usize, v: u8) -> usize
     requires { ⌜ at + length (stuff (v ∷ [])) ≤ length (now out) ⌝ }
     ensures { λ r. ⌜ PutAt (now (out .entry)) at (stuff (v ∷ [])) r (now (out .exit)) ⌝ }
@@ -93,7 +93,7 @@ fn put_byte(out: &mut [u8], at: usize, v: u8) -> usize
     at + 1
 }
 
-// Body bytes, stuffed, at a place of the output; the place behind them.
+// The same for some body bytes.
 fn put_bytes(out: &mut [u8], at: usize, bytes: &[u8]) -> usize
     requires { ⌜ at + length (stuff (now bytes)) ≤ length (now out) ⌝ }
     ensures { λ r. ⌜ PutAt (now (out .entry)) at (stuff (now (bytes .entry))) r (now (out .exit)) ⌝ }
@@ -107,7 +107,7 @@ fn put_bytes(out: &mut [u8], at: usize, bytes: &[u8]) -> usize
     next
 }
 
-// A payload's three parts, stuffed, at a place of the output; the place behind them.
+// The same for the three chunks of a payload.
 fn put_chunks(out: &mut [u8], at: usize, first: &[u8], second: &[u8], third: &[u8]) -> usize
     requires { ⌜ at + length (stuff (joinedChunks (now first) (now second) (now third))) ≤ length (now out) ⌝ }
     ensures { λ r. ⌜ PutAt (now (out .entry)) at (stuff (joinedChunks (now (first .entry)) (now (second .entry))
@@ -118,7 +118,7 @@ fn put_chunks(out: &mut [u8], at: usize, first: &[u8], second: &[u8], third: &[u
     put_bytes(out, after_second, third)
 }
 
-// A whole frame at the front of an output that has room for it; its length.
+// Puts a whole frame at the front of a buffer that has room for it; returns its size.
 fn put_frame(
     out: &mut [u8],
     head: [u8; 6],
@@ -138,7 +138,7 @@ fn put_frame(
     put_byte(out, after_payload, sum)
 }
 
-// A frame whose length is at most a limit, and whose payload is three parts, one behind the other.
+// Writes a frame whose length is within a limit, from three chunks of payload.
 fn chunks_within(
     limit: usize,
     command: u8,
@@ -153,7 +153,7 @@ fn chunks_within(
     ensures { λ r. ⌜ Writes r (now (out .exit)) (writeOf limit command number flags
         (joinedChunks (now (first .entry)) (now (second .entry)) (now (third .entry))) (now (out .entry))) ⌝ }
 {
-    // Two lengths add up to a usize, three need not; what is past the limit is refused, however long it is.
+    // The sum of two sizes fits a usize, that of three need not. Above the limit the exact size does not matter.
     let size = base::min(first.len() + second.len(), limit) + third.len();
     if limit < size + 5 {
         return WriteResult::Payload;
@@ -168,7 +168,7 @@ fn chunks_within(
     }
 }
 
-// A frame whose length is at most a limit.
+// The same from one payload.
 fn write_within(
     limit: usize,
     command: u8,
@@ -185,7 +185,7 @@ fn write_within(
     chunks_within(limit, command, number, flags, payload, none, none, out)
 }
 
-// A frame written at the front of the output, or refused with the output as it was.
+// Writes a frame at the front of the caller's buffer, or refuses and leaves the buffer unchanged: PROTOCOL 6.1 to 6.5.
 pub fn write(command: u8, number: u8, flags: u16, payload: &[u8], out: &mut [u8]) -> WriteResult
     ensures { λ r. ⌜ Writes r (now (out .exit))
         (writeOf frameLimit command number flags (now (payload .entry)) (now (out .entry))) ⌝ }
@@ -193,7 +193,7 @@ pub fn write(command: u8, number: u8, flags: u16, payload: &[u8], out: &mut [u8]
     write_within(LIMIT, command, number, flags, payload, out)
 }
 
-// A frame whose payload is three parts, one behind the other, written without joining them.
+// The same with a payload in three chunks, which are not copied together: PROTOCOL 6.6.
 pub fn write_chunks(
     command: u8,
     number: u8,

@@ -1,4 +1,4 @@
--- `body::payload` meets its contract: behind the flags, as many bytes as the length gives.
+-- `body::payload` meets its contract: L - 5 bytes after the flags.
 use Prim.Native.Nat.{ℕ, _-_, min}
 use mathlib.Core.Path.{_≡_, _∙_}
 use mathlib.Core.List.{List}
@@ -12,7 +12,7 @@ use Rattle.frame.specs.Wire.{lengthOf, payloadOf}
 use Rattle.frame.proofs.body.payload.Statement.{statement}
 use Rattle.frame.proofs.body.payload.Tie as tie
 
--- the part behind the flags is the payload
+-- the slice after the flags is the payload
 lies : {body r : RefT (List ℕ)} {size : ℕ}
     → size ≡ lengthOf (now body) - 5 → IsPart body r (min 6 (length (now body))) size
     → (now r ≡ payloadOf (now body)) × IsPart body r (min 6 (length (now body))) (lengthOf (now body) - 5)

@@ -1,4 +1,4 @@
--- `place::previous_place` gives the place before, and 0 before 0.
+-- `place::previous_place` gives the previous place, and 0 for 0.
 use borrow.Author.Needs.{needs}
 use Rattle.frame.proofs.place.previous_place.Statement.{statement}
 use Rattle.frame.proofs.place.previous_place.Tie as tie

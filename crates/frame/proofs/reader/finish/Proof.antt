@@ -12,4 +12,7 @@ finish-spec =
     (search needs)
     (λ c. simp (sym (c .before .in-range .ensures) ∙ not-true _ (c .if1 .taken)))
     (search needs)
-    λ c. simp (c .finish-result .ensures, sym (c .before .before .in-range .ensures) ∙ not-false _ (c .before .if1 .left)))
+    λ c. simp (
+      c .finish-result .ensures,
+      sym (c .before .before .in-range .ensures) ∙ not-false _ (c .before .if1 .left),
+    ))

@@ -1,4 +1,4 @@
--- `reader::run` takes the bytes one by one.
+-- `reader::run` consumes the bytes one by one.
 use mathlib.Core.Path.{refl, sym, _∙_}
 use Prim.Native.Nat.{_-_}
 use native.Mathlib.Omega.{arith}
@@ -41,7 +41,7 @@ run-spec =
     Inv-loop
     μ-loop
     (λ c. record { within = omega arith; room = omega arith; same = refl })
-    -- the read, what `advance` and `store` require, and the count
+    -- the byte read, what `advance` and `store` require, the count
     (λ c. omega arith)
     (λ c κs. omega arith)
     (λ c κs. omega arith)
@@ -49,7 +49,7 @@ run-spec =
     -- `decides` and `answered` require nothing
     (λ c κs. tt)
     (λ c κs. tt)
-    -- the turn's end, and the two returns
+    -- the end of a turn, then the two returns
     (λ c. omega arith)
     loop-again
     (λ c. sym (run-end (c .before .loop .inv) (c .if1 .taken)))

@@ -1,4 +1,4 @@
--- `scan::advance` parts the raw FF from the other bytes.
+-- `scan::advance` separates FF from all other bytes.
 use borrow.Author.Needs.{needs}
 use Rattle.base.proofs.Tests.{tests}
 use Rattle.frame.proofs.scan.advance.Statement.{statement}

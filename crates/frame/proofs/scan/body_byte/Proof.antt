@@ -1,4 +1,4 @@
--- `scan::body_byte` goes by the bytes that are there: none, one, or more.
+-- `scan::body_byte` has three cases: no body byte so far, one, or more.
 -- Each return has what the call there ensures, and the tests on the way.
 use borrow.Author.Needs.{needs}
 use Rattle.base.proofs.Tests.{tests}
@@ -20,7 +20,7 @@ body-byte-spec =
     (λ c. search tests)
     (search needs) (search needs)
     (λ c. search tests)
-    -- a byte behind the length
+    -- a byte after the length
     (search needs)
     (search needs)
     (λ c. search tests)

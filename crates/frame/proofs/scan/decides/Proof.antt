@@ -1,4 +1,4 @@
--- `scan::decides` parts the events that decide something from the one that does not.
+-- `scan::decides` separates the events that decide from the one that does not.
 use borrow.Author.Needs.{needs}
 use Rattle.frame.proofs.scan.decides.Statement.{statement}
 use Rattle.frame.proofs.scan.decides.Tie as tie

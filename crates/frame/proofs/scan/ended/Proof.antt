@@ -1,4 +1,4 @@
--- `scan::ended` closes the frame, by what `behind`, `closed` and `stored` ensure.
+-- `scan::ended` closes the frame, by what `next_place`, `closed` and `stored` ensure.
 use borrow.Author.Needs.{needs}
 use Rattle.frame.proofs.scan.ended.Statement.{statement}
 use Rattle.frame.proofs.scan.ended.Tie as tie

@@ -1,4 +1,4 @@
--- `scan::grown` takes a byte into the body, by what `behind`, `wrapping_add_u8` and `stored` ensure.
+-- `scan::grown` adds a byte to the body, by what `next_place`, `wrapping_add_u8` and `stored` ensure.
 use borrow.Author.Needs.{needs}
 use Rattle.frame.proofs.scan.grown.Statement.{statement}
 use Rattle.frame.proofs.scan.grown.Tie as tie

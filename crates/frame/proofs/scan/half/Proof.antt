@@ -1,4 +1,4 @@
--- `scan::half` makes the state behind an FF with no frame open.
+-- `scan::half` makes the scan after an FF, if no frame is open.
 use borrow.Author.Needs.{needs}
 use Rattle.frame.proofs.scan.half.Statement.{statement}
 use Rattle.frame.proofs.scan.half.Tie as tie

@@ -1,4 +1,4 @@
--- `scan::header` makes the state behind a header, by what `before` ensures.
+-- `scan::header` makes the scan after a header, by what `previous_place` ensures.
 use borrow.Author.Needs.{needs}
 use Rattle.frame.proofs.scan.header.Statement.{statement}
 use Rattle.frame.proofs.scan.header.Tie as tie

@@ -1,4 +1,4 @@
--- `scan::on_escaped` takes the stuffed 55, or refuses the frame.
+-- `scan::on_escaped` accepts the stuffed 55, or refuses the frame.
 use borrow.Author.Needs.{needs}
 use Rattle.base.proofs.Tests.{tests}
 use Rattle.frame.proofs.scan.on_escaped.Statement.{statement}

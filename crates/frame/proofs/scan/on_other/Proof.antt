@@ -1,4 +1,4 @@
--- `scan::on_other` makes the next state by the phase.
+-- `scan::on_other` makes the next scan by the phase.
 use borrow.Author.Needs.{needs}
 use Rattle.frame.proofs.scan.on_other.Statement.{statement}
 use Rattle.frame.proofs.scan.on_other.Tie as tie

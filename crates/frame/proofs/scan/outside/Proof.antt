@@ -1,4 +1,4 @@
--- `scan::outside` takes a byte and opens nothing, by what `behind`, `closed` and `silent` ensure.
+-- `scan::outside` consumes a byte and opens nothing, by what `next_place`, `closed` and `silent` ensure.
 use borrow.Author.Needs.{needs}
 use Rattle.frame.proofs.scan.outside.Statement.{statement}
 use Rattle.frame.proofs.scan.outside.Tie as tie

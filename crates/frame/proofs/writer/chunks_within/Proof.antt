@@ -1,5 +1,5 @@
--- `chunks_within` meets its contract: what it measures is the frame's wire form,
--- so it refuses and writes as the definition says.
+-- `chunks_within` meets its contract: what it measures is the frame on the wire, so it refuses and writes as the
+-- definition does.
 use Prim.Native.Nat.{ℕ, _+_, _%_, _≤_, _<_}
 use mathlib.Core.Path.{_≡_, ap, _∙_}
 use mathlib.Core.List.{List, [], _∷_}
@@ -8,11 +8,11 @@ use native.Mathlib.Omega.{arith}
 use borrow.Author.Tests.{lt-ltb, le-ltb}
 use lib.ListN.{length}
 use lib.Seq.{sets}
-use Rattle.frame.specs.Wire.{wire, headOf, bodyOf, frameOf, framed, joinedChunks}
+use Rattle.frame.specs.Wire.{wire, headOf, bodyOf, frameOf, joinedChunks}
+use Rattle.frame.specs.Calls.{framed, writeOf}
 use Rattle.base.specs.Sums.{total}
 use Rattle.base.specs.Rows.{row}
 use Rattle.base.specs.Outcomes.{Output, output}
-use Rattle.frame.specs.Calls.{writeOf}
 use Rattle.base.proofs.Sums.{total-append}
 use Rattle.frame.proofs.Writing.{chunks-length}
 use Rattle.base.proofs.Stores.{sets-front}
@@ -58,7 +58,7 @@ module _ (c : tie.Start) where
         zero-add,
       )
 
--- ---- what is sized: the head, the payload and their sum are the frame's body, and the count is that of its wire form
+-- ---- what is sized: head, payload and their sum are the body, and the count is the size of its frame on the wire
 
 body-parts : (command number flags size : ℕ) (payload head : List ℕ) (sum : ℕ)
     → size ≡ length payload → head ≡ headOf size command number flags → sum ≡ (total head + total payload) % 256

@@ -1,4 +1,4 @@
--- `measured` meets its contract. The loop's invariant: what is left, added to the measure so far, gives what was asked.
+-- `measured` meets its contract. The loop's invariant: what is left, added to the measure so far, gives the result.
 use Prim.Native.Nat.{_+_, _-_, _≤_, _<_, _%_, _^_}
 use mathlib.Core.Path.{_≡_, refl, ap}
 use native.Mathlib.Omega.{arith}

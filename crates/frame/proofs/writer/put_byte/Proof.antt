@@ -1,4 +1,4 @@
--- `put_byte` meets its contract: one store, and behind an FF a second.
+-- `put_byte` meets its contract: one store, and a second one after an FF.
 use mathlib.Core.Path.{ap}
 use native.Mathlib.Numerals.{add-one}
 use native.Mathlib.Omega.{arith}

@@ -1,4 +1,4 @@
--- `put_bytes` meets its contract. The loop's invariant: what is left, put from `next` on, completes what was asked.
+-- `put_bytes` meets its contract. The loop's invariant: what is left, put from `next` on, completes the result.
 use Prim.Native.Nat.{_+_, _-_, _≤_}
 use mathlib.Core.Path.{_≡_, refl, ap}
 use native.Mathlib.Omega.{arith}

@@ -1,4 +1,4 @@
--- `writer::put_chunks` meets its contract: the parts, one behind the other.
+-- `writer::put_chunks` meets its contract: the chunks, one after another.
 use Prim.Native.Nat.{_+_, _≤_}
 use native.Mathlib.Omega.{arith}
 use borrow.Author.Needs.{needs}
@@ -8,13 +8,13 @@ use Rattle.frame.proofs.Writing.{put-append, stuffed-length}
 use Rattle.frame.proofs.writer.put_chunks.Statement.{statement}
 use Rattle.frame.proofs.writer.put_chunks.Tie as tie
 
--- the room that the parts need
+-- the room that the chunks need
 module _ (s : tie.Start) where
   room : s .args .at + (length (stuff (s .args .first .now))
       + (length (stuff (s .args .second .now)) + length (stuff (s .args .third .now)))) ≤ length (s .args .out .now)
   room = omega (arith, stuffed-length (s .args .first .now) (s .args .second .now) (s .args .third .now))
 
--- each call, and the function's start, as seen from the one behind it
+-- each call, and the function's start, as seen from the next one
 abbrev start : tie.After-put-bytes → tie.Start
 start c = c .before .before .before .before .before .before
 

@@ -1,4 +1,4 @@
--- `writer::put_frame` meets its contract: the header, and the parts one behind the other.
+-- `writer::put_frame` meets its contract: the header, the head, the chunks and the sum, one after another.
 use Prim.Native.Nat.{ℕ, _+_, _≤_}
 use mathlib.Core.Path.{_≡_}
 use mathlib.Core.List.{List, [], _∷_}
@@ -14,12 +14,12 @@ module _ (s : tie.Start) where
   abbrev payload : List ℕ
   payload = joinedChunks (s .args .first .now) (s .args .second .now) (s .args .third .now)
 
-  -- the room that the parts need
+  -- the room that they need
   room : 2 + length (stuff (s .args .t2)) + length (stuff payload)
       + length (stuff (s .args .sum ∷ [])) ≤ length (s .args .out .now)
   room = omega (arith, framed-length (s .args .t2) payload (s .args .sum))
 
--- each call, and the function's start, as seen from the one behind it
+-- each call, and the function's start, as seen from the next one
 abbrev start : tie.After-put-bytes → tie.Start
 start c = c .before .before .before .before .before .before .before
 
@@ -29,7 +29,7 @@ head c = c .before .before .before .before
 abbrev parts : tie.After-put-byte → tie.After-put-chunks
 parts c = c .before .before .before .before
 
--- the first call leaves the output as long as it came
+-- the first call leaves the size of the buffer
 kept : (c : tie.After-put-bytes) → length (c .put-bytes .last .0) ≡ length (start c .args .out .now)
 kept c = simp length-set at (c .put-bytes .kept .0)
 

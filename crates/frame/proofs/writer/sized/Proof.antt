@@ -1,4 +1,4 @@
--- `sized` meets its contract: header, head and the payload's parts are measured, and then the sum's own width.
+-- `sized` meets its contract: header, head and chunks are measured, and then the sum's own width.
 use Prim.Native.Nat.{ℕ, _+_, _≤_, _^_}
 use mathlib.Core.List.{List, [], _∷_}
 use native.Mathlib.Omega.{arith}
@@ -24,7 +24,7 @@ module _ (c : tie.Start) where
   abbrev third : List ℕ
   third = c .args .third .now
 
-  -- no count on the way is past these
+  -- bounds of the counts on the way
   small : (length first + (length second + length third) ≤ 2 ^ 17)
       × (length (stuff head) + length (stuff first) + length (stuff second) + length (stuff third) ≤ 2 ^ 19)
   small =

@@ -1,4 +1,4 @@
--- `write_within` meets its contract: a payload and two empty parts behind it are the payload.
+-- `write_within` meets its contract: a payload and two empty chunks after it are the payload.
 use Prim.Native.Nat.{ℕ}
 use mathlib.Core.Path.{_≡_}
 use mathlib.Core.List.{List, [], _++_, append-nil}

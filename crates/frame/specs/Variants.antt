@@ -1,33 +1,28 @@
--- Each variant by its name, with its number and values in literal numbers, and each field of its structs by its name.
--- The calls' equations speak of rows and states; these tables say which variant and which field a row or a state is.
+-- Claims: each variant by its name, with its number in literals, and each field by its name. PROTOCOL 12.4.
+-- The contracts equate rows and states; these tables say which variant and which field is meant.
 use Prim.Native.Nat.{ℕ}
-use mathlib.Core.Path.{_≡_}
 use mathlib.Core.Bool.{true, false}
 use mathlib.Core.List.{List, [], _∷_}
+use mathlib.Core.Path.{_≡_}
 use Rattle.base.specs.Rows.{row}
-use Rattle.base.specs.Outcomes.{Output, Outcome}
-use Rattle.frame.specs.State.{Idle, Half, Header, Open, Escape, State, phaseOf, stateOf}
-use Rattle.frame.specs.Table.{eventRow, rowOf, finishRowOf, writeRowOf, countOf}
 use Rattle.frame.specs.Rules.{decidesOf}
-use Rattle.frame.specs.Calls.{fedOf, finishedOf, Writes}
+use Rattle.frame.specs.State.{Idle, Half, Header, Open, Escape, phaseOf, stateOf}
+use Rattle.frame.specs.Table.{eventRow, rowOf, finishRowOf, writeRowOf, countOf}
 use Rattle.frame.specs.declared.place.WirePlace.{WirePlace}
-use Rattle.frame.specs.declared.scan.Phase.the-variants as phase
-use Rattle.frame.specs.declared.scan.Verdict.{Verdict}
-use Rattle.frame.specs.declared.scan.Verdict.the-variants as verdict
-use Rattle.frame.specs.declared.scan.Event.the-variants as event
 use Rattle.frame.specs.declared.reader.Reader.{Reader}
-use Rattle.frame.specs.declared.reader.Fed.{Fed}
-use Rattle.frame.specs.declared.reader.Finished.{Finished}
+use Rattle.frame.specs.declared.scan.Verdict.{Verdict}
 use Rattle.frame.specs.declared.reader.FeedResult.the-variants as answer
 use Rattle.frame.specs.declared.reader.FinishResult.the-variants as ending
-use Rattle.frame.specs.declared.writer.WriteResult.{WriteResult}
+use Rattle.frame.specs.declared.scan.Event.the-variants as event
+use Rattle.frame.specs.declared.scan.Phase.the-variants as phase
+use Rattle.frame.specs.declared.scan.Verdict.the-variants as verdict
 use Rattle.frame.specs.declared.writer.WriteResult.the-variants as written
 
 -- a place on the wire
 abbrev pub wirePlace : ℕ → WirePlace
 wirePlace n = record { 0 = n }
 
--- ---- named-rows: every answer, by its variant: count c, start s, end e; of an end asked, n bytes taken
+-- ---- named-rows: every answer, with the count c, the start s, the end e; at a finish, n bytes consumed in all
 pub record NamedRows : Type 0 where
   pub more : (c : ℕ) → rowOf (answer.More c) ≡ row 0 (c ∷ [])
   pub frame : (c s e : ℕ) → rowOf (answer.Decided c (wirePlace s) (wirePlace e) verdict.Frame) ≡ row 1 (c ∷ s ∷ e ∷ [])
@@ -40,11 +35,11 @@ pub record NamedRows : Type 0 where
   pub used : rowOf answer.Used ≡ row 18 (0 ∷ [])
   pub clean : (n : ℕ) → finishRowOf (ending.Clean (wirePlace n)) ≡ row 2 (n ∷ [])
   pub left-open : (n s : ℕ) → finishRowOf (ending.Open (wirePlace n) (wirePlace s)) ≡ row 16 (n ∷ s ∷ [])
-  pub end-state : finishRowOf ending.State ≡ row 17 (0 ∷ [])
+  pub finish-state : finishRowOf ending.State ≡ row 17 (0 ∷ [])
   pub wrote : (c : ℕ) → writeRowOf (written.Wrote c) ≡ row 0 (c ∷ [])
   pub payload : writeRowOf written.Payload ≡ row 21 (0 ∷ [])
   pub room : writeRowOf written.Room ≡ row 22 (0 ∷ [])
-  -- a raw byte that decides nothing, and one that decides
+  -- a byte that decides nothing, and one that decides
   pub quiet : (c s e : ℕ) → eventRow event.Quiet c s e ≡ row 0 (c ∷ [])
   pub decides : (c s e : ℕ) → eventRow (event.Decided verdict.Short) c s e ≡ row 11 (c ∷ s ∷ e ∷ [])
   pub quiet-continues : decidesOf event.Quiet ≡ false
@@ -52,7 +47,9 @@ pub record NamedRows : Type 0 where
   -- the count is the first value
   pub count : (k c : ℕ) (v : List ℕ) → countOf (row k (c ∷ v)) ≡ c
 
--- ---- named-states: every field of a reader by its name, and every phase
+-- ---- named-states: every field of a reader, and every phase
+
+-- a reader whose fields all differ
 abbrev pub someReader : Reader
 someReader =
     record {
@@ -83,12 +80,3 @@ pub record NamedStates : Type 0 where
         scan = record { phase = Open; consumed = 9; start = 4; filled = 3; length = 5; sum = 12 };
         body = 0 ∷ 5 ∷ 7 ∷ [];
       }
-
--- ---- contracts-complete: the contracts' equations fix the answer and all that is left, each by itself
-pub record ContractsComplete : Type 0 where
-  pub fed : (f : Fed) (y : Outcome State)
-      → fedOf f ≡ y → (rowOf (f .answer) ≡ y .row) × (stateOf (f .reader) ≡ y .state)
-  pub finished : (f : Finished) (y : Outcome State)
-      → finishedOf f ≡ y → (finishRowOf (f .answer) ≡ y .row) × (stateOf (f .reader) ≡ y .state)
-  pub written : (r : WriteResult) (after : List ℕ) (w : Output)
-      → Writes r after w → (writeRowOf r ≡ w .row) × (after ≡ w .out)

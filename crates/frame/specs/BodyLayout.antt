@@ -1,16 +1,16 @@
--- The wire form said another way: literal bytes at literal places. Paper 01, "The frame on the wire".
+-- Claims: the body byte by byte, with literal places. PROTOCOL 2.2 to 2.5, 2.9, 2.11, 6.6.
 use Prim.Native.Nat.{ℕ, _+_, _-_, _*_, _%_, _≤_}
-use mathlib.Core.Path.{_≡_}
-use mathlib.Core.Logic.{_≢_}
 use mathlib.Core.List.{List, [], _∷_, _++_}
+use mathlib.Core.Path.{_≡_}
 use lib.ListN.{length, take}
 use Rattle.base.specs.Sums.{total}
-use Rattle.frame.specs.Wire.{stuff, wire, lengthOf, commandOf, numberOf, flagsOf, payloadOf, joinedChunks, Good}
+use Rattle.frame.specs.Wire.{lengthOf, commandOf, numberOf, flagsOf, payloadOf, bodyOf, joinedChunks, Good}
 
--- ---- body-layout: a body by its bytes. Its first six are b0 to b5; in a good one, a payload p and the sum s follow
+-- ---- body-layout: the first six bytes of a body are b0 to b5; in a good body the payload p and the sum s follow
 --
---    b0 b1 | b2      | b3     | b4 b5 | p ..    | s
---    length| command | number | flags | payload | sum
+--    b0 b1 | b2      | b3       | b4 b5 | p ..    | s
+--    length| command | sequence | flags | payload | sum
+--          |         | number   |       |         |
 pub record BodyLayout (b0 b1 b2 b3 b4 b5 s : ℕ) (p r : List ℕ) : Type 0 where
   pub length-at : lengthOf (b0 ∷ b1 ∷ r) ≡ b0 * 256 + b1
   pub command-at : commandOf (b0 ∷ b1 ∷ b2 ∷ r) ≡ b2
@@ -19,14 +19,14 @@ pub record BodyLayout (b0 b1 b2 b3 b4 b5 s : ℕ) (p r : List ℕ) : Type 0 wher
   pub payload-at : payloadOf (b0 ∷ b1 ∷ b2 ∷ b3 ∷ b4 ∷ b5 ∷ r) ≡ take (b0 * 256 + b1 - 5) r
   pub payload-whole : b0 * 256 + b1 ≡ length p + 5
       → payloadOf (b0 ∷ b1 ∷ b2 ∷ b3 ∷ b4 ∷ b5 ∷ (p ++ s ∷ [])) ≡ p
-  -- good exactly when the length is true, is within the limit, and the sum holds
+  -- good exactly when PROTOCOL 2.9 holds
   pub good-when : (limit : ℕ)
       → b0 * 256 + b1 ≡ length p + 5 → length p + 5 ≤ limit → s ≡ (b0 + b1 + b2 + b3 + b4 + b5 + total p) % 256
       → Good limit (b0 ∷ b1 ∷ b2 ∷ b3 ∷ b4 ∷ b5 ∷ (p ++ s ∷ []))
   pub good-only : (limit : ℕ) → Good limit (b0 ∷ b1 ∷ b2 ∷ b3 ∷ b4 ∷ b5 ∷ (p ++ s ∷ []))
       → (b0 * 256 + b1 ≡ length p + 5) × (length p + 5 ≤ limit)
       × (s ≡ (b0 + b1 + b2 + b3 + b4 + b5 + total p) % 256)
-  -- a part that is not there is 0 or empty
+  -- a field that is missing is 0 or empty: PROTOCOL 2.11
   pub no-command : commandOf (b0 ∷ b1 ∷ []) ≡ 0
   pub no-number : numberOf (b0 ∷ b1 ∷ b2 ∷ []) ≡ 0
   pub no-flags : flagsOf (b0 ∷ b1 ∷ b2 ∷ b3 ∷ []) ≡ 0
@@ -36,22 +36,25 @@ pub record BodyLayout (b0 b1 b2 b3 b4 b5 s : ℕ) (p r : List ℕ) : Type 0 wher
 abbrev pub BodyLayouts : Type 0
 BodyLayouts = (b0 b1 b2 b3 b4 b5 s : ℕ) (p r : List ℕ) → BodyLayout b0 b1 b2 b3 b4 b5 s p r
 
--- ---- stuffing: 55 behind each FF, and nothing else; FF FF before all of it
-pub record Stuffing (x : ℕ) (xs : List ℕ) : Type 0 where
-  pub none : stuff [] ≡ []
-  pub ff : stuff (255 ∷ xs) ≡ 255 ∷ 85 ∷ stuff xs
-  pub other : x ≢ 255 → stuff (x ∷ xs) ≡ x ∷ stuff xs
-  pub header : wire xs ≡ 255 ∷ 255 ∷ stuff xs
+-- ---- made-good: the body that the writer makes of its four values is good, and the values are read back from it
+pub record Made (limit command number flags : ℕ) (payload : List ℕ) : Type 0 where
+  pub good : Good limit (bodyOf command number flags payload)
+  pub command-is : commandOf (bodyOf command number flags payload) ≡ command
+  pub number-is : numberOf (bodyOf command number flags payload) ≡ number
+  pub flags-are : flagsOf (bodyOf command number flags payload) ≡ flags
+  pub payload-is : payloadOf (bodyOf command number flags payload) ≡ payload
 
--- of any bytes
-abbrev pub StuffsEach : Type 0
-StuffsEach = (x : ℕ) (xs : List ℕ) → Stuffing x xs
+-- of every payload within the limit
+abbrev pub MadeGood : Type 0
+MadeGood =
+    (limit command number flags : ℕ) (payload : List ℕ)
+    → length payload + 5 ≤ limit → Made limit command number flags payload
 
--- ---- chunks-joined: a payload's three parts, in their order
+-- ---- chunks-joined: the three chunks of a payload, in their order
 pub record ChunksJoined (a b c : List ℕ) : Type 0 where
   pub worked : joinedChunks (1 ∷ []) (2 ∷ 3 ∷ []) (4 ∷ []) ≡ 1 ∷ 2 ∷ 3 ∷ 4 ∷ []
   pub in-order : joinedChunks a b c ≡ (a ++ b) ++ c
 
--- of any parts
+-- of any chunks
 abbrev pub AllChunksJoined : Type 0
 AllChunksJoined = (a b c : List ℕ) → ChunksJoined a b c

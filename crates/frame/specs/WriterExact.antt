@@ -1,52 +1,52 @@
--- What the writer leaves, said another way: exactly when it refuses, and each byte of the output.
+-- Claims: exactly when the writer refuses, and each byte of the caller's buffer. PROTOCOL 6.1 to 6.5, 6.8.
 use Prim.Native.Nat.{ℕ, _+_, _/_, _%_, _≤_, _<_}
-use mathlib.Core.Path.{_≡_}
-use mathlib.Core.Logic.{_≢_}
 use mathlib.Core.List.{List, [], _∷_, _++_}
+use mathlib.Core.Logic.{_≢_}
+use mathlib.Core.Path.{_≡_}
 use lib.ListN.{length, getD, take}
-use Rattle.base.specs.Rows.{row}
 use Rattle.base.specs.Outcomes.{Output, output}
+use Rattle.base.specs.Rows.{row}
 use Rattle.base.specs.Sums.{total}
-use Rattle.frame.specs.Wire.{stuff, commandOf, numberOf, flagsOf, payloadOf, frameLimit}
 use Rattle.frame.specs.Calls.{freshOf, feedOf, writeOf}
+use Rattle.frame.specs.Wire.{stuff, commandOf, numberOf, flagsOf, payloadOf, frameLimit}
 
--- all bytes of the body but the sum, added up modulo 256
+-- the sum of a body whose length is l, by its bytes: PROTOCOL 2.5
 abbrev pub sumOf : ℕ → ℕ → ℕ → ℕ → List ℕ → ℕ
 sumOf l command number flags payload =
     (l / 256 + l % 256 + command + number + flags / 256 + flags % 256 + total payload) % 256
 
--- the frame on the wire, whose length is l
+-- the frame on the wire of a body whose length is l, by its bytes
 abbrev pub formOf : ℕ → ℕ → ℕ → ℕ → List ℕ → List ℕ
 formOf l command number flags payload =
     255 ∷ 255 ∷ stuff (l / 256 ∷ l % 256 ∷ command ∷ number ∷ flags / 256 ∷ flags % 256
     ∷ (payload ++ sumOf l command number flags payload ∷ []))
 
--- an answer, and the output that was `out`, of a frame of length l whose bytes on the wire are `form`
+-- an answer, and the caller's buffer that was `out`, of a frame of length l whose bytes on the wire are `form`
 pub record WritesExactly (limit l : ℕ) (form out : List ℕ) (w : Output) : Type 0 where
-  -- PAYLOAD exactly when the length is above the limit; it comes before ROOM
+  -- PAYLOAD exactly when the length is above the limit; it is tested before ROOM
   pub too-long : limit < l → w .row ≡ row 21 (0 ∷ [])
   pub too-long-only : w .row .number ≡ 21 → limit < l
-  -- ROOM exactly when the length is not, and the output is shorter than the frame
+  -- ROOM exactly when the length is within the limit and the buffer is smaller than the frame
   pub no-room : l ≤ limit → length out < length form → w .row ≡ row 22 (0 ∷ [])
   pub no-room-only : w .row .number ≡ 22 → (l ≤ limit) × (length out < length form)
-  -- written exactly when neither is due; the answer is the count
+  -- written exactly when neither refuses; the answer is the count
   pub fits : l ≤ limit → length form ≤ length out → w .row ≡ row 0 (length form ∷ [])
   pub fits-only : w .row .number ≡ 0 → (l ≤ limit) × (length form ≤ length out)
-  -- refused, all of the output is as it was
+  -- refused, the whole buffer is unchanged
   pub refused-kept : w .row .number ≢ 0 → w .out ≡ out
-  -- written, its front is the frame, and each byte behind is as it was
+  -- written, its front is the frame, and each later byte is unchanged
   pub front : w .row .number ≡ 0 → take (getD (w .row .values) 0 0) (w .out) ≡ form
   pub rest-kept : w .row .number ≡ 0 → (i : ℕ) → getD (w .row .values) 0 0 ≤ i → getD (w .out) i 0 ≡ getD out i 0
   pub same-length : length (w .out) ≡ length out
 
--- ---- writer-exact: of all values, and every output
+-- ---- writer-exact: of all values, and every buffer
 abbrev pub WriterExact : Type 0
 WriterExact =
     (limit command number flags : ℕ) (payload out : List ℕ)
     → WritesExactly limit (length payload + 5) (formOf (length payload + 5) command number flags payload) out
     (writeOf limit command number flags payload out)
 
--- ---- payload-limit: at the code's limit, PAYLOAD is a payload above 1,019
+-- ---- payload-limit: at the code's limit, PAYLOAD exactly when the payload has more than 1,019 bytes: PROTOCOL 6.3
 pub record PayloadLimit (command number flags : ℕ) (payload out : List ℕ) : Type 0 where
   pub above : 1019 < length payload → writeOf frameLimit command number flags payload out .row ≡ row 21 (0 ∷ [])
   pub only : writeOf frameLimit command number flags payload out .row .number ≡ 21 → 1019 < length payload
@@ -55,7 +55,9 @@ pub record PayloadLimit (command number flags : ℕ) (payload out : List ℕ) : 
 abbrev pub PayloadLimits : Type 0
 PayloadLimits = (command number flags : ℕ) (payload out : List ℕ) → PayloadLimit command number flags payload out
 
--- ---- worked-frame: one frame written and read, by computation. All of its parts differ; an FF is stuffed
+-- ---- worked-frame: one frame written and read, by computation. Its fields all differ; one FF is stuffed
+
+-- the frame
 abbrev pub workedBytes : List ℕ
 workedBytes = 0xFF ∷ 0xFF ∷ 0x00 ∷ 0x07 ∷ 0x12 ∷ 0x34 ∷ 0x56 ∷ 0x78 ∷ 0xFF ∷ 0x55 ∷ 0x9A ∷ 0xB4 ∷ []
 
@@ -65,7 +67,7 @@ WorkedBody b =
     (commandOf b ≡ 0x12) × (numberOf b ≡ 0x34) × (flagsOf b ≡ 0x5678) × (payloadOf b ≡ 0xFF ∷ 0x9A ∷ [])
     × (take 9 b ≡ 0x00 ∷ 0x07 ∷ 0x12 ∷ 0x34 ∷ 0x56 ∷ 0x78 ∷ 0xFF ∷ 0x9A ∷ 0xB4 ∷ [])
 
--- what was written, with two bytes of the output behind it; what one byte too few gives; what is read
+-- the frame written before two further bytes of the buffer; a buffer that is one byte too small; the frame read
 pub record WorkedFrame : Type 0 where
   pub written : writeOf 1024 0x12 0x34 0x5678 (0xFF ∷ 0x9A ∷ [])
       (1 ∷ 2 ∷ 3 ∷ 4 ∷ 5 ∷ 6 ∷ 7 ∷ 8 ∷ 9 ∷ 10 ∷ 11 ∷ 12 ∷ 13 ∷ 14 ∷ [])
