@@ -11,13 +11,13 @@ use Rattle.base.specs.Rows.{row}
 use Rattle.base.specs.Outcomes.{Output, output, onto}
 use Rattle.base.proofs.Tests.{by-test}
 use Rattle.frame.proofs.Stuffing.{stuffed-form}
-use Rattle.frame.proofs.Round.{made-good}
+use Rattle.frame.proofs.RoundTrip.{made-good}
 use Rattle.firmware.specs.Code.{refused, countIn, codeOf, rowFrom, Returned, returned, returnedOf}
-use Rattle.firmware.specs.Claims.{Arguments, outputOf, codeFor, wireFor, CodeWhen, CodesWhen, CountsBelow}
-use Rattle.firmware.specs.Claims.{RoomSuffices, CodesInjective, RefusalUnchanged, CGetsAlways}
+use Rattle.firmware.specs.CodeExact.{Arguments, outputOf, codeFor, wireFor, CodeWhen, CodesWhen, CountsBelow}
+use Rattle.firmware.specs.CodeExact.{RoomSuffices, CodesInjective, RefusalUnchanged, CGetsAlways}
 
 module _ (limit : ℕ) (g : Arguments) where
-  -- the longest wire form
+  -- the greatest frame on the wire
   longest : length (g .payload) + 5 ≤ limit → length (wireFor g) ≤ 2 + 2 * (limit + 2)
   longest h =
       let made = made-good limit (g .command) (g .number) (g .flags) (g .payload) h .good in
@@ -44,14 +44,18 @@ below limit g =
 pub counts-below : CountsBelow
 counts-below = record { any = below; ours = below frameLimit }
 
-decoded : (limit : ℕ) → 2 + 2 * (limit + 2) < 65536 → (g : Arguments) → rowFrom (codeFor limit g) ≡ outputOf limit g .row
+decoded : (limit : ℕ) → 2 + 2 * (limit + 2) < 65536 → (g : Arguments)
+    → rowFrom (codeFor limit g) ≡ outputOf limit g .row
 decoded limit small g =
     each limit g (λ (w : Output). rowFrom (codeOf (w .row)) ≡ w .row) refl refl
     (λ h. rw (lt-ltb (length (wireFor g)) refused (omega arith)))
 
 pub code-injective : CodesInjective
 code-injective limit small =
-    record { decoded = decoded limit small; injective = λ g h e. sym (decoded limit small g) ∙ ap rowFrom e ∙ decoded limit small h }
+    record {
+      decoded = decoded limit small;
+      injective = λ g h e. sym (decoded limit small g) ∙ ap rowFrom e ∙ decoded limit small h;
+    }
 
 pub refusal-unchanged : RefusalUnchanged
 refusal-unchanged limit small g =
@@ -78,7 +82,7 @@ code-when =
 pub room-suffices : RoomSuffices
 room-suffices g h r = code-when .written g h (omega (arith, longest frameLimit g (omega arith)))
 
--- the contract's equation, taken apart
+-- the two sides of the contract's equation
 gets : (code : ℕ) (after : List ℕ) (w : Output) → returned code after ≡ returnedOf w
     → (code ≡ codeOf (w .row)) × (after ≡ w .out)
 gets code after w e = (ap (λ (r : Returned). r .code) e, ap (λ (r : Returned). r .out) e)

@@ -1,2 +1,2 @@
--- The claims of specs/Claims.antt.
-pub mod Codes
+-- The claims of specs/CodeExact.antt.
+pub mod CodeExact

@@ -1,4 +1,5 @@
--- The one number that the exported writer returns. Its answers are the rows of frame's writer, its memory the same.
+-- Statement: the one number that the exported writer returns. PROTOCOL 6.9.
+-- Its answers are the rows of frame's writer; the caller's buffer is the same.
 use Prim.Native.Nat.{ℕ, _+_, _-_}
 use mathlib.Core.Bool.{cond}
 use mathlib.Core.List.{List, [], _∷_}
@@ -7,31 +8,31 @@ use lib.Dec.{eqb, ltb}
 use Rattle.base.specs.Rows.{Row, row}
 use Rattle.base.specs.Outcomes.{Output}
 
--- "there a refusal is 65,536 plus its number"
+-- what a refusal's number is added to
 abbrev pub refused : ℕ
 refused = 65536
 
--- "It returns the count written"; a refusal's row has 0 there
+-- the count written; a refusal has 0 there
 abbrev pub countIn : Row → ℕ
 countIn r = getD (r .values) 0 0
 
--- "one number back, refusals offset by 65,536"; a count stands in its row under number 0
+-- the number that C gets for a row; the row of a count has number 0 (PROTOCOL 6.7)
 abbrev pub codeOf : Row → ℕ
 codeOf r = cond (eqb (r .number) 0) (countIn r) (refused + r .number)
 
--- what a C caller makes of the number: a count, or a refusal's number with the table's value 0
+-- the row that a C caller reads out of the number
 abbrev pub rowFrom : ℕ → Row
 rowFrom code = cond (ltb code refused) (row 0 (code ∷ [])) (row (code - refused) (0 ∷ []))
 
--- the number, and the lent output afterwards
+-- the number, and the caller's buffer afterwards
 pub record Returned : Type 0 where
   pub code : ℕ
   pub out : List ℕ
 
--- the same of the two
+-- a result of these two
 abbrev pub returned : ℕ → List ℕ → Returned
 returned c o = record { code = c; out = o }
 
--- the same of what the writer answers and leaves
+-- the result for what the writer answers and leaves
 abbrev pub returnedOf : Output → Returned
 returnedOf w = returned (codeOf (w .row)) (w .out)

@@ -1,4 +1,4 @@
--- What is proved beside the call's equation. proofs/ has a theorem for each claim, of the name given here.
+-- Claims: what a C caller relies on. PROTOCOL 6.3 to 6.5, 6.9.
 use Prim.Native.Nat.{ℕ, _+_, _*_, _≤_, _<_}
 use mathlib.Core.Path.{_≡_}
 use mathlib.Core.List.{List, _++_}
@@ -8,7 +8,7 @@ use Rattle.base.specs.Outcomes.{Output}
 use Rattle.frame.specs.Calls.{writeOf}
 use Rattle.firmware.specs.Code.{refused, countIn, codeOf, rowFrom, returned, returnedOf}
 
--- what one call is given
+-- the arguments of one call
 pub record Arguments : Type 0 where
   pub command : ℕ
   pub number : ℕ
@@ -16,7 +16,7 @@ pub record Arguments : Type 0 where
   pub payload : List ℕ
   pub out : List ℕ
 
--- what the writer of a limit answers it, and leaves
+-- what the writer with this limit answers and leaves
 abbrev pub outputOf : ℕ → Arguments → Output
 outputOf limit g = writeOf limit (g .command) (g .number) (g .flags) (g .payload) (g .out)
 
@@ -24,18 +24,18 @@ outputOf limit g = writeOf limit (g .command) (g .number) (g .flags) (g .payload
 abbrev pub codeFor : ℕ → Arguments → ℕ
 codeFor limit g = codeOf (outputOf limit g .row)
 
--- the wire form that is asked for
+-- the frame on the wire that the arguments make
 abbrev pub wireFor : Arguments → List ℕ
 wireFor g = wire (bodyOf (g .command) (g .number) (g .flags) (g .payload))
 
--- ---- counts-below: no count is above 2 and twice the bytes of the longest body; for C's limit that is 2,054, so none
--- reaches 65,536
+-- ---- counts-below: no count is above 2 plus twice the size of the greatest body; for C's limit that is 2,054, so none
+-- reaches 65,536. PROTOCOL 2.8
 pub record CountsBelow : Type 0 where
   pub any : (limit : ℕ) (g : Arguments) → countIn (outputOf limit g .row) ≤ 2 + 2 * (limit + 2)
   pub ours : (g : Arguments) → countIn (outputOf frameLimit g .row) ≤ 2054
 
--- ---- code-injective: nothing is lost where no count reaches 65,536;
--- a caller reads the answer back, and two answers with one number are one
+-- ---- code-injective: where no count reaches 65,536, a caller reads the answer back from the number, and two answers
+-- with the same number are equal
 pub record CodeInjective (limit : ℕ) : Type 0 where
   pub decoded : (g : Arguments) → rowFrom (codeFor limit g) ≡ outputOf limit g .row
   pub injective : (g h : Arguments) → codeFor limit g ≡ codeFor limit h → outputOf limit g .row ≡ outputOf limit h .row
@@ -44,21 +44,21 @@ pub record CodeInjective (limit : ℕ) : Type 0 where
 abbrev pub CodesInjective : Type 0
 CodesInjective = (limit : ℕ) → 2 + 2 * (limit + 2) < 65536 → CodeInjective limit
 
--- ---- refusal-unchanged: "output unchanged", of every number from 65,536 on
+-- ---- refusal-unchanged: every number from 65,536 on leaves the caller's buffer unchanged
 abbrev pub RefusalUnchanged : Type 0
 RefusalUnchanged =
-    (limit : ℕ) → 2 + 2 * (limit + 2) < 65536 → (g : Arguments) → refused ≤ codeFor limit g → outputOf limit g .out ≡ g .out
+    (limit : ℕ) → 2 + 2 * (limit + 2) < 65536 → (g : Arguments) → refused ≤ codeFor limit g
+    → outputOf limit g .out ≡ g .out
 
--- ---- code-when: the table's "Given exactly when" of 21 and 22, and the count otherwise, in the numbers that C gets.
--- The three cases are all there are. Where no count reaches 65,536, as under C's limit, their numbers differ, so each
--- comes only then
+-- ---- code-when: when PAYLOAD, ROOM and a count come, in the numbers that C gets: PROTOCOL 6.3, 6.4. There is no other
+-- case. Where no count reaches 65,536, as under C's limit, the three numbers differ, so each comes only then
 pub record CodeWhen (limit : ℕ) (g : Arguments) : Type 0 where
   pub payload : limit < length (g .payload) + 5 → codeFor limit g ≡ 65557
   pub room : length (g .payload) + 5 ≤ limit → length (g .out) < length (wireFor g) → codeFor limit g ≡ 65558
   pub written : length (g .payload) + 5 ≤ limit → length (wireFor g) ≤ length (g .out)
       → codeFor limit g ≡ length (wireFor g)
 
--- of every call; for C's limit in figures
+-- of every call; for C's limit in literal numbers
 pub record CodesWhen : Type 0 where
   pub any : (limit : ℕ) (g : Arguments) → CodeWhen limit g
   pub payload : (g : Arguments) → 1019 < length (g .payload) → codeFor frameLimit g ≡ 65557
@@ -67,12 +67,12 @@ pub record CodesWhen : Type 0 where
   pub written : (g : Arguments)
       → length (g .payload) ≤ 1019 → length (wireFor g) ≤ length (g .out) → codeFor frameLimit g ≡ length (wireFor g)
 
--- ---- room-suffices: 2,054 bytes of output hold the wire form of every payload that is not too long
+-- ---- room-suffices: a buffer of 2,054 bytes holds the frame of every payload that is not too long: PROTOCOL 6.5
 abbrev pub RoomSuffices : Type 0
 RoomSuffices =
     (g : Arguments) → length (g .payload) ≤ 1019 → 2054 ≤ length (g .out) → codeFor frameLimit g ≡ length (wireFor g)
 
--- ---- c-gets: the number and the output that a call leaves, as its contract equates them, in C's own figures
+-- ---- c-gets: the number and the buffer that a call leaves, by its contract's equation, in literal numbers
 pub record CGets (g : Arguments) (code : ℕ) (after : List ℕ) : Type 0 where
   pub payload : 1019 < length (g .payload) → (code ≡ 65557) × (after ≡ g .out)
   pub room : length (g .payload) ≤ 1019 → length (g .out) < length (wireFor g) → (code ≡ 65558) × (after ≡ g .out)

@@ -1,3 +1,6 @@
--- What a reader of this crate has to believe: the one number that C gets, and what a C caller may rely on.
+-- What C gets from the exported writer.
+
+-- Statements: what must be believed
 pub mod Code
-pub mod Claims
+-- Claims: what is proved
+pub mod CodeExact

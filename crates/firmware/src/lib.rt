@@ -1,14 +1,14 @@
-// The frame writer for the box's C firmware, under one exported name.
+// The frame writer for the C firmware of a box, under one exported name. PROTOCOL 6.9, 6.10.
 use frame::WriteResult;
 ghost use mathlib.Core.Path.{_≡_};
 ghost use Rattle.frame.specs.Wire.{frameLimit};
 ghost use Rattle.frame.specs.Calls.{writeOf};
 ghost use Rattle.firmware.specs.Code.{returned, returnedOf};
 
-// What a refusal's number is added to; no count reaches it.
+// What a refusal's number is added to. No count reaches it: PROTOCOL 2.8.
 const REFUSED: u32 = 65_536;
 
-// A frame written at the front of the output, or refused with the output as it was.
+// Writes a frame at the front of the caller's buffer, or refuses and leaves the buffer unchanged.
 // In C each slice is a pointer and a length.
 #[no_mangle]
 pub extern "C" fn trogonreed_write_frame(

@@ -5,8 +5,8 @@ use borrow.Author.Needs.{needs}
 use Rattle.base.specs.Outcomes.{Output}
 use Rattle.frame.specs.Wire.{frameLimit}
 use Rattle.firmware.specs.Code.{countIn, returnedOf}
-use Rattle.firmware.specs.Claims.{Arguments, outputOf}
-use Rattle.firmware.proofs.Codes.{counts-below}
+use Rattle.firmware.specs.CodeExact.{Arguments, outputOf}
+use Rattle.firmware.proofs.CodeExact.{counts-below}
 use Rattle.firmware.proofs.trogonreed_write_frame.Statement.{statement}
 use Rattle.firmware.proofs.trogonreed_write_frame.Tie as tie
 
