@@ -13,7 +13,7 @@ use Rattle.frame.specs.Wire.{lengthOf, payloadOf}
 use Rattle.base.specs.Rows.{Row, row}
 use Rattle.base.specs.Outcomes.{Output, writtenIn}
 use Rattle.frame.specs.Calls.{runOf, zeros}
-use Rattle.frame.specs.Logs.{logOf, offer}
+use Rattle.frame.specs.LogsComputed.{logOf, offer}
 use Rattle.base.proofs.Tests.{by-test}
 use Rattle.base.proofs.Rows.{injective-by, under, value}
 use Rattle.listing.specs.Decimal.{decimalOf, digitsIn, columnsOf}

@@ -14,9 +14,9 @@ use Rattle.base.specs.Rows.{Row, row}
 use Rattle.frame.specs.Rules.{inRangeOf}
 use Rattle.base.specs.Outcomes.{Outcome}
 use Rattle.frame.specs.Calls.{finishRowIn, freshOf, feedOf, finishOf}
-use Rattle.frame.specs.Logs.{Call, feed, finish, Entry, entryOf, logOf, decided}
-use Rattle.frame.specs.Decisions.{Decision, Decides, is-frame, is-short, is-long, is-stuff, is-cut, is-sum, decisionsOf, bodyHeld}
-use Rattle.frame.specs.Decisions.{decisionIn as lineIn}
+use Rattle.frame.specs.Logs.{Call, feed, finish, Entry, decided, decisionsOf, bodyHeld, decisionIn as lineIn}
+use Rattle.frame.specs.LogsComputed.{entryOf, logOf}
+use Rattle.frame.specs.Decisions.{Decision, Decides, is-frame, is-short, is-long, is-stuff, is-cut, is-sum}
 use Rattle.frame.specs.State.{Phase, Idle, Half, Header, Open, Escape, Scan, State}
 use Rattle.base.proofs.Tests.{by-test}
 use Rattle.frame.proofs.Decisions.{each-decision}

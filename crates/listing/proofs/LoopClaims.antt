@@ -16,11 +16,12 @@ use Rattle.frame.specs.Rules.{inRangeOf, advanceOf, decidesOf}
 use Rattle.frame.specs.State.{State}
 use Rattle.frame.specs.Table.{eventRow, countOf}
 use Rattle.frame.specs.Calls.{zeros, nextOf, runOf, feedOf}
-use Rattle.frame.specs.Logs.{logOf, stateAfter, stream, offer}
+use Rattle.frame.specs.LogsComputed.{logOf, stateAfter, offer}
+use Rattle.frame.specs.Logs.{stream}
 use Rattle.frame.specs.declared.scan.Event.{Event}
 use Rattle.frame.specs.declared.scan.Event.the-variants.{Quiet, Decided}
-use Rattle.frame.proofs.Counts.{within}
-use Rattle.base.proofs.Claims.{placed-whole-or-not}
+use Rattle.frame.proofs.EachCall.{within}
+use Rattle.base.proofs.OutcomesExact.{placed-whole-or-not}
 use Rattle.base.proofs.Tests.{by-test, either-way, both}
 use Rattle.listing.specs.Decimal.{decimalOf, digitsIn, columnsOf}
 use Rattle.listing.specs.Lines.{lineRoom}

@@ -18,7 +18,7 @@ use Rattle.frame.specs.Table.{codeOf, countOf}
 use Rattle.frame.specs.Calls.{feedOf}
 use Rattle.frame.specs.declared.scan.Verdict.{Verdict}
 use Rattle.frame.specs.declared.scan.Verdict.the-variants.{Frame, Short, Long, Stuff, Cut, Sum}
-use Rattle.frame.proofs.Counts.{within as count-most, progress}
+use Rattle.frame.proofs.EachCall.{within as count-most, progress}
 use Rattle.base.proofs.Tests.{either-way}
 use Rattle.base.proofs.Stores.{sets-append, sets-front}
 use Rattle.listing.specs.Lines.{lineRoom}

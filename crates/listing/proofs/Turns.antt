@@ -17,7 +17,8 @@ use Rattle.frame.specs.Wire.{widest}
 use Rattle.frame.specs.Rules.{inRangeOf}
 use Rattle.frame.specs.State.{State}
 use Rattle.frame.specs.Calls.{zeros, runOf, freshOf, feedOf}
-use Rattle.frame.specs.Logs.{Call, feed, finish, entryOf, consumedIn, logOf, stateAfter, stream, offer}
+use Rattle.frame.specs.Logs.{Call, feed, finish, consumedIn, stream}
+use Rattle.frame.specs.LogsComputed.{entryOf, logOf, stateAfter, offer}
 use Rattle.frame.proofs.Moves.{Inv}
 use Rattle.frame.proofs.Logged.{in-range, reached}
 use Rattle.frame.proofs.StreamCorrect.{fresh-holds}

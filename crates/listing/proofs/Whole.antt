@@ -10,11 +10,13 @@ use Rattle.frame.specs.Wire.{widest}
 use Rattle.frame.specs.Table.{countOf}
 use Rattle.base.specs.Outcomes.{Outcome}
 use Rattle.frame.specs.Calls.{freshOf, feedOf, finishOf}
-use Rattle.frame.specs.Logs.{Call, feed, finish, logOf, stateAfter, stream, offer, send, joined}
-use Rattle.frame.specs.Decisions.{decisionsOf, IsOpen}
+use Rattle.frame.specs.Logs.{Call, feed, finish, stream, decisionsOf}
+use Rattle.frame.specs.LogsComputed.{logOf, stateAfter, offer, send}
+use Rattle.frame.specs.Offers.{joined}
+use Rattle.frame.specs.Decisions.{IsOpen}
 use Rattle.frame.specs.State.{State}
 use Rattle.frame.proofs.Unique.{one-decisions}
-use Rattle.frame.proofs.Sender.{sent-whole}
+use Rattle.frame.proofs.Sending.{sent-whole}
 use Rattle.frame.proofs.Decisions.{each-decision, finish-correct}
 use Rattle.listing.specs.Lines.{headingText, answerText, lastOf}
 use Rattle.listing.specs.Claims.{textsOf, feedText, decisionsText, listingOf, listed, OnlyFeed, WholeListing}

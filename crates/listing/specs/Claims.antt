@@ -6,8 +6,10 @@ use lib.ListN.{length, getD, drop}
 use Rattle.base.specs.Rows.{Row, row}
 use Rattle.frame.specs.Wire.{widest, frameLimit}
 use Rattle.frame.specs.Calls.{freshOf}
-use Rattle.frame.specs.Logs.{Call, feed, finish, Entry, logOf, stream, offer, send, joined}
-use Rattle.frame.specs.Decisions.{Decision, decisionsOf, ListsDecisions, IsOpen}
+use Rattle.frame.specs.Logs.{Call, feed, finish, Entry, stream, decisionsOf}
+use Rattle.frame.specs.LogsComputed.{logOf, offer, send}
+use Rattle.frame.specs.Offers.{joined}
+use Rattle.frame.specs.Decisions.{Decision, ListsDecisions, IsOpen}
 use Rattle.listing.specs.Decimal.{decimalOf}
 use Rattle.listing.specs.Lines.{ascii, headingText, textOf, placesOf, answerText, lastOf}
 use Rattle.listing.specs.Table.{lineRowOf, Puts}

@@ -11,7 +11,8 @@ use Rattle.base.specs.Keys.{among}
 use Rattle.frame.specs.Wire.{widest, frameLimit}
 use Rattle.frame.specs.State.{State, stateOf}
 use Rattle.frame.specs.Calls.{freshOf, feedOf, finishOf}
-use Rattle.frame.specs.Logs.{logOf, stateAfter, stream, offer}
+use Rattle.frame.specs.LogsComputed.{logOf, stateAfter, offer}
+use Rattle.frame.specs.Logs.{stream}
 use Rattle.listing.specs.Lines.{ascii, headingText, lastOf}
 use Rattle.listing.specs.Feeding.{stopOf, Run, listOf, leftOf, leftBy}
 use Rattle.listing.specs.Claims.{feedText, IsListing, exampleStream}

@@ -4,7 +4,7 @@ use mathlib.Core.Path.{_≡_, refl, ap, _∙_}
 use mathlib.Core.List.{List, _++_}
 use lib.ListN.{length}
 use Rattle.frame.specs.Wire.{wire, bodyOf}
-use Rattle.frame.proofs.Round.{made-good, read-anywhere}
+use Rattle.frame.proofs.RoundTrip.{made-good, read-anywhere}
 use Rattle.message.specs.Writing.{commandIn, payloadIn}
 use Rattle.message.specs.Anywhere.{MessageReadAnywhere}
 use Rattle.message.proofs.Written.{written-read}

@@ -15,7 +15,7 @@ use Rattle.base.proofs.Keys.{agree}
 use Rattle.base.proofs.Tests.{either-way}
 use Rattle.frame.specs.Wire.{stuff, bodyOf, commandOf, numberOf, payloadOf}
 use Rattle.frame.specs.Calls.{writeOf}
-use Rattle.frame.proofs.Round.{round-trip}
+use Rattle.frame.proofs.RoundTrip.{round-trip}
 use Rattle.message.specs.Commands.{table, profileIn, kindOf, sizeFits, fits, fromBox, owedOf, codeNumber}
 use Rattle.message.specs.Table.{causeNumber}
 use Rattle.message.specs.Reading.{readOf}

@@ -11,7 +11,7 @@ use Rattle.frame.specs.Wire.{wire, bodyOf}
 use Rattle.base.specs.Rows.{Row, row}
 use Rattle.base.specs.Outcomes.{Output, output, onto}
 use Rattle.frame.specs.Calls.{writeOf}
-use Rattle.frame.proofs.Round.{round-trip}
+use Rattle.frame.proofs.RoundTrip.{round-trip}
 use Rattle.message.specs.Commands.{isListed, kindOf}
 use Rattle.message.specs.Writing.{commandIn, payloadIn, opaqueFits, allowedIn, sendOf}
 use Rattle.message.specs.Claims.{Writable, MessageRoundTrip}

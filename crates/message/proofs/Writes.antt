@@ -6,7 +6,7 @@ use mathlib.Core.List.{List, [], _∷_, _++_}
 use native.Mathlib.Omega.{arith}
 use lib.ListN.{take, drop}
 use Rattle.base.specs.Numbers.{two, four}
-use Rattle.base.proofs.Claims.{numbers-spelled}
+use Rattle.base.proofs.NumbersExact.{numbers-spelled}
 use Rattle.message.specs.Numbers.{num, eight}
 use Rattle.message.specs.Counter.{modeNumber, statusBytes, controlBytes}
 use Rattle.message.specs.Writing.{networkBytes, timeBytes, unixBytes}

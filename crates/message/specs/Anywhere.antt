@@ -6,7 +6,8 @@ use lib.ListN.{length, take}
 use Rattle.frame.specs.Wire.{widest, commandOf, numberOf, flagsOf, payloadOf}
 use Rattle.frame.specs.Frames.{Found}
 use Rattle.frame.specs.Calls.{freshOf}
-use Rattle.frame.specs.Logs.{Call, Entry, logOf, stream, delivered}
+use Rattle.frame.specs.Logs.{Call, Entry, stream, delivered}
+use Rattle.frame.specs.LogsComputed.{logOf}
 use Rattle.base.specs.Rows.{row}
 use Rattle.message.specs.Writing.{sendOf}
 use Rattle.message.specs.Claims.{Decodes}

@@ -7,8 +7,9 @@ use mathlib.Core.Logic.{_≢_}
 use lib.ListN.{length, drop, replicate}
 use Rattle.frame.specs.Wire.{widest, wire, bodyOf, commandOf, numberOf, payloadOf}
 use Rattle.frame.specs.Calls.{freshOf}
-use Rattle.frame.specs.Logs.{Call, logOf, stateAfter, stream}
-use Rattle.frame.specs.Claims.{ReadBack}
+use Rattle.frame.specs.Logs.{Call, stream}
+use Rattle.frame.specs.LogsComputed.{logOf, stateAfter}
+use Rattle.frame.specs.RoundTrip.{ReadBack}
 use Rattle.base.specs.Rows.{Row, row}
 use Rattle.base.specs.Outcomes.{Output, output}
 use Rattle.base.specs.Keys.{among}

@@ -13,8 +13,9 @@ use Rattle.base.specs.Numbers.{twoAt}
 use Rattle.base.specs.Keys.{among}
 use denote.Ref.{RefT, now}
 use Rattle.frame.specs.Calls.{freshOf}
-use Rattle.frame.specs.Logs.{Call, Entry, logOf, stateAfter, stream}
-use Rattle.frame.specs.Claims.{ReadBack}
+use Rattle.frame.specs.Logs.{Call, Entry, stream}
+use Rattle.frame.specs.LogsComputed.{logOf, stateAfter}
+use Rattle.frame.specs.RoundTrip.{ReadBack}
 use Rattle.message.specs.Numbers.{num, eightAt, eight}
 use Rattle.message.specs.Commands.{TableEntry, table, sizesOf, kindOf, isListed, fromBox, owedOf}
 use Rattle.message.specs.Commands.{wayNumber, codeNumber}
