@@ -6,7 +6,8 @@ use Rattle.frame.specs.Wire.{stuff, bodyOf}
 use Rattle.base.specs.Sums.{total}
 use Rattle.frame.specs.Calls.{zeros, runOf}
 use Rattle.base.specs.Keys.{among}
-use Rattle.message.specs.Commands.{table, profileIn, fits, sizeFits}
+use Rattle.message.specs.Commands.{table, profileIn}
+use Rattle.message.specs.Layouts.{fits, sizeFits}
 use Rattle.examples.specs.Examples.{Example, Answer, answerTo, examples, CountedExamples}
 
 -- what an entry is answered, and what it states

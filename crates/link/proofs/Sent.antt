@@ -5,10 +5,11 @@ use mathlib.Core.Path.{_≡_, refl, sym, _∙_}
 use mathlib.Core.List.{_∷_}
 use mathlib.Core.Bool.{Bool, true, false, _&&_, _||_}
 use Rattle.base.specs.Keys.{among}
-use Rattle.message.specs.Commands.{table, profileIn, kindOf, isListed, fromBox}
-use Rattle.message.specs.Claims.{boxCommands}
-use Rattle.message.proofs.Profiles.{command-lists}
-use Rattle.message.specs.Replies.{owedFor}
+use Rattle.message.specs.Commands.{table, profileIn, kindOf, fromBox}
+use Rattle.message.specs.Layouts.{isListed}
+use Rattle.message.specs.CommandLists.{boxCommands}
+use Rattle.message.proofs.CommandLists.{command-lists}
+use Rattle.message.specs.Owed.{owedFor}
 use Rattle.message.specs.declared.kind.Owed.the-variants.{Nothing}
 use Rattle.base.proofs.Keys.{agree}
 use Rattle.link.specs.Sending.{waitCommands, mayWait}

@@ -7,8 +7,9 @@ use mathlib.Core.List.{List, [], _∷_}
 use lib.Dec.{leb, ltb}
 use Rattle.base.specs.Rows.{Row, row}
 use Rattle.base.specs.Keys.{among}
-use Rattle.message.specs.Commands.{kindOf, isListed, fromBox}
-use Rattle.message.specs.Replies.{owedFor}
+use Rattle.message.specs.Commands.{kindOf, fromBox}
+use Rattle.message.specs.Layouts.{isListed}
+use Rattle.message.specs.Owed.{owedFor}
 use Rattle.message.specs.declared.kind.Owed.the-variants.{Nothing}
 use Rattle.link.specs.Sending.{firstNumber, maxRepeats, mayWait, numberAt}
 use Rattle.link.specs.Clock.{elapsedOf, isDue}

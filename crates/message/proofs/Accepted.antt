@@ -4,11 +4,13 @@ use mathlib.Core.Path.{_≡_, refl, sym, ap, _∙_}
 use mathlib.Core.Bool.{true}
 use mathlib.Core.List.{List, _∷_}
 use Rattle.base.specs.Rows.{Row, row}
-use Rattle.message.specs.Commands.{isListed, kindOf, sizeFits, allowed, valuesOf, partsIn}
-use Rattle.message.specs.Reading.{Read, got, refusal, decodeAs, decodeOf}
-use Rattle.message.specs.Writing.{commandIn, messageIn, readIn}
-use Rattle.message.specs.Claims.{opaqueParts, Decodes}
 use Rattle.message.specs.Parts.{bytesIn}
+use Rattle.message.specs.Commands.{kindOf}
+use Rattle.message.specs.Layouts.{isListed, allowed, valuesOf, partsIn, sizeFits}
+use Rattle.message.specs.Messages.{commandIn, messageIn, readIn}
+use Rattle.message.specs.Table.{Read, got, refusal}
+use Rattle.message.specs.Reading.{decodeAs, decodeOf}
+use Rattle.message.specs.WrittenRead.{opaqueParts, Decodes}
 use Rattle.message.specs.declared.kind.Kind.{Kind}
 use Rattle.message.specs.declared.values.Message.{Message}
 use Rattle.message.proofs.Tests.{passed}
@@ -34,9 +36,9 @@ module _ {k : Kind} {command : ℕ} {p vs : List ℕ} where
         values = ap (λ (r : Read). r .row .values) (sym (t .3)) ∙ ap (λ (r : Row). r .values) e;
       }
 
--- ---- what was written, with some lent bytes
+-- ---- what was written, with the caller's data
 
--- the payload is accepted with these values, and has the lent parts
+-- the payload is accepted with these values, and has the parts of the caller's data
 pub record Back (k : Kind) (command : ℕ) (p vs opaque : List ℕ) : Type 0 where
   pub values : Accepted k command p vs
   pub parts : bytesIn (partsIn k p) p ≡ opaqueParts command opaque

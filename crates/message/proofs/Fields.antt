@@ -7,12 +7,12 @@ use native.Mathlib.Omega.{arith}
 use borrow.Author.Tests.{lt-ltb, ltb-true}
 use lib.Dec.{eqb, ltb}
 use lib.ListN.{getD}
-use Rattle.message.specs.Numbers.{num, bit, bits}
+use Rattle.message.specs.Numbers.{num, bits, bit}
 use Rattle.base.specs.Numbers.{twoAt}
-use Rattle.message.specs.Counter.{modeNumber, statusValues, statusAllowed, statusIn, statusBytes}
-use Rattle.message.specs.Counter.{controlValues, controlAllowed, controlIn, controlBytes}
-use Rattle.message.specs.Commands.{networkValues, wayAllowed, wayNumber, codeAllowed, codeNumber}
-use Rattle.message.specs.Writing.{networkIn, networkBytes, effectiveControl}
+use Rattle.message.specs.Counter.{statusValues, statusAllowed, controlValues, controlAllowed, modeNumber}
+use Rattle.message.specs.Counter.{statusIn, controlIn, effectiveControl, statusBytes, controlBytes}
+use Rattle.message.specs.Layouts.{wayAllowed, wayNumber, codeAllowed, codeNumber, networkValues}
+use Rattle.message.specs.Messages.{networkIn, networkBytes}
 use Rattle.message.specs.declared.counter.Mode.{Mode}
 use Rattle.message.specs.declared.counter.Mode.the-variants as mode
 use Rattle.message.specs.declared.counter.Status.{Status}
@@ -23,7 +23,7 @@ use Rattle.message.specs.declared.values.Code.{Code}
 use Rattle.message.specs.declared.values.Code.the-variants as code
 use Rattle.message.specs.declared.values.Network.{Network}
 use Rattle.base.proofs.Lists.{all-same}
-use Rattle.message.proofs.Numbers.{mode-most, set-most, small}
+use Rattle.message.proofs.Numbers.{mode-max, set-max, small}
 use Rattle.base.proofs.Tests.{either-way, cond-same}
 use Rattle.message.proofs.Tests.{and-false}
 
@@ -40,13 +40,13 @@ module _ (s : Status) where
   flags = s .feeding ∷ s .lamp ∷ s .double ∷ s .skipped ∷ s .fault ∷ []
 
   pub status-back : statusValues (statusBytes s) ≡ statusIn s
-  status-back = all-same _ _ (omega (arith, mode-most (s .mode), small flags))
+  status-back = all-same _ _ (omega (arith, mode-max (s .mode), small flags))
 
   pub status-allowed : statusAllowed (statusBytes s) ≡ true
   status-allowed =
-      let first : getD (statusBytes s) 0 0 < 16 = omega (arith, mode-most (s .mode), small flags) in
+      let first : getD (statusBytes s) 0 0 < 16 = omega (arith, mode-max (s .mode), small flags) in
       let last : getD (statusBytes s) 7 0 < 8 = omega (arith, small flags) in
-      let mode : bits 2 2 (getD (statusBytes s) 0 0) < 3 = omega (arith, mode-most (s .mode), small flags) in
+      let mode : bits 2 2 (getD (statusBytes s) 0 0) < 3 = omega (arith, mode-max (s .mode), small flags) in
       simp lt-ltb
 
 -- ---- control
@@ -96,7 +96,7 @@ module _ (c : Control) where
     arith,
     small (c .flags .lamp ∷ c .flags .mode ∷ c .flags .volume ∷ lamp ∷ []),
     num-and (c .flags .lamp) (c .lamp),
-    set-most (c .flags .mode) (c .mode),
+    set-max (c .flags .mode) (c .mode),
   )
 
   pub control-back : controlValues (controlBytes c) ≡ controlIn (effectiveControl c)
@@ -113,7 +113,7 @@ module _ (c : Control) where
   pub control-allowed : controlAllowed (controlBytes c) ≡ true
   control-allowed =
       let b : Bits = held in
-      let mode : bits 1 2 (getD (controlBytes c) 1 0) < 3 = omega (arith, set-most (c .flags .mode) (c .mode)) in
+      let mode : bits 1 2 (getD (controlBytes c) 1 0) < 3 = omega (arith, set-max (c .flags .mode) (c .mode)) in
       simp (lt-ltb, b .first, b .second, cond-same)
 
 -- a control that was read has no values left to ignore

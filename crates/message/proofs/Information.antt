@@ -11,10 +11,10 @@ use lib.Seq.{length-take-le, take-append-le, drop-append-le, drop-at, take-all}
 use Rattle.base.specs.Numbers.{two}
 use Rattle.message.specs.Numbers.{eightAt, eight}
 use Rattle.base.specs.Keys.{among}
-use Rattle.message.specs.Commands.{sizeFits, fits, partsIn}
 use Rattle.message.specs.Parts.{place, nowhere, bytesOf, bytesIn}
-use Rattle.message.specs.Writing.{informationIn, informationBytes, informationNumbers, informationOpaque}
-use Rattle.message.specs.Claims.{opaqueParts}
+use Rattle.message.specs.Layouts.{partsIn, fits, sizeFits}
+use Rattle.message.specs.Messages.{informationIn, informationBytes, informationNumbers, informationOpaque}
+use Rattle.message.specs.WrittenRead.{opaqueParts}
 use Rattle.message.specs.declared.kind.Kind.the-variants as kind
 use Rattle.message.specs.declared.values.Extra.{Extra}
 use Rattle.message.specs.declared.values.Extra.the-variants as extra
@@ -28,7 +28,7 @@ inside : (f q : List ℕ) (start size : ℕ) → start + size ≤ length f
 inside f q start size h = rw (drop-append-le start f q (omega arith))
     (take-append-le size (drop start f) q (omega (arith, length-drop start f)))
 
--- what lies in the first n of a list, whatever stands behind them
+-- what lies in the first n of a list, whatever follows them
 pub in-front : (l q : List ℕ) (n start size : ℕ) → start + size ≤ n → n ≤ length l
     → take size (drop start (take n l ++ q)) ≡ take size (drop start l)
 in-front l q n start size h e =

@@ -1,27 +1,31 @@
--- The laws, from bits and tables up to the claims of specs/.
-pub mod Profiles
-pub mod Reading
-pub mod Rows
-pub mod Spans
-pub mod RepliesRead
-pub mod Examples
-pub mod Sends
+-- The laws, from bits and tables up to the claims of specs/. A claim of specs/X.antt is proved in proofs/X.antt.
+
+-- Laws
 pub mod Tests
 pub mod Numbers
+pub mod Spelt
 pub mod Fields
+pub mod Reading
 pub mod Accepted
 pub mod Information
-pub mod Written
-pub mod Again
+pub mod ReadAgain
+pub mod Sending
+-- Claims
+pub mod AnswerRows
+pub mod CommandLists
+pub mod ReadingExact
+pub mod ReadingSizes
+pub mod ReadingWorked
+pub mod PartsWithin
+pub mod PartsExact
+pub mod WritingExact
+pub mod WritingWorked
+pub mod WrittenRead
+pub mod SendingExact
+pub mod SendingWorked
 pub mod ReadWritten
-pub mod MessageRound
-pub mod Sizes
-pub mod Worked
-pub mod Exactly
-pub mod Places
-pub mod Writes
-pub mod Sendings
-pub mod Spelt
 pub mod SameBytes
-pub mod Anywhere
-pub mod BoxReplies
+pub mod MessageRound
+pub mod RepliesExact
+pub mod RepliesRead
+pub mod RepliesWorked

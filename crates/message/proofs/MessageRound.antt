@@ -1,24 +1,28 @@
--- A message that was written is read back as the same message from the calls that took it. Assumes nothing.
+-- A message that was written is read back as the same message, from the calls that consumed it and anywhere in a
+-- stream. Assumes nothing.
 use Prim.Native.Nat.{ℕ, _+_, _≤_}
 use mathlib.Core.Path.{_≡_, refl, sym, ap, _∙_}
 use mathlib.Core.Bool.{Bool, true, false, cond}
-use mathlib.Core.List.{List, [], _∷_}
+use mathlib.Core.List.{List, [], _∷_, _++_}
 use borrow.Author.Tests.{ltb-false}
 use lib.Dec.{ltb}
 use lib.ListN.{length, getD, take, drop}
 use lib.Seq.{take-at}
-use Rattle.frame.specs.Wire.{wire, bodyOf}
 use Rattle.base.specs.Rows.{Row, row}
 use Rattle.base.specs.Outcomes.{Output, output, onto}
-use Rattle.frame.specs.Calls.{writeOf}
-use Rattle.frame.proofs.RoundTrip.{round-trip}
-use Rattle.message.specs.Commands.{isListed, kindOf}
-use Rattle.message.specs.Writing.{commandIn, payloadIn, opaqueFits, allowedIn, sendOf}
-use Rattle.message.specs.Claims.{Writable, MessageRoundTrip}
-use Rattle.message.specs.declared.values.Message.{Message}
 use Rattle.base.proofs.Rows.{refused}
+use Rattle.frame.specs.Wire.{wire, bodyOf}
+use Rattle.frame.specs.Calls.{writeOf}
+use Rattle.frame.proofs.RoundTrip.{round-trip, made-good, read-anywhere}
+use Rattle.message.specs.Commands.{kindOf}
+use Rattle.message.specs.Layouts.{isListed}
+use Rattle.message.specs.Messages.{commandIn, opaqueFits, allowedIn, payloadIn}
+use Rattle.message.specs.Writing.{sendOf}
+use Rattle.message.specs.WrittenRead.{Writable}
+use Rattle.message.specs.MessageRound.{MessageRoundTrip, MessageReadAnywhere}
+use Rattle.message.specs.declared.values.Message.{Message}
 use Rattle.message.proofs.Tests.{passed}
-use Rattle.message.proofs.Written.{written-read}
+use Rattle.message.proofs.WrittenRead.{written-read}
 
 -- a call that wrote so many bytes of a frame
 pub record Wrote (limit : ℕ) (payload w : List ℕ) (count : ℕ) (o : Output) : Type 0 where
@@ -53,12 +57,12 @@ wrote limit command number flags payload out count e = go (ltb limit (length pay
     }
 
 module _ (limit : ℕ) (m : Message) (number flags count : ℕ) (opaque out : List ℕ) where
-  pub record SendResult (o : Output) : Type 0 where
+  pub record SentFrame (o : Output) : Type 0 where
     pub writable : Writable m opaque
     pub frame : Wrote limit (payloadIn m opaque) (wire (bodyOf (commandIn m) number flags (payloadIn m opaque))) count o
 
   pub sent : sendOf limit m number flags opaque out .row ≡ row 0 (count ∷ [])
-      → SendResult (sendOf limit m number flags opaque out)
+      → SentFrame (sendOf limit m number flags opaque out)
   sent e =
       let o : Output = writeOf limit (commandIn m) number flags (payloadIn m opaque) out in
       let t = passed (λ (w : Output). w .row) (λ n. output (row n []) out) (λ n. refl) (isListed (kindOf (commandIn m)))
@@ -75,3 +79,24 @@ message-round-trip limit h m number flags count opaque out e earlier later all =
     let back = round-trip limit h (commandIn m) number flags (payloadIn m opaque) (s .frame .fits) earlier later
     (all ∙ s .frame .front) in
     record { frame = back; message = rw (back .command-is, back .payload-is) (written-read m opaque (s .writable)) }
+
+pub message-read-anywhere : MessageReadAnywhere
+message-read-anywhere limit h m number flags count opaque out e calls before after all =
+    let s = sent limit m number flags count opaque out e in
+    let made = made-good limit (commandIn m) number flags (payloadIn m opaque) (s .frame .fits) in
+    record {
+      found =
+          record {
+            start = length before;
+            end = length before + length (wire (bodyOf (commandIn m) number flags (payloadIn m opaque)));
+            body = bodyOf (commandIn m) number flags (payloadIn m opaque);
+          };
+      is-delivered =
+          read-anywhere limit h (commandIn m) number flags (payloadIn m opaque) (s .frame .fits) calls before after
+          (all ∙ ap (λ (w : List ℕ). before ++ (w ++ after)) (s .frame .front));
+      start-is = refl;
+      end-is = ap (λ (n : ℕ). length before + n) (s .frame .counted);
+      number-is = made .number-is;
+      flags-are = made .flags-are;
+      message = rw (made .command-is, made .payload-is) (written-read m opaque (s .writable));
+    }

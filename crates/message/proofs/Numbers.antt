@@ -18,7 +18,7 @@ use Rattle.message.specs.declared.counter.Mode.the-variants as mode
 pub value : {l r : List ℕ} (i : ℕ) → l ≡ r → getD l i 0 ≡ getD r i 0
 value i e = ap (λ (l : List ℕ). getD l i 0) e
 
--- a number of eight bytes, behind others
+-- a number of eight bytes, after others
 pub eight-after : (f : List ℕ) {k : ℕ} → length f ≡ k → (n : ℕ) (r : List ℕ) → eightAt (f ++ eight n r) k ≡ n
 eight-after f e n r = rw (← e) (simp (add-assoc, getD-append-add, getD-append-seam) (omega arith))
 
@@ -28,7 +28,7 @@ abbrev Small : List Bool → Type 0
 Small [] = Unit
 Small (b ∷ l) = (num b ≤ 1) × Small l
 
--- a bit is at most 1, which `omega` is told of several bits at once
+-- a bit is at most 1, for several bits at once, as `omega` needs it
 pub small : (l : List Bool) → Small l
 small [] = tt
 small (true ∷ l) = (omega arith, small l)
@@ -45,12 +45,12 @@ lowest x = go (eqb (x % 2) 1) refl
 -- ---- modes
 
 -- a mode's number is at most 2
-pub mode-most : (m : Mode) → modeNumber m ≤ 2
-mode-most mode.Fold = omega arith
-mode-most mode.Gather = omega arith
-mode-most mode.Sew = omega arith
+pub mode-max : (m : Mode) → modeNumber m ≤ 2
+mode-max mode.Fold = omega arith
+mode-max mode.Gather = omega arith
+mode-max mode.Sew = omega arith
 
 -- and so where its flag may be 0
-pub set-most : (set : Bool) (m : Mode) → num set * modeNumber m ≤ 2
-set-most true m = omega (arith, mode-most m)
-set-most false m = omega arith
+pub set-max : (set : Bool) (m : Mode) → num set * modeNumber m ≤ 2
+set-max true m = omega (arith, mode-max m)
+set-max false m = omega arith

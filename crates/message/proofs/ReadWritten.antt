@@ -9,19 +9,21 @@ use lib.Dec.{eqb}
 use lib.ListN.{length, getD, take, drop, length-append, length-take, length-drop}
 use Rattle.base.proofs.Tests.{both}
 use Rattle.base.specs.Numbers.{twoAt}
-use Rattle.message.specs.Commands.{kindOf, table, profileIn, sizeFits, fits}
+use Rattle.message.specs.Commands.{table, profileIn, kindOf}
+use Rattle.message.specs.Layouts.{fits, sizeFits}
 use Rattle.base.specs.Keys.{among}
-use Rattle.message.specs.Writing.{commandIn, messageIn}
-use Rattle.message.specs.Claims.{Writable, opaqueOf, ReadWritten, ReadsWritten}
+use Rattle.message.specs.Messages.{commandIn, messageIn}
+use Rattle.message.specs.WrittenRead.{Writable}
+use Rattle.message.specs.ReadWritten.{opaqueOf, ReadWritten, ReadsWritten}
 use Rattle.message.specs.declared.values.Extra.the-variants as extra
 use Rattle.message.specs.declared.values.Message.{Message}
 use Rattle.message.specs.declared.values.Message.the-variants as message
 use Rattle.message.proofs.Numbers.{value}
 use Rattle.message.proofs.Accepted.{Accepted, accepted}
-use Rattle.message.proofs.Written.{written-read}
-use Rattle.message.proofs.Again.{empty-payload, opaque-none, read-again}
+use Rattle.message.proofs.WrittenRead.{written-read}
+use Rattle.message.proofs.ReadAgain.{empty-payload, opaque-none, read-again}
 
--- ---- lent bytes of device information
+-- ---- the caller's data of device information
 opaque-length : (p : List ℕ) (size : ℕ) → length p ≡ size
     → eqb (length (opaqueOf 0x02 p)) (min 64 size + (size - 74)) ≡ true
 opaque-length p size e = eq-eqb (length (opaqueOf 0x02 p)) (min 64 size + (size - 74))

@@ -1,4 +1,4 @@
--- Laws of reading: a payload's size as tests of its length, and a command's line that reads a payload.
+-- Laws of reading: a payload's size as tests of its length, and reading by a command's profile. Assumes nothing.
 use Prim.Native.Nat.{ℕ, zero, suc, _+_}
 use mathlib.Core.Path.{_≡_, refl, sym, ap, _∙_}
 use mathlib.Core.Bool.{Bool, true, false, cond, not, _&&_}
@@ -9,15 +9,16 @@ use lib.Dec.{eqb, leb, leb·zero, leb·suc-suc, eqb·suc-zero}
 use Rattle.base.proofs.Keys.{among-none, among-next}
 use Rattle.base.proofs.Tests.{tests}
 use Rattle.base.specs.Numbers.{twoAt}
-use Rattle.message.specs.Commands.{exactly, from, counted, fits, sizesOf, chosenOf, sizeFits, isListed, allowed}
-use Rattle.message.specs.Commands.{valuesOf, partsIn, kindOf, profileOf}
-use Rattle.base.specs.Keys.{among}
 use Rattle.message.specs.Parts.{noParts}
-use Rattle.message.specs.Reading.{Read, checkedOf, decodeAs, decodeOf}
+use Rattle.message.specs.Commands.{exactly, from, counted, profileOf, kindOf}
+use Rattle.base.specs.Keys.{among}
+use Rattle.message.specs.Layouts.{isListed, sizesOf, chosenOf, allowed, valuesOf, partsIn, fits, sizeFits}
+use Rattle.message.specs.Table.{Read}
+use Rattle.message.specs.Reading.{checkedOf, decodeAs, decodeOf}
 use Rattle.message.specs.declared.parts.Parts.{Parts}
 use Rattle.message.specs.declared.kind.Kind.{Kind}
 use Rattle.message.specs.declared.kind.Profile.{Profile}
-use Rattle.message.proofs.Profiles.{soleOf, only}
+use Rattle.message.proofs.CommandLists.{soleOf, only}
 use Rattle.message.proofs.Tests.{and-true}
 
 -- ---- a payload's size, as tests of its length
@@ -51,7 +52,7 @@ pub size-fits : (k : Kind) (p : List ℕ) → sizeFits k p ≡ (fits (sizesOf k)
 unfolding sizeFits
 size-fits k p = refl
 
--- with these `search` takes what the tests on the way told into a kind's sizes, and so into `decodeAs`
+-- with these `search` brings the tests on the way into a kind's sizes, and so into `decodeAs`
 pub ruleset sizes =
     (size-fits, fits-any, fits-some, fits-from, fits-exactly, fits-counted, among-none, among-next, tests)
 
@@ -81,7 +82,7 @@ pub where-allowed : (sized allows : Bool) {values others : List ℕ} (parts : Pa
 where-allowed sized true parts same = rw (same refl)
 where-allowed sized false parts same = refl
 
--- a payload of one of its line's sizes is judged by the size of that layout
+-- a payload that has one of its kind's sizes is checked against the size of that layout
 pub chosen : (k : Kind) (command n : ℕ) (p : List ℕ) {r : Read} (a : Bool) (values : List ℕ)
     → r ≡ checkedOf (eqb (length p) n) a (command ∷ values) (partsIn k p)
     → isListed k ≡ true → fits (sizesOf k) p ≡ true → chosenOf k (getD p 0 0) ≡ exactly (n ∷ []) → a ≡ allowed k p
@@ -93,7 +94,7 @@ chosen k command n p a values f listed size layout allows e =
 
 -- ---- a kind that has one size and no parts
 
--- judged by its size
+-- checked against its size
 pub checked-one :
     (k : Kind) (command n : ℕ) (p : List ℕ) {r : Read} (a : Bool) (values : List ℕ)
     → r ≡ checkedOf (eqb (length p) n) a (command ∷ values) noParts → sizesOf k ≡ exactly (n ∷ [])
@@ -116,17 +117,19 @@ checked-byte k command n p byte number a f e q stands size any listed none allow
     size any listed none
     (q ∙ ap (λ (b : ℕ). allowed k (b ∷ [])) e ∙ sym allows) (ap (λ (b : ℕ). b ∷ []) e ∙ sym values)
 
--- ---- a command's line
+-- ---- a command's profile
 
-module _ (k : Kind) {profile : Profile} (command : ℕ) (p : List ℕ) (of : profile ≡ profileOf command) (shown : profile .kind ≡ k) where
+module _
+    (k : Kind) {profile : Profile} (command : ℕ) (p : List ℕ) (of : profile ≡ profileOf command)
+    (shown : profile .kind ≡ k) where
   is : kindOf command ≡ k
   is = ap (λ (l : Profile). l .kind) (sym of) ∙ shown
 
-  -- a payload is read as the command's line reads it
+  -- a payload is read by the kind in the command's profile
   pub read-kind : {r : Read} → r ≡ decodeAs k command p → r ≡ decodeOf command p
   read-kind e = e ∙ ap (λ (k : Kind). decodeAs k command p) (sym is)
 
-  -- a line that has one command reads as that one
+  -- a kind that has one command reads as that one
   pub read-profile : {r : Read} (n : ℕ) → soleOf k command ≡ n → r ≡ decodeAs k n p → r ≡ decodeOf command p
   read-profile n one e = read-kind (rw (only command k n one is) e)
 

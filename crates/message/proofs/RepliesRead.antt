@@ -1,4 +1,4 @@
--- The box's answers: the frame writer takes them all, and each is a message that reading accepts. Assumes nothing.
+-- The replies of the box: the frame writer writes them, and reading accepts each as a message. Assumes nothing.
 use Prim.Native.Nat.{ℕ, _+_, _≤_}
 use mathlib.Core.Path.{_≡_, refl, sym, ap, subst, _∙_}
 use mathlib.Core.Bool.{cond, _&&_}
@@ -12,11 +12,13 @@ use Rattle.base.specs.Outcomes.{Output, output}
 use Rattle.frame.specs.Calls.{writeOf}
 use Rattle.base.proofs.Tests.{by-test, either-way}
 use Rattle.base.specs.Keys.{among}
-use Rattle.message.specs.Commands.{table, profileIn, kindOf, isListed, fits, sizeFits, allowed, valuesOf, fromBox}
-use Rattle.message.specs.Commands.{owedOf, codeNumber}
-use Rattle.message.specs.Reading.{Read, decodeOf}
-use Rattle.message.specs.Replies.{owedAfter, codeFor, withCause, rejectOf, replyFrameOf}
-use Rattle.message.specs.Claims.{BoxSends, RepliesAreRead}
+use Rattle.message.specs.Commands.{table, profileIn, kindOf, fromBox, owedOf}
+use Rattle.message.specs.Layouts.{codeNumber, isListed, allowed, valuesOf, fits, sizeFits}
+use Rattle.message.specs.Table.{Read}
+use Rattle.message.specs.Owed.{owedAfter, codeFor}
+use Rattle.message.specs.Reading.{decodeOf}
+use Rattle.message.specs.Replies.{withCause, rejectOf, replyFrameOf}
+use Rattle.message.specs.RepliesRead.{BoxSends, RepliesAreRead}
 use Rattle.message.specs.declared.values.Code.{Code}
 use Rattle.message.specs.declared.kind.Kind.{Kind}
 use Rattle.message.specs.declared.kind.Cause.{Cause}
@@ -25,7 +27,7 @@ use Rattle.message.specs.declared.kind.Owed.{Owed}
 use Rattle.message.specs.declared.kind.Owed.the-variants as owes
 use Rattle.message.specs.declared.values.Message.the-variants as message
 use Rattle.base.proofs.Keys.{Each, among-holds}
-use Rattle.message.proofs.Profiles.{command-lists}
+use Rattle.message.proofs.CommandLists.{command-lists}
 
 -- so short a payload is not too long
 pub short-enough :
@@ -37,7 +39,7 @@ short-enough limit command number payload out after h e =
     (λ _. eqb-false 22 21 refl) (λ _. eqb-false 0 21 refl)
     (rw (le-ltb limit (length payload + 5) h) at (ap (λ (w : Output). w .row .number) (sym e)))
 
--- a 12 that was written, or had no room, told with the cause
+-- a 12 that was written, or had no room, with the cause
 pub rejected :
     (limit number : ℕ) (why : Cause) (out : List ℕ) {code : Code} {byte : ℕ} {r : Row} {left : List ℕ}
     → code ≡ codeFor why → byte ≡ codeNumber code
@@ -46,7 +48,7 @@ pub rejected :
 rejected limit number why out p q e =
     ap (withCause why) (e ∙ ap (λ (b : ℕ). writeOf limit 0x12 number 0 (b ∷ []) out) (q ∙ ap codeNumber p))
 
--- ---- a frame's answer goes by its body
+-- ---- the reply to a frame goes by its body
 
 module _ (limit : ℕ) (body out : List ℕ) {w : Output} where
   pub by-body : (command number : ℕ) (payload : List ℕ) → command ≡ commandOf body → number ≡ numberOf body
@@ -59,7 +61,7 @@ module _ (limit : ℕ) (body out : List ℕ) {w : Output} where
       → w ≡ rejectOf limit cause.Sum (numberOf body) out
   by-sum number q e = e ∙ ap (λ (n : ℕ). rejectOf limit cause.Sum n out) q
 
--- ---- what is due is read
+-- ---- what is owed is read
 
 abbrev Rejects : Cause → Type 0
 Rejects why = BoxSends 0x12 (codeNumber (codeFor why) ∷ []) (message.BoxReject (codeFor why))
@@ -74,7 +76,7 @@ Replied command (owes.Reject why) = Rejects why
 abbrev replied : List ℕ
 replied = 0x01 ∷ 0x03 ∷ 0x07 ∷ 0x0D ∷ 0x0F ∷ []
 
--- the lines that are owed an answer
+-- the commands that are owed a reply
 profiles-read : Each (λ c. Replied c (owedOf c)) replied
 unfolding table profileIn among fits sizeFits
 profiles-read = (tt, ((refl, (refl, refl)), ((refl, (refl, refl)), ((refl, (refl, refl)), ((refl, (refl, refl)), tt)))))

@@ -11,14 +11,15 @@ use lib.Seq.{drop-cons, getD-drop, take-at, drop-at, length-take-le, drop-drop}
 use Rattle.base.proofs.Tests.{both}
 use Rattle.base.proofs.Keys.{among-holds}
 use Rattle.base.specs.Numbers.{two, four, twoAt, fourAt}
-use Rattle.message.specs.Numbers.{num, eight, eightAt}
+use Rattle.message.specs.Numbers.{num, eightAt, eight}
 use Rattle.base.specs.Keys.{among}
-use Rattle.message.specs.Commands.{kindOf, table, profileIn, sizeFits, fits, from, timeValues, networkValues}
-use Rattle.message.specs.Counter.{statusValues, statusAllowed, statusIn, statusBytes}
-use Rattle.message.specs.Counter.{controlValues, controlAllowed, controlIn, controlBytes}
-use Rattle.message.specs.Writing.{commandIn, messageIn, payloadIn, informationBytes, unixIn, timeBytes, unixBytes}
-use Rattle.message.specs.Writing.{networkIn, networkBytes}
-use Rattle.message.specs.Claims.{opaqueOf}
+use Rattle.message.specs.Counter.{statusValues, statusAllowed, controlValues, controlAllowed, statusIn, controlIn}
+use Rattle.message.specs.Counter.{statusBytes, controlBytes}
+use Rattle.message.specs.Commands.{from, table, profileIn, kindOf}
+use Rattle.message.specs.Layouts.{networkValues, timeValues, fits, sizeFits}
+use Rattle.message.specs.Messages.{networkIn, unixIn, informationBytes, networkBytes, timeBytes, unixBytes}
+use Rattle.message.specs.Messages.{commandIn, messageIn, payloadIn}
+use Rattle.message.specs.ReadWritten.{opaqueOf}
 use Rattle.message.specs.SameBytes.{Again, SameBytes}
 use Rattle.message.specs.declared.counter.Status.{Status}
 use Rattle.message.specs.declared.counter.Control.{Control}
@@ -32,7 +33,7 @@ use Rattle.message.specs.declared.values.Message.the-variants as message
 use Rattle.message.proofs.Numbers.{value}
 use Rattle.message.proofs.Spelt.{from-place, whole, high-bits, low-bits, flagged, two-flagged}
 use Rattle.message.proofs.Accepted.{Accepted, accepted}
-use Rattle.message.proofs.Again.{empty-payload, control-read}
+use Rattle.message.proofs.ReadAgain.{empty-payload, control-read}
 
 -- ---- sizes
 
@@ -78,7 +79,7 @@ control-spelt c f v h l small-f small-v small-l e =
       v-mode,
     )
 
--- ---- a status behind the first byte
+-- ---- a status after the first byte
 
 status-same : (s : List ℕ) (status : Status) → length s ≡ 8 → ((i : ℕ) → getD s i 0 < 256) → statusAllowed s ≡ true
     → statusValues s ≡ statusIn status → statusBytes status ≡ s
@@ -114,7 +115,7 @@ module _ (p : List ℕ) (bytes : (i : ℕ) → getD p i 0 < 256) where
 
   -- ---- device information
 
-  -- its numbers stand between what is lent
+  -- its numbers are between the two pieces of the caller's data
   information-same : (numbers : List ℕ) → 64 ≤ length p → numbers ++ drop 74 p ≡ drop 64 p
       → informationBytes numbers (opaqueOf 0x02 p) ≡ p
   information-same numbers h e =
@@ -158,7 +159,7 @@ module _ (p : List ℕ) (bytes : (i : ℕ) → getD p i 0 < 256) where
         bytes 10,
       ))
 
-  -- ---- the size of a piece, behind the check code
+  -- ---- the size of a piece, after the check code
 
   ready-size : (n size : ℕ) → length p ≡ 0 + 2 + n + 2 → twoAt p (2 + n) ≡ size → two size [] ≡ drop n (drop 2 p)
   ready-size n size h e =

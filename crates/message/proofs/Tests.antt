@@ -1,4 +1,4 @@
--- Tests in a row: what each refusal rules out, and what all of them let pass. Assumes nothing.
+-- Tests one after the other: what holds where all of them pass. Assumes nothing.
 use Prim.Native.Nat.{ℕ}
 use mathlib.Core.Path.{_≡_, refl, sym, _∙_}
 use mathlib.Core.Bool.{Bool, true, false, cond, _&&_}
@@ -15,7 +15,7 @@ pub and-false : (t : Bool) → (t && false) ≡ false
 and-false true = refl
 and-false false = refl
 
--- "31, 32, 33": what is given where none of the three is
+-- COMMAND, SIZE and FIELD in their order: the result where none of the three applies
 module _ {A : Type 0} (rowIn : A → Row) (refusal : ℕ → A) (h : (n : ℕ) → rowIn (refusal n) ≡ row n []) where
   abbrev tested : Bool → Bool → Bool → A → A
   tested a b c x = cond a (cond b (cond c x (refusal 33)) (refusal 32)) (refusal 31)

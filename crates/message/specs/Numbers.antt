@@ -1,8 +1,8 @@
--- Numbers and bits in bytes. "Numbers are big-endian" (paper 01, "The frame on the wire"); bit 0 is the lowest (003).
+-- Statement: numbers and bits in bytes. PROTOCOL 1.4; bit 0 is the lowest.
 use Prim.Native.Nat.{ℕ, _+_, _*_, _/_, _%_, _^_}
 use mathlib.Core.Bool.{Bool, true, false}
 use mathlib.Core.List.{List}
-use Rattle.base.specs.Numbers.{fourAt, four}
+use Rattle.base.specs.Numbers.{four, fourAt}
 
 -- a bit as a number
 abbrev pub num : Bool → ℕ

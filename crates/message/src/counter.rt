@@ -1,4 +1,11 @@
-// The counter's own layout: status in 8 bytes and control in 4, each behind the payload's first byte.
+// The counter's own layout, after the payload's first byte. PROTOCOL 7.17 to 7.20.
+//
+//   status   byte 1     bit 7..4  3..2    1      0       control   byte 1     bit 7..3    2      1     0
+//                           zero  mode  lamp  feeding              (flags)        zero  volume  mode  lamp
+//            byte 2, 3  volume                                     byte 2     bit 7..3   2..1    0
+//            byte 4..7  leaf                                       (values)       zero   mode  lamp
+//            byte 8     bit 7..3    2        1       0             byte 3, 4  volume
+//                           zero  fault  skipped  double
 use super::bytes::flagged;
 use super::bytes::flagged_bit;
 use super::bytes::lowest_bit;
@@ -7,17 +14,17 @@ ghost use mathlib.Core.Bool.{true};
 ghost use mathlib.Core.List.{_∷_};
 ghost use Prim.Native.Nat.{_<_};
 ghost use lib.ListN.{drop};
-ghost use Rattle.message.specs.Counter.{statusAllowed, controlAllowed, statusValues, controlValues};
-ghost use Rattle.message.specs.Counter.{modeNumber, statusIn, controlIn, statusBytes, controlBytes};
+ghost use Rattle.message.specs.Counter.{statusValues, statusAllowed, controlValues, controlAllowed, modeNumber};
+ghost use Rattle.message.specs.Counter.{statusIn, controlIn, statusBytes, controlBytes};
 
-// What the counter does with the leaves.
+// What the counter does with the leaves: 0, 1, 2.
 pub enum Mode {
     Fold,
     Gather,
     Sew,
 }
 
-// What the counter says of itself.
+// The state of the counter.
 pub struct Status {
     pub feeding: bool,
     pub lamp: bool,
@@ -29,14 +36,14 @@ pub struct Status {
     pub fault: bool,
 }
 
-// Which values of a control count.
+// Which values of a control are set; the others are ignored.
 pub struct Flags {
     pub lamp: bool,
     pub mode: bool,
     pub volume: bool,
 }
 
-// What the counter is told to do: the values whose flags are set.
+// What the counter is to do.
 pub struct Control {
     pub flags: Flags,
     pub lamp: bool,
@@ -44,7 +51,7 @@ pub struct Control {
     pub volume: u16,
 }
 
-// The number that stands for a mode.
+// The number of a mode.
 pub fn mode_number(mode: Mode) -> u8
     ensures { λ r. ⌜ r ≡ modeNumber mode ⌝ }
 {
@@ -55,7 +62,7 @@ pub fn mode_number(mode: Mode) -> u8
     }
 }
 
-// The mode of a number; of one that stands for no mode it can be any, as reading then refuses the payload.
+// The mode of a number. For a number that stands for none it may be any: reading refuses the payload.
 fn mode_of(number: u16) -> Mode
     ensures { λ r. ⌜ (number < 3 → modeNumber r ≡ number) ⌝ }
 {
@@ -66,7 +73,7 @@ fn mode_of(number: u16) -> Mode
     }
 }
 
-// Whether a payload's status has a mode that there is, and only 0 in the bits that have no meaning.
+// Whether the zero bits of a payload's status are zero and its mode is not 3: PROTOCOL 7.20.
 pub(crate) fn status_allowed(payload: &[u8]) -> bool
     ensures { λ r. ⌜ r ≡ statusAllowed (drop 1 (now (payload .entry))) ⌝ }
 {
@@ -80,7 +87,7 @@ pub(crate) fn status_allowed(payload: &[u8]) -> bool
     first / 4 % 4 < 3
 }
 
-// The status of a payload, where it is allowed.
+// The status of a payload, if it is allowed.
 pub(crate) fn status_of(payload: &[u8]) -> Status
     ensures { λ r. ⌜ (statusAllowed (drop 1 (now (payload .entry))) ≡ true
         → statusIn r ≡ statusValues (drop 1 (now (payload .entry)))) ⌝ }
@@ -99,8 +106,7 @@ pub(crate) fn status_of(payload: &[u8]) -> Status
     }
 }
 
-// Whether a payload's control has only 0 in the bits that have no meaning,
-// and a mode that there is where it is to be set.
+// Whether the zero bits of a payload's control are zero and its mode, with its flag, is not 3: PROTOCOL 7.20.
 pub(crate) fn control_allowed(payload: &[u8]) -> bool
     ensures { λ r. ⌜ r ≡ controlAllowed (drop 1 (now (payload .entry))) ⌝ }
 {
@@ -118,7 +124,7 @@ pub(crate) fn control_allowed(payload: &[u8]) -> bool
     values / 2 % 4 < 3
 }
 
-// The control of a payload, where it is allowed; a value whose flag is 0 is ignored and reads as 0.
+// The control of a payload, if it is allowed. Without its flag a value reads as 0: PROTOCOL 7.18.
 pub(crate) fn control_of(payload: &[u8]) -> Control
     ensures { λ r. ⌜ (controlAllowed (drop 1 (now (payload .entry))) ≡ true
         → controlIn r ≡ controlValues (drop 1 (now (payload .entry)))) ⌝ }
@@ -138,7 +144,7 @@ pub(crate) fn control_of(payload: &[u8]) -> Control
     }
 }
 
-// A status behind the payload's first byte.
+// A status after the payload's first byte.
 pub(crate) fn status_bytes(action: u8, status: Status) -> [u8; 9]
     ensures { λ r. ⌜ r ≡ action ∷ statusBytes status ⌝ }
 {
@@ -162,7 +168,7 @@ pub(crate) fn status_bytes(action: u8, status: Status) -> [u8; 9]
     ]
 }
 
-// A control behind the payload's first byte; a value whose flag is 0 is written as 0.
+// A control after the payload's first byte. Without its flag a value is written as 0: PROTOCOL 7.18.
 pub(crate) fn control_bytes(action: u8, control: Control) -> [u8; 5]
     ensures { λ r. ⌜ r ≡ action ∷ controlBytes control ⌝ }
 {

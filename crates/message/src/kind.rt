@@ -1,10 +1,11 @@
-// The table of commands: what kind of payload each has, whether only the box sends it, and what the box answers to it.
+// The table of commands: the kind of payload of each, whether only the box sends it, and the reply that the box owes.
+// PROTOCOL 7.1 to 7.3, 8.2 to 8.4. A new command is a line of `profile_of` and of the table in specs/Commands.antt.
 ghost use mathlib.Core.Path.{_≡_};
 ghost use Rattle.message.specs.Commands.{byBox, toBox, profileWith, profileOf};
 ghost use Rattle.message.specs.Table.{causeNumber};
 ghost use Rattle.message.specs.declared.kind.Owed.the-variants as owes;
 
-// A kind of payload: what the commands that have it share.
+// A kind of payload. `Empty` is shared by 24 commands; each other kind has one command.
 pub enum Kind {
     Unlisted,
     Empty,
@@ -22,7 +23,7 @@ pub enum Kind {
     Piece,
 }
 
-// Why the box rejects a frame: its sum, what its reading refuses, or that only the box sends its command.
+// Why the box rejects a frame: a wrong sum, a refusal of its reading, or a command that only the box sends.
 pub enum Cause {
     Sum,
     Command,
@@ -31,7 +32,7 @@ pub enum Cause {
     BoxCommand,
 }
 
-// What a received frame calls for.
+// The reply that is owed to a received frame.
 pub enum Owed {
     Nothing,
     AskInformation,
@@ -40,14 +41,14 @@ pub enum Owed {
     Reject { cause: Cause },
 }
 
-// A command's line: `outward` where only the box sends it, and what it is owed without a fault.
+// The profile of a command: `outward` where only the box sends it; `owed` is the reply to it without fault.
 pub struct Profile {
     pub kind: Kind,
     pub outward: bool,
     pub owed: Owed,
 }
 
-// The table's number of a cause; a command that only the box sends is no refusal of the table and has 0.
+// The number of the answer that is the cause. No answer refuses a command of the box: 0. PROTOCOL 8.13.
 pub fn cause_number(cause: Cause) -> u8
     ensures { λ r. ⌜ r ≡ causeNumber cause ⌝ }
 {
@@ -60,7 +61,7 @@ pub fn cause_number(cause: Cause) -> u8
     }
 }
 
-// A command that only the box sends.
+// The profile of a command that only the box sends.
 fn by_box(kind: Kind) -> Profile
     ensures { λ r. ⌜ r ≡ profileWith kind byBox owes.Nothing ⌝ }
 {
@@ -71,7 +72,7 @@ fn by_box(kind: Kind) -> Profile
     }
 }
 
-// A command that the module sends.
+// The profile of a command that the module sends.
 fn to_box(kind: Kind, owed: Owed) -> Profile
     ensures { λ r. ⌜ r ≡ profileWith kind toBox owed ⌝ }
 {
@@ -82,7 +83,7 @@ fn to_box(kind: Kind, owed: Owed) -> Profile
     }
 }
 
-// The line of a command.
+// The profile of a command.
 pub(crate) fn profile_of(command: u8) -> Profile
     ensures { λ r. ⌜ r ≡ profileOf command ⌝ }
 {

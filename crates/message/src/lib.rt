@@ -1,5 +1,5 @@
-// Messages of the Gizwits serial protocol and of our counter: read from a payload,
-// written as a frame, answered by the box.
+// Messages of the Gizwits serial protocol and of our counter: read from a payload, written as a frame, replied to by
+// the box. PROTOCOL 7.1 to 8.13.
 mod bytes;
 mod counter;
 mod kind;

@@ -1,14 +1,16 @@
-// The parts of a message that are no values: texts, key, secret, check code and data, by the places that reading gives.
+// The parts of a payload that are not values: texts, key, secret, check code and data, by the places that reading
+// gives. PROTOCOL 7.9.
 ghost use mathlib.Core.Path.{_≡_};
 ghost use Rattle.message.specs.Parts.{place, textsAnd, noTexts, noParts, PartAt};
 
-// Where a part lies: its first byte in the payload, and how many it has; both are 0 where the message has no such part.
+// The place of a part in the payload: its first byte and its size. Both are 0 where the message does not have the part.
 pub struct Place {
     pub start: usize,
     pub size: usize,
 }
 
-// The places of serial, protocol, hardware and software version, product key, secret, check code, and a piece's data.
+// The places of the versions (of serial protocol, product's protocol, hardware, software), the product key, the secret,
+// a check code, and a piece's data.
 pub struct Parts {
     pub serial: Place,
     pub protocol: Place,
@@ -20,7 +22,7 @@ pub struct Parts {
     pub piece: Place,
 }
 
-// Of the device's information: texts and key, and the secret's place.
+// 02: texts and key at their places, and the secret's place. PROTOCOL 7.10.
 pub(crate) fn texts_and(start: usize, size: usize) -> Parts
     ensures { λ r. ⌜ r ≡ textsAnd (place start size) ⌝ }
 {
@@ -40,7 +42,7 @@ pub(crate) fn texts_and(start: usize, size: usize) -> Parts
     }
 }
 
-// Of any other message: the places of a check code and of data.
+// 19, 1B and 1D: the place of a check code or of data. PROTOCOL 7.15, 7.16.
 pub(crate) fn no_texts(code: usize, count: usize, piece: usize, size: usize) -> Parts
     ensures { λ r. ⌜ r ≡ noTexts (place code count) (place piece size) ⌝ }
 {
@@ -63,14 +65,14 @@ pub(crate) fn no_texts(code: usize, count: usize, piece: usize, size: usize) -> 
     }
 }
 
-// Of a message that has none.
+// A message without parts.
 pub(crate) fn no_parts() -> Parts
     ensures { λ r. ⌜ r ≡ noParts ⌝ }
 {
     no_texts(0, 0, 0, 0)
 }
 
-// The part of the lent payload at a place, as far as the payload goes.
+// The part of the caller's payload at a place, cut at the payload's end.
 pub fn part(payload: &[u8], place: Place) -> &[u8]
     ensures { λ r. ⌜ PartAt (payload .entry) r place ⌝ }
 {

@@ -1,4 +1,18 @@
-// A payload read: the message that it is, or why it is none. Sizes are tested before fields.
+// Reading a payload: its message, or COMMAND, SIZE or FIELD, tested in this order. PROTOCOL 7.4 to 7.21.
+//
+// The fields of each payload, each with the byte at which it begins:
+//
+//   02   0 serial  8 protocol  16 hardware  24 software  32 key  64 timeout  66 attributes  74 secret  106
+//   03   0 action  1 control  5            action 1; a query is action 2 alone
+//   04   0 action  1 status  9             action 3; or no byte
+//   05   0 action  1 status  9             action 4
+//   09   0 way  1
+//   0D   0 bits  2
+//   11   0 code  1                         12 alike
+//   18   0 year  2 month  3 day  4 hour  5 minute  6 second  7 seconds since 1970  11
+//   19   0 size  4 count n  6 check code  6 + n
+//   1B   0 count n  2 check code  2 + n piece size  4 + n
+//   1D   0 index  2 total  4 data
 use super::bytes::eight_at;
 use super::bytes::lowest_bit;
 use super::counter::control_allowed;
@@ -22,14 +36,15 @@ use super::values::code_of;
 use super::values::way_allowed;
 use super::values::way_of;
 ghost use mathlib.Core.Path.{_≡_};
-ghost use Rattle.message.specs.Commands.{profileOf, networkValues, timeValues};
+ghost use Rattle.message.specs.Commands.{profileOf};
+ghost use Rattle.message.specs.Layouts.{networkValues, timeValues};
 ghost use Rattle.message.specs.Parts.{noParts};
 ghost use Rattle.message.specs.Reading.{checkedOf, decodeAs, decodeOf};
-ghost use Rattle.message.specs.Writing.{messageIn, networkIn, timeIn, unixIn};
+ghost use Rattle.message.specs.Messages.{networkIn, unixIn, timeIn, messageIn};
 ghost use Rattle.message.specs.Table.{readingOf};
 ghost use Rattle.message.specs.declared.kind.Kind.the-variants as kind;
 
-// What a payload is: a message and the places of its parts, or a refusal.
+// The answer: a message and the places of its parts, or a refusal, which has neither.
 pub enum ReadResult {
     Got { message: Message, parts: Parts },
     Command,
@@ -37,7 +52,7 @@ pub enum ReadResult {
     Field,
 }
 
-// The message with its parts, unless its size or a field is refused: sizes before fields.
+// The message with its parts, unless its size or a field is refused: size before field, PROTOCOL 7.7.
 fn checked_with(sized: bool, allowed: bool, message: Message, parts: Parts) -> ReadResult
     ensures { λ r. ⌜ readingOf r ≡ checkedOf sized allowed (messageIn message) parts ⌝ }
 {
@@ -57,7 +72,7 @@ fn checked(sized: bool, allowed: bool, message: Message) -> ReadResult
     checked_with(sized, allowed, message, no_parts())
 }
 
-// The information's values behind its texts and its key.
+// 02: 66, 74 or 106 bytes. PROTOCOL 7.10.
 fn read_information(payload: &[u8]) -> ReadResult
     ensures { λ r. ⌜ readingOf r ≡ decodeAs kind.Information 0x02 (now (payload .entry)) ⌝ }
 {
@@ -94,7 +109,7 @@ fn read_information(payload: &[u8]) -> ReadResult
     ReadResult::Size
 }
 
-// Control or query, by the first byte.
+// 03: a control or a query, by the first byte. PROTOCOL 7.17.
 fn read_action(payload: &[u8]) -> ReadResult
     ensures { λ r. ⌜ readingOf r ≡ decodeAs kind.Action 0x03 (now (payload .entry)) ⌝ }
 {
@@ -117,7 +132,7 @@ fn read_action(payload: &[u8]) -> ReadResult
     ReadResult::Field
 }
 
-// The answer to a control, which is empty, or the status asked for.
+// 04: empty after a control, or the status after a query. PROTOCOL 7.17.
 fn read_status(payload: &[u8]) -> ReadResult
     ensures { λ r. ⌜ readingOf r ≡ decodeAs kind.Status 0x04 (now (payload .entry)) ⌝ }
 {
@@ -136,7 +151,7 @@ fn read_status(payload: &[u8]) -> ReadResult
     checked(size == 9, allowed, Message::Status { status })
 }
 
-// A status that the box reports.
+// 05: a status that the box reports. PROTOCOL 7.17.
 fn read_report(payload: &[u8]) -> ReadResult
     ensures { λ r. ⌜ readingOf r ≡ decodeAs kind.Report 0x05 (now (payload .entry)) ⌝ }
 {
@@ -152,7 +167,7 @@ fn read_report(payload: &[u8]) -> ReadResult
     checked(size == 9, allowed, Message::Report { status })
 }
 
-// The bits of the module's state; the reserved ones are ignored.
+// 0D: the reserved bits are ignored. PROTOCOL 7.12.
 fn network_of(payload: &[u8]) -> Network
     ensures { λ r. ⌜ networkIn r ≡ networkValues (now (payload .entry)) ⌝ }
 {
@@ -170,7 +185,7 @@ fn network_of(payload: &[u8]) -> Network
     }
 }
 
-// The time, with what it has behind the second.
+// 18: the fields up to the second, and the seconds since 1970 or none.
 fn time_of(payload: &[u8], unix: Unix) -> Time
     ensures { λ r. ⌜ timeIn r ≡ timeValues (now (payload .entry)) (unixIn unix) ⌝ }
 {
@@ -185,7 +200,7 @@ fn time_of(payload: &[u8], unix: Unix) -> Time
     }
 }
 
-// The network's time, handed over as read.
+// 18: 7 or 11 bytes. PROTOCOL 7.14.
 fn read_time(payload: &[u8]) -> ReadResult
     ensures { λ r. ⌜ readingOf r ≡ decodeAs kind.Time 0x18 (now (payload .entry)) ⌝ }
 {
@@ -210,7 +225,7 @@ fn read_time(payload: &[u8]) -> ReadResult
     ReadResult::Size
 }
 
-// Data announced: its size, and a check code of a counted length behind it.
+// 19: the size of the data, and a check code of n bytes. PROTOCOL 7.15.
 fn read_announcement(payload: &[u8]) -> ReadResult
     ensures { λ r. ⌜ readingOf r ≡ decodeAs kind.Announcement 0x19 (now (payload .entry)) ⌝ }
 {
@@ -224,7 +239,7 @@ fn read_announcement(payload: &[u8]) -> ReadResult
     )
 }
 
-// The box is ready for data: a check code of a counted length, and the size of a piece behind it.
+// 1B: a check code of n bytes, and the size of a piece. PROTOCOL 7.15.
 fn read_ready(payload: &[u8]) -> ReadResult
     ensures { λ r. ⌜ readingOf r ≡ decodeAs kind.Ready 0x1B (now (payload .entry)) ⌝ }
 {
@@ -238,7 +253,7 @@ fn read_ready(payload: &[u8]) -> ReadResult
     )
 }
 
-// A piece of data: which of how many.
+// 1D: a piece of the data. PROTOCOL 7.16.
 fn read_piece(payload: &[u8]) -> ReadResult
     ensures { λ r. ⌜ readingOf r ≡ decodeAs kind.Piece 0x1D (now (payload .entry)) ⌝ }
 {
@@ -254,7 +269,7 @@ fn read_piece(payload: &[u8]) -> ReadResult
     }
 }
 
-// A payload read as its command's line says.
+// Reading by the profile of the command.
 fn read_as(profile: Profile, command: u8, payload: &[u8]) -> ReadResult
     requires { ⌜ profile ≡ profileOf command ⌝ }
     ensures { λ r. ⌜ readingOf r ≡ decodeOf command (now (payload .entry)) ⌝ }
@@ -294,7 +309,7 @@ fn read_as(profile: Profile, command: u8, payload: &[u8]) -> ReadResult
     }
 }
 
-// The message that a command and a payload are, with the places of its parts, or the refusal that is due.
+// The message of a command and a payload, with the places of its parts, or the refusal.
 pub fn read(command: u8, payload: &[u8]) -> ReadResult
     ensures { λ r. ⌜ readingOf r ≡ decodeOf command (now (payload .entry)) ⌝ }
 {

@@ -1,4 +1,4 @@
-// What the box answers: to a frame received, and to a frame refused by its sum.
+// The replies of the box: to a received frame, and to a frame with a wrong sum. PROTOCOL 8.1 to 8.13.
 use super::kind::Cause;
 use super::kind::Owed;
 use super::kind::profile_of;
@@ -17,12 +17,12 @@ ghost use Rattle.frame.specs.Wire.{frameLimit};
 ghost use Rattle.base.specs.Outcomes.{output};
 ghost use Rattle.frame.specs.Calls.{writeOf};
 ghost use Rattle.message.specs.Commands.{owedOf};
-ghost use Rattle.message.specs.Writing.{messageIn};
+ghost use Rattle.message.specs.Messages.{messageIn};
 ghost use Rattle.message.specs.Table.{readingOf, replyRowOf};
-ghost use Rattle.message.specs.Replies.{owedFor, owedAfter, codeFor, rejectOf, replyReadOf};
-ghost use Rattle.message.specs.Replies.{replyFrameOf, replyOf};
+ghost use Rattle.message.specs.Owed.{owedFor, owedAfter, codeFor};
+ghost use Rattle.message.specs.Replies.{rejectOf, replyReadOf, replyFrameOf, replyOf};
 
-// What the box did, or asks its caller to do.
+// The reply that was written, or what the caller is asked to send: PROTOCOL 8.13.
 pub enum ReplyResult {
     Nothing,
     InformationWanted {
@@ -42,14 +42,14 @@ pub enum ReplyResult {
     Room,
 }
 
-// What a command is owed without a fault.
+// The reply owed to a command without fault.
 fn owed(command: u8) -> Owed
     ensures { λ r. ⌜ r ≡ owedOf command ⌝ }
 {
     profile_of(command).owed
 }
 
-// What a message without a fault calls for.
+// The reply owed to a message without fault.
 fn owed_for(message: Message) -> Owed
     ensures { λ r. ⌜ r ≡ owedFor (messageIn message) ⌝ }
 {
@@ -71,7 +71,7 @@ fn owed_for(message: Message) -> Owed
     }
 }
 
-// What a frame that was read calls for, with or without a fault.
+// The reply owed to a frame, by its reading. A command of the box is rejected whatever its payload is: PROTOCOL 8.7.
 fn owed_after(command: u8, reading: ReadResult) -> Owed
     ensures { λ r. ⌜ r ≡ owedAfter command (readingOf reading .row) ⌝ }
 {
@@ -93,7 +93,7 @@ fn owed_after(command: u8, reading: ReadResult) -> Owed
     }
 }
 
-// A command of no bytes, under the number received; the frame writer's ROOM is passed on.
+// A command without payload, under the received sequence number; or the ROOM of the frame writer.
 fn acknowledge(command: u8, number: u8, out: &mut [u8]) -> ReplyResult
     ensures { λ r. ⌜ output (replyRowOf r) (now (out .exit))
         ≡ writeOf frameLimit command number 0 [] (now (out .entry)) ⌝ }
@@ -108,7 +108,7 @@ fn acknowledge(command: u8, number: u8, out: &mut [u8]) -> ReplyResult
     }
 }
 
-// The code that the module is told for a cause.
+// The code of a rejection: PROTOCOL 8.5 to 8.8.
 fn code_for(cause: Cause) -> Code
     ensures { λ r. ⌜ r ≡ codeFor cause ⌝ }
 {
@@ -121,7 +121,7 @@ fn code_for(cause: Cause) -> Code
     }
 }
 
-// Word to the module that a frame was invalid, under the number received.
+// 12 with a code, under the received sequence number; or the ROOM of the frame writer.
 fn reject(cause: Cause, number: u8, out: &mut [u8]) -> ReplyResult
     ensures { λ r. ⌜ output (replyRowOf r) (now (out .exit))
         ≡ rejectOf frameLimit cause number (now (out .entry)) ⌝ }
@@ -137,7 +137,8 @@ fn reject(cause: Cause, number: u8, out: &mut [u8]) -> ReplyResult
     }
 }
 
-// What the box answers to a frame that was read: a frame at the front of the output, a wish to the caller, or nothing.
+// The reply to a frame whose payload was read: a frame at the front of the caller's buffer, what the caller is asked to
+// send, or nothing.
 pub fn reply_reading(command: u8, number: u8, reading: ReadResult, out: &mut [u8]) -> ReplyResult
     ensures { λ r. ⌜ output (replyRowOf r) (now (out .exit))
         ≡ replyReadOf frameLimit command number (readingOf reading .row) (now (out .entry)) ⌝ }
@@ -152,7 +153,7 @@ pub fn reply_reading(command: u8, number: u8, reading: ReadResult, out: &mut [u8
     }
 }
 
-// What the box answers to a frame, whose payload is read once.
+// The reply to a received frame.
 pub fn reply_frame(command: u8, number: u8, payload: &[u8], out: &mut [u8]) -> ReplyResult
     ensures { λ r. ⌜ output (replyRowOf r) (now (out .exit))
         ≡ replyFrameOf frameLimit command number (now (payload .entry)) (now (out .entry)) ⌝ }
@@ -160,7 +161,7 @@ pub fn reply_frame(command: u8, number: u8, payload: &[u8], out: &mut [u8]) -> R
     reply_reading(command, number, read(command, payload), out)
 }
 
-// What the box answers to a decided frame, by the body that the reader then holds.
+// The reply to a decided frame, by the body that the reader then holds.
 fn reply_decided(verdict: Verdict, body: &[u8], out: &mut [u8]) -> ReplyResult
     ensures { λ r. ⌜ output (replyRowOf r) (now (out .exit))
         ≡ replyOf frameLimit (decidedRow verdict 0 0 0) (now (body .entry)) (now (out .entry)) ⌝ }
@@ -180,7 +181,7 @@ fn reply_decided(verdict: Verdict, body: &[u8], out: &mut [u8]) -> ReplyResult
     }
 }
 
-// What the box answers when its reader has said something, by the body that the reader then holds.
+// The reply to an answer of the reader, by the body that the reader then holds.
 pub fn reply(answer: FeedResult, body: &[u8], out: &mut [u8]) -> ReplyResult
     ensures { λ r. ⌜ output (replyRowOf r) (now (out .exit))
         ≡ replyOf frameLimit (rowOf answer) (now (body .entry)) (now (out .entry)) ⌝ }

@@ -1,17 +1,18 @@
-// The values of a message. Texts, keys, check codes and data are no values: they stay in the lent bytes (see `part`).
+// The values of a message. Texts, key, secret, check code and data are not values: they stay in the caller's payload,
+// and `part` returns them. PROTOCOL 7.9 to 7.16.
 use super::counter::Control;
 use super::counter::Status;
 ghost use mathlib.Core.Path.{_≡_};
 ghost use mathlib.Core.Bool.{true};
-ghost use Rattle.message.specs.Commands.{wayAllowed, wayNumber, codeAllowed, codeNumber};
+ghost use Rattle.message.specs.Layouts.{wayAllowed, wayNumber, codeAllowed, codeNumber};
 
-// The ways to set the module up.
+// The ways to set the module up: PROTOCOL 7.11.
 pub enum Way {
     SoftAp,
     AirLink,
 }
 
-// Why a frame is invalid.
+// The error codes of a rejection: PROTOCOL 7.13.
 pub enum Code {
     Sum,
     Command,
@@ -19,14 +20,15 @@ pub enum Code {
     FileType,
 }
 
-// What a device's information holds beside texts, key and timeout.
+// What device information has in addition to texts, key and timeout: 66, 74 or 106 bytes. PROTOCOL 7.10.
 pub enum Extra {
     Absent,
     Attributes { attributes: u64 },
     AttributesAndSecret { attributes: u64 },
 }
 
-// The state of the module's networks.
+// The state of the module's networks, from bit 0 up; `strength` is bits 8 to 10, the last two are bits 11 and 12.
+// PROTOCOL 7.12.
 pub struct Network {
     pub softap: bool,
     pub station: bool,
@@ -39,13 +41,13 @@ pub struct Network {
     pub testing: bool,
 }
 
-// Seconds since 1970, where the module gives them.
+// Seconds since 1970, where the payload has them.
 pub enum Unix {
     Absent,
     Seconds { seconds: u32 },
 }
 
-// The network's time, handed over as read.
+// The network's time. No value of it is tested: PROTOCOL 7.14.
 pub struct Time {
     pub year: u16,
     pub month: u8,
@@ -56,7 +58,7 @@ pub struct Time {
     pub unix: Unix,
 }
 
-// A message: `Empty` is a command with no payload, the others have one of their own.
+// A message: `Empty` is a command without payload; each other message has a payload of its own.
 pub enum Message {
     Empty { command: u8 },
     Information { timeout: u16, extra: Extra },
@@ -74,7 +76,7 @@ pub enum Message {
     Piece { index: u16, total: u16 },
 }
 
-// Whether a way to set the module up is one that there is: 1 SoftAP, 2 AirLink.
+// Whether a number stands for a way.
 pub(crate) fn way_allowed(way: u8) -> bool
     ensures { λ r. ⌜ r ≡ wayAllowed way ⌝ }
 {
@@ -84,7 +86,7 @@ pub(crate) fn way_allowed(way: u8) -> bool
     way == 2
 }
 
-// The number that stands for a way.
+// The number of a way.
 pub fn way_number(way: Way) -> u8
     ensures { λ r. ⌜ r ≡ wayNumber way ⌝ }
 {
@@ -94,7 +96,7 @@ pub fn way_number(way: Way) -> u8
     }
 }
 
-// The way of a number that stands for one.
+// The way of a number. For a number that stands for none it may be any: reading refuses the payload.
 pub(crate) fn way_of(number: u8) -> Way
     ensures { λ r. ⌜ (wayAllowed number ≡ true → wayNumber r ≡ number) ⌝ }
 {
@@ -104,7 +106,7 @@ pub(crate) fn way_of(number: u8) -> Way
     }
 }
 
-// Whether an error code is one that there is.
+// Whether a number stands for an error code.
 pub(crate) fn code_allowed(code: u8) -> bool
     ensures { λ r. ⌜ r ≡ codeAllowed code ⌝ }
 {
@@ -114,7 +116,7 @@ pub(crate) fn code_allowed(code: u8) -> bool
     code <= 4
 }
 
-// The number that stands for an error code.
+// The number of an error code.
 pub fn code_number(code: Code) -> u8
     ensures { λ r. ⌜ r ≡ codeNumber code ⌝ }
 {
@@ -126,7 +128,7 @@ pub fn code_number(code: Code) -> u8
     }
 }
 
-// The error code of a number that stands for one.
+// The error code of a number. For a number that stands for none it may be any: reading refuses the payload.
 pub(crate) fn code_of(number: u8) -> Code
     ensures { λ r. ⌜ (codeAllowed number ≡ true → codeNumber r ≡ number) ⌝ }
 {

@@ -1,4 +1,5 @@
-// A message written as a frame: 31, 32 and 33 are tested before the frame writer's 21 and 22.
+// Writing a message as a frame: COMMAND, SIZE and FIELD, then the PAYLOAD and ROOM of the frame writer.
+// PROTOCOL 7.22 to 7.25. `opaque` is the caller's data for the message: PROTOCOL 7.24.
 use super::bytes::flagged;
 use super::counter::Control;
 use super::counter::Status;
@@ -27,11 +28,12 @@ ghost use Rattle.frame.specs.Wire.{frameLimit};
 ghost use Rattle.message.specs.Numbers.{eight};
 ghost use Rattle.message.specs.Table.{sendRowOf};
 ghost use Rattle.message.specs.Counter.{statusBytes};
-ghost use Rattle.message.specs.Writing.{sendOf, sendAs, sendBare, informationBytes, networkBytes, timeBytes};
+ghost use Rattle.message.specs.Messages.{informationBytes, networkBytes, timeBytes};
+ghost use Rattle.message.specs.Writing.{sendAs, sendBare, sendOf};
 ghost use Rattle.message.specs.declared.values.Message.the-variants as message;
 ghost use Rattle.message.specs.declared.values.Extra.the-variants as extra;
 
-// What a message to be written is answered.
+// The answer: the count of bytes written, or a refusal, which leaves the caller's buffer unchanged.
 pub enum SendResult {
     Wrote { count: usize },
     Payload,
@@ -41,7 +43,7 @@ pub enum SendResult {
     Field,
 }
 
-// The frame writer's answer, passed on.
+// The answer of the frame writer, as an answer of this crate.
 fn from_written(written: WriteResult) -> SendResult
     ensures { λ r. ⌜ sendRowOf r ≡ writeRowOf written ⌝ }
 {
@@ -52,7 +54,7 @@ fn from_written(written: WriteResult) -> SendResult
     }
 }
 
-// A message that takes no lent bytes, where its values are allowed.
+// A message without the caller's data, if its values are allowed.
 fn write_bare(
     command: u8,
     payload: &[u8],
@@ -75,7 +77,7 @@ fn write_bare(
     SendResult::Field
 }
 
-// A command without payload, where reading accepts it so.
+// A command without payload, if reading accepts it so: PROTOCOL 7.25.
 fn write_empty(command: u8, opaque: &[u8], number: u8, flags: u16, out: &mut [u8]) -> SendResult
     ensures { λ r. ⌜ output (sendRowOf r) (now (out .exit))
         ≡ sendOf frameLimit (message.Empty command) number flags (now (opaque .entry)) (now (out .entry)) ⌝ }
@@ -90,7 +92,7 @@ fn write_empty(command: u8, opaque: &[u8], number: u8, flags: u16, out: &mut [u8
     }
 }
 
-// Timeout and attributes.
+// 02: timeout and attributes.
 fn attribute_bytes(timeout: u16, attributes: u64) -> [u8; 10]
     ensures { λ r. ⌜ r ≡ two timeout (eight attributes []) ⌝ }
 {
@@ -110,7 +112,7 @@ fn attribute_bytes(timeout: u16, attributes: u64) -> [u8; 10]
     ]
 }
 
-// Information: its numbers between the lent texts and key and what else is lent.
+// 02: numbers between texts and key, which are the first 64 bytes of the caller's data, and the secret.
 fn write_between(
     size: usize,
     numbers: &[u8],
@@ -138,7 +140,7 @@ fn write_between(
     ))
 }
 
-// Information in one of its three sizes.
+// 02 in one of its three sizes: PROTOCOL 7.10.
 fn write_information(
     timeout: u16,
     extra: Extra,
@@ -148,7 +150,8 @@ fn write_information(
     out: &mut [u8],
 ) -> SendResult
     ensures { λ r. ⌜ output (sendRowOf r) (now (out .exit))
-        ≡ sendOf frameLimit (message.Information timeout extra) number flags (now (opaque .entry)) (now (out .entry)) ⌝ }
+        ≡ sendOf frameLimit (message.Information timeout extra) number flags (now (opaque .entry))
+        (now (out .entry)) ⌝ }
 {
     match extra {
         Extra::Absent => {
@@ -166,7 +169,7 @@ fn write_information(
     }
 }
 
-// What the counter is told to do.
+// 03: a control.
 fn write_control(
     control: Control,
     opaque: &[u8],
@@ -197,7 +200,7 @@ fn write_byte(
     write_bare(command, &bytes, true, opaque, number, flags, out)
 }
 
-// A status, under its command and the payload's first byte.
+// 04 and 05: a status, with the command and the payload's first byte.
 fn write_status(
     command: u8,
     action: u8,
@@ -215,7 +218,7 @@ fn write_status(
     write_bare(command, &bytes, true, opaque, number, flags, out)
 }
 
-// The bits of the module's state; the reserved ones are 0.
+// 0D: the high byte first; the reserved bits are 0. PROTOCOL 7.12.
 fn network_bytes(network: Network) -> [u8; 2]
     requires { ⌜ network .strength < 8 ⌝ }
     ensures { λ r. ⌜ r ≡ networkBytes network ⌝ }
@@ -230,7 +233,7 @@ fn network_bytes(network: Network) -> [u8; 2]
     [high as u8, low as u8]
 }
 
-// The state of the module's networks.
+// 0D: a strength above 7 is FIELD. PROTOCOL 7.25.
 fn write_network(
     network: Network,
     opaque: &[u8],
@@ -248,7 +251,7 @@ fn write_network(
     write_bare(0x0D, &bytes, true, opaque, number, flags, out)
 }
 
-// The time without the seconds since 1970.
+// 18 without the seconds since 1970.
 fn time_bytes(time: Time) -> [u8; 7]
     ensures { λ r. ⌜ r ≡ timeBytes time [] ⌝ }
 {
@@ -263,7 +266,7 @@ fn time_bytes(time: Time) -> [u8; 7]
     ]
 }
 
-// The time with them.
+// 18 with them.
 fn time_bytes_and(time: Time, seconds: u32) -> [u8; 11]
     ensures { λ r. ⌜ r ≡ timeBytes time (four seconds []) ⌝ }
 {
@@ -282,7 +285,7 @@ fn time_bytes_and(time: Time, seconds: u32) -> [u8; 11]
     ]
 }
 
-// The network's time.
+// 18: 7 or 11 bytes. PROTOCOL 7.14.
 fn write_time(time: Time, opaque: &[u8], number: u8, flags: u16, out: &mut [u8]) -> SendResult
     ensures { λ r. ⌜ output (sendRowOf r) (now (out .exit))
         ≡ sendOf frameLimit (message.Time time) number flags (now (opaque .entry)) (now (out .entry)) ⌝ }
@@ -300,7 +303,7 @@ fn write_time(time: Time, opaque: &[u8], number: u8, flags: u16, out: &mut [u8])
     }
 }
 
-// Data announced, with its check code.
+// 19: a count of 2 bytes cannot name a longer check code. PROTOCOL 7.15, 7.24.
 fn write_announcement(size: u32, code: &[u8], number: u8, flags: u16, out: &mut [u8]) -> SendResult
     ensures { λ r. ⌜ output (sendRowOf r) (now (out .exit))
         ≡ sendOf frameLimit (message.Announcement size) number flags (now (code .entry)) (now (out .entry)) ⌝ }
@@ -314,7 +317,7 @@ fn write_announcement(size: u32, code: &[u8], number: u8, flags: u16, out: &mut 
     from_written(frame::write_chunks(0x19, number, flags, &size_bytes, &count_bytes, code, out))
 }
 
-// The box is ready for data, with its check code and the size of a piece.
+// 1B: the same.
 fn write_ready(piece: u16, code: &[u8], number: u8, flags: u16, out: &mut [u8]) -> SendResult
     ensures { λ r. ⌜ output (sendRowOf r) (now (out .exit))
         ≡ sendOf frameLimit (message.Ready piece) number flags (now (code .entry)) (now (out .entry)) ⌝ }
@@ -328,7 +331,7 @@ fn write_ready(piece: u16, code: &[u8], number: u8, flags: u16, out: &mut [u8]) 
     from_written(frame::write_chunks(0x1B, number, flags, &count_bytes, code, &size_bytes, out))
 }
 
-// A piece of data.
+// 1D: PROTOCOL 7.16.
 fn write_piece(
     index: u16,
     total: u16,
@@ -345,7 +348,7 @@ fn write_piece(
     from_written(frame::write_chunks(0x1D, number, flags, &index_bytes, &total_bytes, bytes, out))
 }
 
-// A message as a frame at the front of the output, or refused with the output as it was.
+// A message as a frame at the front of the caller's buffer, or refused with the buffer unchanged.
 pub fn write(message: Message, opaque: &[u8], number: u8, flags: u16, out: &mut [u8]) -> SendResult
     ensures { λ r. ⌜ output (sendRowOf r) (now (out .exit))
         ≡ sendOf frameLimit message number flags (now (opaque .entry)) (now (out .entry)) ⌝ }

@@ -1,4 +1,4 @@
--- `counter::control_allowed` tests as the definition does, the control's bytes being those behind the payload's first.
+-- `counter::control_allowed` tests as the definition does, on the bytes after the payload's first.
 use borrow.Author.Needs.{needs}
 use lib.Seq.{getD-drop}
 use Rattle.base.proofs.Tests.{tests}

@@ -3,7 +3,7 @@ use native.Mathlib.Nat.{mul-one}
 use native.Mathlib.Omega.{arith}
 use borrow.Author.Needs.{needs}
 use Rattle.message.specs.Numbers.{num}
-use Rattle.message.proofs.Numbers.{mode-most}
+use Rattle.message.proofs.Numbers.{mode-max}
 use Rattle.message.proofs.counter.control_bytes.Statement.{statement}
 use Rattle.message.proofs.counter.control_bytes.Tie as tie
 
@@ -11,7 +11,7 @@ use Rattle.message.proofs.counter.control_bytes.Tie as tie
 cast-t13 : tie.Need-cast-t13
 cast-t13 c =
     let control = c .before .before .before .before .before .before .before .before .args .control in
-    omega (arith, mode-most (control .mode))
+    omega (arith, mode-max (control .mode))
 
 returns : tie.Need-returns
 returns c =

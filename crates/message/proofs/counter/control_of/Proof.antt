@@ -1,4 +1,4 @@
--- `counter::control_of` has the bits and numbers behind the payload's first byte, each times its flag.
+-- `counter::control_of` has the bits and numbers after the payload's first byte, each times its flag.
 use Prim.Native.Nat.{_*_}
 use mathlib.Core.Path.{_≡_}
 use native.Mathlib.Nat.{div-one}
@@ -6,7 +6,7 @@ use native.Mathlib.Omega.{arith}
 use borrow.Author.Needs.{needs}
 use lib.ListN.{getD, drop}
 use lib.Seq.{getD-drop}
-use Rattle.message.specs.Numbers.{bit, bits}
+use Rattle.message.specs.Numbers.{bits, bit}
 use Rattle.message.proofs.Fields.{control-mode}
 use Rattle.message.proofs.counter.control_of.Statement.{statement}
 use Rattle.message.proofs.counter.control_of.Tie as tie

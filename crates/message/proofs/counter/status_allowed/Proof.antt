@@ -1,4 +1,4 @@
--- `counter::status_allowed` tests as the definition does, the status' bytes being those behind the payload's first.
+-- `counter::status_allowed` tests as the definition does, on the bytes after the payload's first.
 use borrow.Author.Needs.{needs}
 use lib.Seq.{getD-drop}
 use Rattle.base.proofs.Tests.{tests}

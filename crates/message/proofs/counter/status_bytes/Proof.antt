@@ -1,16 +1,16 @@
--- `counter::status_bytes` adds up the bits of its first byte and of its last; between them stand the numbers.
+-- `counter::status_bytes` adds up the bits of its first byte and of its last; the numbers are between them.
 use native.Mathlib.Nat.{mul-one}
 use native.Mathlib.Omega.{arith}
 use borrow.Author.Needs.{needs}
 use Rattle.message.specs.Numbers.{num}
-use Rattle.message.proofs.Numbers.{mode-most}
+use Rattle.message.proofs.Numbers.{mode-max}
 use Rattle.message.proofs.counter.status_bytes.Statement.{statement}
 use Rattle.message.proofs.counter.status_bytes.Tie as tie
 
 -- the first byte has four bits
 cast-t11 : tie.Need-cast-t11
 cast-t11 c =
-    omega (arith, mode-most (c .before .before .before .before .before .before .before .before .args .status .mode))
+    omega (arith, mode-max (c .before .before .before .before .before .before .before .before .args .status .mode))
 
 returns : tie.Need-returns
 returns c =

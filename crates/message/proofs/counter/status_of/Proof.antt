@@ -1,4 +1,4 @@
--- `counter::status_of` has the bits and numbers of the bytes behind the payload's first.
+-- `counter::status_of` has the bits and numbers of the bytes after the payload's first.
 use native.Mathlib.Nat.{div-one}
 use native.Mathlib.Omega.{arith}
 use borrow.Author.Needs.{needs}

@@ -1,4 +1,4 @@
--- `kind::profile_of` looks the command up: each arm is told some numbers, and under each of them stands the arm's line.
+-- `kind::profile_of` looks the command up: each arm has some commands, and the table has the arm's profile for each.
 use mathlib.Core.Path.{refl, _∙_}
 use mathlib.Core.List.{List, [], _∷_}
 use Prim.Native.Nat.{ℕ}

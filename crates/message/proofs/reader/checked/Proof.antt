@@ -1,4 +1,4 @@
--- `reader::checked` judges a message that has no parts.
+-- `reader::checked` is `checked_with` without parts.
 use borrow.Author.Needs.{needs}
 use Rattle.message.proofs.reader.checked.Statement.{statement}
 use Rattle.message.proofs.reader.checked.Tie as tie

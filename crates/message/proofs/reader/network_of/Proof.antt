@@ -1,4 +1,4 @@
--- `reader::network_of` reads each bit of the two bytes; a division by 1 is none.
+-- `reader::network_of` reads each bit of the two bytes; bit 0 needs no division.
 use native.Mathlib.Nat.{div-one}
 use borrow.Author.Needs.{needs}
 use Rattle.message.proofs.reader.network_of.Statement.{statement}

@@ -1,4 +1,4 @@
--- `reader::read_announcement` judges a size and a counted check code.
+-- `reader::read_announcement` tests the size of a counted check code.
 use mathlib.Core.Path.{refl}
 use borrow.Author.Needs.{needs}
 use Rattle.message.specs.declared.kind.Kind.the-variants.{Announcement}

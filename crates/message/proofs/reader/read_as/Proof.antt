@@ -1,4 +1,4 @@
--- `reader::read_as` goes by the command's line: each arm has what its call ensures, of the one command of that line.
+-- `reader::read_as` goes by the kind: each arm has what its call ensures, for the only command of that kind.
 use mathlib.Core.Path.{refl}
 use Rattle.message.specs.declared.kind.Kind.the-variants as kind
 use Rattle.message.proofs.Reading.{read-profile, profiles}

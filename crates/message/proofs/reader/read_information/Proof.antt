@@ -1,7 +1,7 @@
--- `reader::read_information` goes by the size, which tells what stands behind the timeout.
+-- `reader::read_information` goes by the size, which shows what follows the timeout.
 use borrow.Author.Needs.{needs}
 use Rattle.base.specs.Keys.{among}
-use Rattle.message.specs.Commands.{fits, sizeFits}
+use Rattle.message.specs.Layouts.{fits, sizeFits}
 use Rattle.message.proofs.Reading.{sizes}
 use Rattle.message.proofs.reader.read_information.Statement.{statement}
 use Rattle.message.proofs.reader.read_information.Tie as tie

@@ -1,4 +1,4 @@
--- `reader::read_piece` has four bytes of numbers, and data behind them.
+-- `reader::read_piece` has four bytes of numbers, and data after them.
 use Rattle.message.proofs.Reading.{sizes}
 use borrow.Author.Needs.{needs}
 use Rattle.message.proofs.reader.read_piece.Statement.{statement}

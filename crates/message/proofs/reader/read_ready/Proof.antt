@@ -1,4 +1,4 @@
--- `reader::read_ready` judges a counted check code and the size behind it.
+-- `reader::read_ready` tests the size of a counted check code and a number after it.
 use mathlib.Core.Path.{refl}
 use borrow.Author.Needs.{needs}
 use Rattle.message.specs.declared.kind.Kind.the-variants.{Ready}

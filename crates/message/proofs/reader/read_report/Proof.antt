@@ -1,4 +1,4 @@
--- `reader::read_report` goes by the first byte, which chooses a status of 8 bytes behind it.
+-- `reader::read_report` goes by the first byte, which chooses a status in 8 bytes after it.
 use mathlib.Core.Path.{refl, sym, _∙_}
 use mathlib.Core.List.{_∷_}
 use borrow.Author.Needs.{needs}

@@ -1,4 +1,4 @@
--- `reader::read_time` goes by the size, which tells whether seconds stand behind the time.
+-- `reader::read_time` goes by the size, which shows whether there are seconds since 1970.
 use borrow.Author.Needs.{needs}
 use Rattle.message.proofs.Reading.{sizes}
 use Rattle.message.proofs.reader.read_time.Statement.{statement}

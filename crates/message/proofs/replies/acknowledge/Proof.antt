@@ -1,4 +1,4 @@
--- `replies::acknowledge` passes on what the frame writer says, which is not that an empty payload is too long.
+-- `replies::acknowledge` keeps the frame writer's count and ROOM; an empty payload is not too long.
 use mathlib.Core.List.{[]}
 use native.Mathlib.Omega.{arith}
 use Rattle.frame.specs.Wire.{frameLimit}

@@ -1,4 +1,4 @@
--- `replies::owed` is what the command's line says.
+-- `replies::owed` is the reply in the command's profile.
 use mathlib.Core.Path.{ap}
 use Rattle.message.specs.declared.kind.Profile.{Profile}
 use borrow.Author.Needs.{needs}

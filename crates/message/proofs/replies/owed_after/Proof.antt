@@ -1,4 +1,4 @@
--- `replies::owed_after` refuses what only the box sends, and otherwise goes by what reading said.
+-- `replies::owed_after` rejects a command of the box, and otherwise goes by the reading.
 use mathlib.Core.Path.{_≡_, sym, ap, _∙_}
 use mathlib.Core.Bool.{Bool}
 use borrow.Author.Needs.{needs}
@@ -8,7 +8,8 @@ use Rattle.message.proofs.replies.owed_after.Statement.{statement}
 use Rattle.message.proofs.replies.owed_after.Tie as tie
 
 -- whether only the box sends the command
-outward : (c : tie.After-profile-of) {t : Bool} → c .profile-of .result .outward ≡ t → fromBox (c .before .args .command) ≡ t
+outward : (c : tie.After-profile-of) {t : Bool} → c .profile-of .result .outward ≡ t
+    → fromBox (c .before .args .command) ≡ t
 outward c e = sym (ap (λ (l : Profile). l .outward) (c .profile-of .ensures)) ∙ e
 
 pub owed-after-spec : {M : Type 1} → statement M

@@ -1,4 +1,4 @@
--- `replies::owed_for` goes by the message, whose line says what it is owed.
+-- `replies::owed_for` goes by the message, whose profile has the reply.
 use Rattle.message.proofs.Tests.{and-false}
 use borrow.Author.Needs.{needs}
 use Rattle.message.proofs.replies.owed_for.Statement.{statement}

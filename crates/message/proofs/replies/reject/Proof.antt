@@ -1,4 +1,4 @@
--- `replies::reject` tells a 12 with its code and cause, and passes on ROOM; one byte is not too long.
+-- `replies::reject` adds code and cause to the count of a 12, and keeps ROOM; one byte is not too long.
 use native.Mathlib.Omega.{arith}
 use borrow.Author.Needs.{needs}
 use mathlib.Core.List.{[], _∷_}

@@ -1,4 +1,4 @@
--- `replies::reply` answers a decided frame, and nothing else that the reader says.
+-- `replies::reply` replies to a decided frame, and to no other answer of the reader.
 use borrow.Author.Needs.{needs}
 use Rattle.message.proofs.replies.reply.Statement.{statement}
 use Rattle.message.proofs.replies.reply.Tie as tie

@@ -1,4 +1,4 @@
--- `replies::reply_decided` answers a frame and a wrong sum, and nothing else.
+-- `replies::reply_decided` replies to a frame and to a wrong sum, and to nothing else.
 use borrow.Author.Needs.{needs}
 use Rattle.frame.specs.Wire.{frameLimit}
 use Rattle.message.proofs.RepliesRead.{by-body, by-sum}

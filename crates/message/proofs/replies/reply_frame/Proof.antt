@@ -1,7 +1,7 @@
--- `replies::reply_frame` reads, and answers what was read.
+-- `replies::reply_frame` reads, and replies by the reading.
 use mathlib.Core.Path.{ap, _∙_}
 use Rattle.frame.specs.Wire.{frameLimit}
-use Rattle.message.specs.Reading.{Read}
+use Rattle.message.specs.Table.{Read}
 use Rattle.message.specs.Replies.{replyReadOf}
 use borrow.Author.Needs.{needs}
 use Rattle.message.proofs.replies.reply_frame.Statement.{statement}

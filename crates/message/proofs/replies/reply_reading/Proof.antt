@@ -1,4 +1,4 @@
--- `replies::reply_reading` does what is due.
+-- `replies::reply_reading` does what is owed.
 use borrow.Author.Needs.{needs}
 use Rattle.message.proofs.replies.reply_reading.Statement.{statement}
 use Rattle.message.proofs.replies.reply_reading.Tie as tie

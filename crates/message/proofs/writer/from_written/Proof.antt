@@ -1,4 +1,4 @@
--- `from_written` meets its contract: each answer has the row of the frame writer's.
+-- `from_written` meets its contract: each answer keeps its row.
 use borrow.Author.Needs.{needs}
 use Rattle.message.proofs.writer.from_written.Statement.{statement}
 use Rattle.message.proofs.writer.from_written.Tie as tie

@@ -1,7 +1,7 @@
--- `write` meets its contract: each arm writes the message that it was told.
+-- `write` meets its contract: each arm writes its message.
 use borrow.Author.Needs.{needs}
 use Rattle.message.specs.Commands.{table, profileIn}
-use Rattle.message.proofs.Sends.{arms}
+use Rattle.message.proofs.Sending.{arms}
 use Rattle.message.proofs.writer.write.Statement.{statement}
 use Rattle.message.proofs.writer.write.Tie as tie
 

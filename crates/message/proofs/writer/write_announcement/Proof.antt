@@ -1,9 +1,9 @@
--- `write_announcement` meets its contract: the size, the count, and what is lent.
+-- `write_announcement` meets its contract: the size, the count, and the check code.
 use mathlib.Core.Path.{refl}
 use borrow.Author.Tests.{le-leb}
 use Rattle.base.proofs.Tests.{tests}
 use Rattle.message.specs.Commands.{table, profileIn}
-use Rattle.message.proofs.Sends.{sent, joined}
+use Rattle.message.proofs.Sending.{sent, joined}
 use borrow.Author.Needs.{needs}
 use Rattle.message.proofs.writer.write_announcement.Statement.{statement}
 use Rattle.message.proofs.writer.write_announcement.Tie as tie

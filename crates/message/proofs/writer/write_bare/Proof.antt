@@ -1,7 +1,7 @@
--- `write_bare` meets its contract: nothing lent, and values that are allowed.
+-- `write_bare` meets its contract: no data of the caller, and values that are allowed.
 use borrow.Author.Tests.{eq-eqb}
 use Rattle.base.proofs.Tests.{tests}
-use Rattle.message.proofs.Sends.{onward}
+use Rattle.message.proofs.Sending.{onward}
 use borrow.Author.Needs.{needs}
 use Rattle.message.proofs.writer.write_bare.Statement.{statement}
 use Rattle.message.proofs.writer.write_bare.Tie as tie

@@ -1,10 +1,10 @@
--- `write_between` meets its contract: the numbers between the two parts of what is lent.
+-- `write_between` meets its contract: the numbers between the two pieces of the caller's data.
 use mathlib.Core.Path.{refl, sym}
 use native.Mathlib.Omega.{arith}
 use lib.Seq.{length-take-le}
 use borrow.Author.Tests.{eq-eqb}
 use Rattle.base.proofs.Tests.{tests}
-use Rattle.message.proofs.Sends.{sent, between}
+use Rattle.message.proofs.Sending.{sent, between}
 use borrow.Author.Needs.{needs}
 use Rattle.message.proofs.writer.write_between.Statement.{statement}
 use Rattle.message.proofs.writer.write_between.Tie as tie

@@ -1,7 +1,7 @@
 -- `write_control` meets its contract: the control's bytes.
 use Rattle.message.specs.Commands.{table, profileIn}
 use borrow.Author.Needs.{needs}
-use Rattle.message.proofs.Sends.{arms}
+use Rattle.message.proofs.Sending.{arms}
 use Rattle.message.proofs.writer.write_control.Statement.{statement}
 use Rattle.message.proofs.writer.write_control.Tie as tie
 

@@ -1,8 +1,8 @@
--- `write_empty` meets its contract: nothing lent, where reading accepts no bytes.
+-- `write_empty` meets its contract: no data of the caller, where reading accepts no bytes.
 use mathlib.Core.Path.{sym, ap, _∙_}
 use Rattle.frame.specs.Wire.{frameLimit}
 use Rattle.message.specs.Table.{readingOf}
-use Rattle.message.proofs.Sends.{empty-got, empty-refused}
+use Rattle.message.proofs.Sending.{empty-got, empty-refused}
 use borrow.Author.Needs.{needs}
 use Rattle.message.proofs.writer.write_empty.Statement.{statement}
 use Rattle.message.proofs.writer.write_empty.Tie as tie

@@ -1,6 +1,6 @@
--- `write_information` meets its contract: each arm writes what it was told.
+-- `write_information` meets its contract: each arm writes its size of information.
 use Rattle.message.specs.declared.values.Extra.the-variants as extra
-use Rattle.message.proofs.Sends.{informed}
+use Rattle.message.proofs.Sending.{informed}
 use borrow.Author.Needs.{needs}
 use Rattle.message.proofs.writer.write_information.Statement.{statement}
 use Rattle.message.proofs.writer.write_information.Tie as tie

@@ -3,7 +3,7 @@ use mathlib.Core.Path.{sym}
 use borrow.Author.Tests.{le-ltb, lt-ltb}
 use Rattle.message.specs.Commands.{table, profileIn}
 use borrow.Author.Needs.{needs}
-use Rattle.message.proofs.Sends.{bare}
+use Rattle.message.proofs.Sending.{bare}
 use Rattle.message.proofs.writer.write_network.Statement.{statement}
 use Rattle.message.proofs.writer.write_network.Tie as tie
 

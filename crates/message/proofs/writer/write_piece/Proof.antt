@@ -1,7 +1,7 @@
--- `write_piece` meets its contract: index and total, and what is lent.
+-- `write_piece` meets its contract: index and total, and the data.
 use mathlib.Core.Path.{refl}
 use Rattle.message.specs.Commands.{table, profileIn}
-use Rattle.message.proofs.Sends.{sent, joined}
+use Rattle.message.proofs.Sending.{sent, joined}
 use borrow.Author.Needs.{needs}
 use Rattle.message.proofs.writer.write_piece.Statement.{statement}
 use Rattle.message.proofs.writer.write_piece.Tie as tie

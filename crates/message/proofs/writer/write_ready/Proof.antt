@@ -1,11 +1,11 @@
--- `write_ready` meets its contract: the count, what is lent, and the size of a piece.
+-- `write_ready` meets its contract: the count, the check code, and the size of a piece.
 use Prim.Native.Nat.{ℕ}
 use mathlib.Core.Path.{refl, ap}
 use mathlib.Core.List.{List, _++_}
 use borrow.Author.Tests.{le-leb}
 use Rattle.base.proofs.Tests.{tests}
 use Rattle.message.specs.Commands.{table, profileIn}
-use Rattle.message.proofs.Sends.{sent, joined}
+use Rattle.message.proofs.Sending.{sent, joined}
 use borrow.Author.Needs.{needs}
 use Rattle.message.proofs.writer.write_ready.Statement.{statement}
 use Rattle.message.proofs.writer.write_ready.Tie as tie

@@ -1,6 +1,6 @@
 -- `write_status` meets its contract: the status' bytes.
 use borrow.Author.Needs.{needs}
-use Rattle.message.proofs.Sends.{arms}
+use Rattle.message.proofs.Sending.{arms}
 use Rattle.message.proofs.writer.write_status.Statement.{statement}
 use Rattle.message.proofs.writer.write_status.Tie as tie
 

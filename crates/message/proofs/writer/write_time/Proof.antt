@@ -2,7 +2,7 @@
 use mathlib.Core.Path.{_≡_, refl, _∙_}
 use mathlib.Core.Bool.{true}
 use Rattle.message.specs.Commands.{table, profileIn}
-use Rattle.message.proofs.Sends.{bare, dated}
+use Rattle.message.proofs.Sending.{bare, dated}
 use borrow.Author.Needs.{needs}
 use Rattle.message.proofs.writer.write_time.Statement.{statement}
 use Rattle.message.proofs.writer.write_time.Tie as tie
@@ -26,4 +26,5 @@ write-time-spec =
     let s = b .before .before .before .before .before .before .args in
     let bytes = b .time-bytes-and .ensures ∙ dated (s .time) (b .before .before .unix .given .1) in
     let yes : true ≡ true = refl in
-    bare 0x18 (s .number) (s .flags) (s .opaque .now) (s .out .now) bytes yes (c .before .before .write-bare2 .ensures)))
+    bare 0x18 (s .number) (s .flags) (s .opaque .now) (s .out .now) bytes yes
+    (c .before .before .write-bare2 .ensures)))
