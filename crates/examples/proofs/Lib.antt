@@ -1,2 +1,2 @@
--- The claim of specs/Examples.antt.
-pub mod Examples
+-- The claim of specs/WorkedExamples.antt.
+pub mod WorkedExamples

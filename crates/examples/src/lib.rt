@@ -1,1 +1,1 @@
-// No code: specs/Examples.antt states paper 01's counted examples of the definitions of all three layers.
+// No code: specs/ states the worked examples of the definitions of all three layers. PROTOCOL 11.

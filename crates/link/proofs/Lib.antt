@@ -1,13 +1,13 @@
--- The laws, up to the claims of specs/Claims.antt.
-pub mod Rows
-pub mod Sent
+-- The laws; each file of claims in specs/ has its theorems in the file of its name here.
+pub mod Answers
+pub mod Commands
 pub mod Times
 pub mod Numbers
 pub mod Moves
 pub mod Waits
-pub mod History
-pub mod Found
+pub mod Histories
 pub mod Refusals
-pub mod Examples
 pub mod Ranges
-pub mod LogExact
+pub mod EachCall
+pub mod Entries
+pub mod WorkedRuns

@@ -1,4 +1,4 @@
--- What one call of a link in range is answered and leaves. Assumes nothing.
+-- What one call of a link in range answers and leaves. Assumes nothing.
 use Prim.Native.Nat.{ℕ, _+_, _≤_}
 use mathlib.Core.Path.{_≡_, refl, sym, _∙_}
 use mathlib.Core.Logic.{_≢_}
@@ -40,7 +40,7 @@ waitAfter e w =
     cond (accepted e) (Waiting (commandIn (e .call)) (numberIn e) (clockIn (e .call)) 0)
     (cond (ended e) Idle (continuesWait e w))
 
--- how many numbers are given out after it
+-- how many numbers are used after it
 abbrev pub countAfter : Entry → ℕ → ℕ
 countAfter e k = cond (accepted e) (k + 1) k
 
@@ -57,15 +57,15 @@ not-accepted (offering command clock) r e = absurd (true≢false (sym e))
 not-accepted (ticking clock) r e = refl
 not-accepted (receiving command number) r e = refl
 
--- ---- an entry of a link that gave out k numbers, and of what waits in it
+-- ---- an entry of a link that used k numbers, and of what waits in it
 
--- what it is answered
+-- what it answers
 abbrev pub rowIn : ℕ → ℕ → ℕ → Wait → Call → Row
 rowIn first max k Idle c = idleRow first k c
 rowIn first max k (Waiting command number sent repeats) c = waitingRow max command number sent repeats c
 
--- an idle link gives out the k-th number;
--- while a command waits none is given out, and a due tick repeats or ends the wait
+-- an idle link uses the k-th number;
+-- while a command waits none is used, and a due tick repeats or ends the wait
 abbrev pub Shown : ℕ → ℕ → Entry → Wait → Type 0
 Shown first k e Idle = accepted e ≡ true → numberIn e ≡ numberAt first k
 Shown first k e (Waiting command number sent repeats) =
@@ -93,15 +93,15 @@ Undue c Idle = Unit
 Undue c (Waiting command number sent repeats) = dueIn c sent ≡ false
 
 module _ (first max k : ℕ) (small : first ≤ 255) where
-  -- the link that gave out k numbers, with what waits
+  -- the link that used k numbers, with what waits
   abbrev standing : Wait → Link
   standing w = linkOf (numberAt first k) w
 
-  -- of its call and what that replies
+  -- of its call and the outcome
   abbrev Moves : Wait → Call → Outcome Link → Type 0
   Moves w c y = Moved first max k w (record { call = c; row = y .row; before = standing w; after = y .state })
 
-  -- it passes the test for 17
+  -- it passes the test for STATE
   in-range : (w : Wait) → Ranges first max w → inRange first max (standing w) ≡ true
   in-range Idle h = simp (le-leb first (numberAt first k) (omega arith))
   in-range (Waiting command number sent repeats) h =

@@ -7,8 +7,9 @@ use native.Mathlib.Omega.{arith}
 use borrow.Author.Tests.{eqb-true, eqb-false}
 use lib.Dec.{eqb}
 use Rattle.base.proofs.Tests.{by-test}
-use Rattle.link.specs.Sending.{numberAt, followingOf}
-use Rattle.link.specs.Claims.{NumbersRunFrom}
+use Rattle.link.specs.Sending.{numberAt}
+use Rattle.link.specs.Calls.{followingOf}
+use Rattle.link.specs.Numbers.{NumbersRunFrom}
 
 -- the first number is the 0-th
 pub number-first : (first : ℕ) → numberAt first 0 ≡ first

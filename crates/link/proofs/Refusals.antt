@@ -1,5 +1,5 @@
 -- A refused call leaves the link as it was, whatever the link;
--- STATE is answered just where a field is out of its range. Assumes nothing.
+-- STATE is given exactly where a field is out of range. Assumes nothing.
 use Prim.Native.Nat.{ℕ}
 use mathlib.Core.Path.{_≡_, refl}
 use mathlib.Core.Logic.{_≢_}
@@ -13,34 +13,34 @@ use Rattle.link.specs.Clock.{isDue}
 use Rattle.link.specs.Table.{stateRow, unsentRow}
 use Rattle.link.specs.Calls.{inRange, offerIn, dueTickOf, tickIn, receiveIn}
 use Rattle.link.specs.Logs.{Call, offering, ticking, receiving, callOf}
-use Rattle.link.specs.Claims.{RefusedUnchanged}
+use Rattle.link.specs.Refusals.{RefusedUnchanged}
 use Rattle.link.specs.declared.state.Link.{Link}
 use Rattle.link.specs.declared.state.Wait.{Wait}
 use Rattle.link.specs.declared.state.Wait.the-variants.{Idle, Waiting}
 
 module _ (first max : ℕ) (l : Link) where
-  -- a reply that is no STATE, and leaves the link where it refuses
+  -- an answer that is not STATE, and that leaves the link where it refuses
   abbrev Fair : Outcome Link → Type 0
   Fair y = (y .row .number ≢ 0 → y .state ≡ l) × (y .row .number ≢ 17)
 
-  taken : (w : Wait) (command clock : ℕ) → Fair (offerIn w first l command clock)
-  taken Idle command clock = (λ n. absurd (n refl), omega arith)
-  taken (Waiting waiting under sent repeats) command clock = (λ _. refl, omega arith)
+  accepted-or-busy : (w : Wait) (command clock : ℕ) → Fair (offerIn w first l command clock)
+  accepted-or-busy Idle command clock = (λ n. absurd (n refl), omega arith)
+  accepted-or-busy (Waiting waiting under sent repeats) command clock = (λ _. refl, omega arith)
 
   offered : (command clock : ℕ)
       → Fair (cond (mayWait command) (offerIn (l .wait) first l command clock) (outcome unsentRow l))
   offered command clock =
-      by-test Fair (mayWait command) (λ _. taken (l .wait) command clock) λ _. (λ _. refl, omega arith)
+      by-test Fair (mayWait command) (λ _. accepted-or-busy (l .wait) command clock) λ _. (λ _. refl, omega arith)
 
-  retried : (command number repeats clock : ℕ) → Fair (dueTickOf max l command number repeats clock)
-  retried command number repeats clock =
+  due-ticked : (command number repeats clock : ℕ) → Fair (dueTickOf max l command number repeats clock)
+  due-ticked command number repeats clock =
       by-test Fair (ltb repeats max) (λ _. (λ n. absurd (n refl), omega arith))
       λ _. (λ n. absurd (n refl), omega arith)
 
   ticked : (w : Wait) (clock : ℕ) → Fair (tickIn w max l clock)
   ticked Idle clock = (λ _. refl, omega arith)
   ticked (Waiting command number sent repeats) clock =
-      by-test Fair (isDue clock sent) (λ _. retried command number repeats clock) λ _. (λ _. refl, omega arith)
+      by-test Fair (isDue clock sent) (λ _. due-ticked command number repeats clock) λ _. (λ _. refl, omega arith)
 
   received : (w : Wait) (command number : ℕ) → Fair (receiveIn w l command number)
   received Idle command number = (λ _. refl, omega arith)
@@ -48,7 +48,7 @@ module _ (first max : ℕ) (l : Link) where
       by-test Fair (fitsOf command number waiting under) (λ _. (λ n. absurd (n refl), omega arith))
       λ _. (λ _. refl, omega arith)
 
-  -- what the test for 17 makes of it
+  -- with the test for STATE before it
   abbrev Guarded : Bool → Outcome Link → Type 0
   Guarded t y =
       (y .row .number ≢ 0 → y .state ≡ l) × (y .row .number ≡ 17 → t ≡ false) × (t ≡ false → y .row ≡ stateRow)

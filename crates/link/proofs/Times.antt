@@ -6,19 +6,19 @@ use native.Mathlib.Omega.{arith}
 use borrow.Author.Tests.{le-ltb, leb-true}
 use lib.Dec.{leb, ltb}
 use Rattle.link.specs.Clock.{elapsedOf}
-use Rattle.link.specs.Claims.{ElapsedTimes, DueAhead, NeverDueBackward}
+use Rattle.link.specs.Times.{ElapsedTimes, DueAhead, NeverDueBackward}
 
 pub elapsed-time : ElapsedTimes
 elapsed-time clock since c s = record { in-clock = omega arith; leads = omega arith }
 
--- of a clock that went on by so much
-gone-on : (sent by : ℕ) → sent < 2 ^ 32 → by < 2 ^ 32 → elapsedOf ((sent + by) % 2 ^ 32) sent ≡ by
-gone-on sent by s b = omega arith
+-- of a clock that advanced by so much
+advanced : (sent by : ℕ) → sent < 2 ^ 32 → by < 2 ^ 32 → elapsedOf ((sent + by) % 2 ^ 32) sent ≡ by
+advanced sent by s b = omega arith
 
 pub due-ahead : DueAhead
-due-ahead sent by s b = ap (λ time. leb 200 time && ltb time (2 ^ 31)) (gone-on sent by s b)
+due-ahead sent by s b = ap (λ time. leb 200 time && ltb time (2 ^ 31)) (advanced sent by s b)
 
--- no time is due that is 2^31 or more where it is 200 or more
+-- a time is not due if it is below 200, or 2^31 or more
 not-due : (time : ℕ) → (200 ≤ time → 2 ^ 31 ≤ time) → (leb 200 time && ltb time (2 ^ 31)) ≡ false
 not-due time h = go (leb 200 time) refl
   where

@@ -1,4 +1,4 @@
--- Logs, entry by entry: the numbers given out, what stands after a part of a log, and what waits after an acceptance.
+-- Logs, entry by entry: the numbers used, what stands after a part of a log, and what waits after an accepted offer.
 -- Assumes nothing.
 use Prim.Native.Nat.{ℕ, suc, _+_, _≤_}
 use mathlib.Core.Path.{_≡_, refl, sym, ap, _∙_}
@@ -18,7 +18,7 @@ use Rattle.link.specs.declared.state.Wait.{Wait}
 use Rattle.link.specs.declared.state.Wait.the-variants.{Idle, Waiting}
 use Rattle.link.proofs.Moves.{waitAfter, countAfter, Shown, Ranges, Moved, moved}
 
--- one more or not, counted before or after
+-- one more or none, counted before or after
 one-more : {A : Type 0} (size : A → ℕ) (t : Bool) (k : ℕ) (x y : A)
     → size y ≡ suc (size x) → cond t (k + 1) k + size x ≡ k + size (cond t y x)
 one-more size true k x y e = omega arith
@@ -37,7 +37,7 @@ idle-after e w t false true p q i s = simp (p, q)
 idle-after e w t false false p q i s = rw (i s) (simp (p, q))
 
 module _ (first max : ℕ) where
-  -- the entries of a link that gave out k numbers, and of what waits in it
+  -- the entries of a link that used k numbers, and of what waits in it
   abbrev pub Follows : ℕ → Wait → List Entry → Type 0
   Follows k w [] = Unit
   Follows k w (e ∷ es) = Moved first max k w e × Follows (countAfter e k) (waitAfter e w) es
@@ -51,9 +51,9 @@ module _ (first max : ℕ) where
   followed small (c ∷ calls) k w e h =
       let m = moved first max k small w c e h in (m, followed small calls _ _ (m .after) (m .holds))
 
-  -- ---- the numbers given out
+  -- ---- the numbers used
 
-  -- the number that an entry gives out is the k-th
+  -- the number that an entry uses is the k-th
   in-turn : (k : ℕ) (w : Wait) (e : Entry) → Shown first k e w → accepted e ≡ true → numberIn e ≡ numberAt first k
   in-turn k Idle e t a = t a
   in-turn k (Waiting command number sent repeats) e t a = absurd (true≢false (sym a ∙ t .0))
@@ -71,7 +71,7 @@ module _ (first max : ℕ) where
 
   -- ---- a part of a log
 
-  -- what stands after a part of a log, before which t says whether a command waits
+  -- what stands after a part of a log; t is whether a command waits before it
   pub record Standing (k : ℕ) (t : Bool) (before rest : List Entry) : Type 0 where
     pub wait : Wait
     pub idle : waitsAfter t before ≡ false → wait ≡ Idle
@@ -87,7 +87,7 @@ module _ (first max : ℕ) where
       let count = one-more length (accepted e) k (numbersUsed before) (numberIn e ∷ numbersUsed before) refl in
       record { wait = b .wait; idle = b .idle; follows = rw count at (b .follows) }
 
-  -- ---- after an acceptance, until the wait ends
+  -- ---- after an accepted offer, until the wait ends
 
   -- what entries that do not end a wait leave of it
   pub record Waited (k command number sent repeats : ℕ) (during rest : List Entry) : Type 0 where
@@ -96,7 +96,7 @@ module _ (first max : ℕ) where
     pub alone : numbersUsed during ≡ []
     pub follows : Follows k (Waiting command number (lastSent sent during) (repeats + repeatsIn during)) rest
 
-  -- they leave so much
+  -- they leave it so
   pub waited : (k command number sent repeats : ℕ) (during rest : List Entry)
       → Ranges first max (Waiting command number sent repeats)
       → Follows k (Waiting command number sent repeats) (during ++ rest) → noneEnds during ≡ true

@@ -1,11 +1,21 @@
--- What a reader of this crate has to believe: what may be sent under which number, the clock,
--- the calls, and what holds of every list of calls.
+-- The specification of the link: PROTOCOL 9.
+
+-- Statements: what must be believed
 pub mod Sending
 pub mod Clock
 pub mod Table
-pub mod Calls
 pub mod Logs
 pub mod History
-pub mod Claims
+-- Model: what the contracts equate, held to the statements by claims
+pub mod Calls
+-- Claims: what is proved
+pub mod Answers
+pub mod Commands
+pub mod Numbers
+pub mod Times
 pub mod Ranges
-pub mod LogExact
+pub mod EachCall
+pub mod Refusals
+pub mod Entries
+pub mod Histories
+pub mod WorkedRuns

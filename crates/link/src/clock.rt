@@ -1,18 +1,17 @@
-// The clock: a 32-bit count of milliseconds that wraps.
-// No reading is compared with another here, only elapsed times with bounds.
+// The clock. No two readings are compared by size, only elapsed times with bounds: PROTOCOL 9.3.
 use super::HALF_CLOCK;
 use super::TIMEOUT_MS;
 ghost use mathlib.Core.Path.{_≡_};
 ghost use Rattle.link.specs.Clock.{elapsedOf, isDue};
 
-// Milliseconds from one reading to another, over a wrap too.
+// Milliseconds since an earlier reading, over a wrap too.
 pub fn elapsed(clock: u32, since: u32) -> u32
     ensures { λ r. ⌜ r ≡ elapsedOf clock since ⌝ }
 {
     std::num::wrapping_sub_u32(clock, since)
 }
 
-// Whether a tick at a reading is due after a sending at another.
+// Whether a tick is due, after a sending: PROTOCOL 9.4.
 pub fn is_due(clock: u32, sent: u32) -> bool
     ensures { λ r. ⌜ r ≡ isDue clock sent ⌝ }
 {

@@ -1,21 +1,20 @@
-// The sending rules of the serial link: one command waits at a time,
-// under a sequence number, and is sent again when its time is up.
+// The link: when the box sends a command, under which sequence number, when again, and when no more. PROTOCOL 9.
 mod clock;
 mod offers;
 mod receives;
 mod state;
 mod ticks;
 
-// The sequence number that a fresh link gives out first, and again after 255.
+// The sequence number of a fresh link's first command, and the next after 255: PROTOCOL 9.2.
 pub const FIRST_NUMBER: u8 = 1;
 
-// The most retransmissions of a command, after its first sending.
+// The repeats that a command gets at most, after its first sending: PROTOCOL 9.6.
 pub const MAX_REPEATS: u8 = 3;
 
-// Milliseconds from a sending until a tick is due.
+// Milliseconds from a sending until a tick is due: PROTOCOL 9.4.
 pub const TIMEOUT_MS: u32 = 200;
 
-// Half the clock's range: from here on an elapsed time is taken for a clock that went back.
+// Half the clock's range: an elapsed time from here on means a clock that was set back. PROTOCOL 9.4.
 pub const HALF_CLOCK: u32 = 0x8000_0000;
 
 pub use clock::elapsed;

@@ -1,4 +1,4 @@
-// A command offered for sending.
+// A command is offered for sending: PROTOCOL 9.10, 9.11, 9.13.
 use super::state::Link;
 use super::state::Wait;
 use super::state::following;
@@ -10,15 +10,15 @@ ghost use Rattle.link.specs.Sending.{firstNumber, maxRepeats};
 ghost use Rattle.link.specs.Table.{offerRowOf};
 ghost use Rattle.link.specs.Calls.{acceptOf, offerOf, offeredOf};
 
-// What an offer is answered.
+// The answer to an offer.
 pub enum OfferResult {
-    // The command waits, under this number.
+    // The command waits, under this sequence number.
     Accepted { number: u8 },
     // STATE 17: a field of the link is out of its range.
     State,
     // UNSENT 42: not a command that may wait.
     Unsent,
-    // BUSY 41: a command waits already.
+    // BUSY 41: another command still waits.
     Busy,
 }
 
@@ -27,14 +27,14 @@ pub struct Offered {
     pub link: Link,
 }
 
-// A refusal leaves the link as it was, and uses no number.
+// A refused offer uses no number: PROTOCOL 9.2.
 fn refused(answer: OfferResult, link: Link) -> Offered
     ensures { λ r. ⌜ offeredOf r ≡ outcome (offerRowOf answer) link ⌝ }
 {
     Offered { answer, link }
 }
 
-// An idle link takes the command under its next number.
+// An idle link accepts the command under its next number.
 fn accept(next: u8, command: u8, clock: u32) -> Offered
     ensures { λ r. ⌜ offeredOf r ≡ acceptOf firstNumber next command clock ⌝ }
 {

@@ -1,4 +1,4 @@
-// An answer that arrived.
+// A frame is received: it may be the module's reply to the command that waits. PROTOCOL 9.9, 9.12.
 use super::state::Link;
 use super::state::Wait;
 use super::state::idle;
@@ -7,13 +7,13 @@ ghost use mathlib.Core.Path.{_≡_};
 ghost use Rattle.link.specs.Sending.{firstNumber, maxRepeats, fitsOf};
 ghost use Rattle.link.specs.Calls.{receiveOf, receivedOf};
 
-// What the caller is told of an answer that arrived.
+// The answer to a received frame.
 pub enum ReceiveResult {
-    // It fits the waiting command, which has this number and waits no longer.
+    // It is the module's reply to this command, which waited under this number and waits no longer.
     Replied { command: u8, number: u8 },
     // STATE 17: a field of the link is out of its range.
     State,
-    // STRAY 43: nothing waits, or for another command or number.
+    // STRAY 43: the frame does not fit.
     Stray,
 }
 
@@ -22,7 +22,7 @@ pub struct Received {
     pub link: Link,
 }
 
-// Whether an answer's command and number are those that a command waits for.
+// Whether a received frame is the module's reply to what waits: its command is the next, its number the same.
 fn fits(command: u8, number: u8, waiting: u8, under: u8) -> bool
     ensures { λ r. ⌜ r ≡ fitsOf command number waiting under ⌝ }
 {
@@ -32,7 +32,7 @@ fn fits(command: u8, number: u8, waiting: u8, under: u8) -> bool
     false
 }
 
-// An answer of the module arrived, with its command and number.
+// A frame of the module was received, with this command and number; its payload is not looked at.
 pub fn receive(link: Link, command: u8, number: u8) -> Received
     ensures { λ r. ⌜ receivedOf r ≡ receiveOf firstNumber maxRepeats link command number ⌝ }
 {

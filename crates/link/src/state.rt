@@ -2,16 +2,16 @@
 use super::FIRST_NUMBER;
 use super::MAX_REPEATS;
 ghost use mathlib.Core.Path.{_≡_};
-ghost use Rattle.link.specs.Sending.{firstNumber, maxRepeats, mayWait, followingOf};
-ghost use Rattle.link.specs.Calls.{freshOf, inRange, idleOf};
+ghost use Rattle.link.specs.Sending.{firstNumber, maxRepeats, mayWait};
+ghost use Rattle.link.specs.Calls.{freshOf, inRange, idleOf, followingOf};
 
-// A link, for a box's life.
+// A link; a box has one for its whole life. PROTOCOL 9.14, 9.15.
 pub struct Link {
     pub next: u8,
     pub wait: Wait,
 }
 
-// The command that waits for its answer, with its number, the clock at its last sending and its repeats so far.
+// The command that waits for its reply, with its number, the clock at its last sending and its repeats so far.
 pub enum Wait {
     Idle,
     Waiting {
@@ -23,7 +23,7 @@ pub enum Wait {
 }
 
 impl Link {
-    // A fresh link.
+    // A fresh link: PROTOCOL 9.2.
     pub fn new() -> Self
         ensures { λ r. ⌜ r ≡ freshOf firstNumber ⌝ }
     {
@@ -34,7 +34,7 @@ impl Link {
     }
 }
 
-// Whether a command is one that the box sends and then waits for.
+// Whether a command is one of those that wait for a reply: PROTOCOL 9.1.
 pub(crate) fn may_wait(command: u8) -> bool
     ensures { λ r. ⌜ r ≡ mayWait command ⌝ }
 {
@@ -44,7 +44,7 @@ pub(crate) fn may_wait(command: u8) -> bool
     }
 }
 
-// The sequence number after another.
+// The sequence number that follows another: PROTOCOL 9.2.
 pub(crate) fn following(number: u8) -> u8
     ensures { λ r. ⌜ r ≡ followingOf firstNumber number ⌝ }
 {
@@ -64,7 +64,7 @@ pub(crate) fn idle(link: Link) -> Link
     }
 }
 
-// Whether each field is in its range.
+// Whether each field is in its range: PROTOCOL 9.15.
 pub(crate) fn in_range(link: Link) -> bool
     ensures { λ r. ⌜ r ≡ inRange firstNumber maxRepeats link ⌝ }
 {

@@ -1,4 +1,4 @@
-// A tick of the clock: by value, and in the record's own place.
+// A tick of the clock, by value or in place: PROTOCOL 9.4 to 9.8, 9.14.
 use super::MAX_REPEATS;
 use super::clock::is_due;
 use super::state::Link;
@@ -11,13 +11,13 @@ ghost use Rattle.link.specs.Sending.{firstNumber, maxRepeats};
 ghost use Rattle.link.specs.Table.{tickRowOf};
 ghost use Rattle.link.specs.Calls.{dueTickOf, tickOf, tickedOf};
 
-// What a tick is answered.
+// The answer to a tick.
 pub enum TickResult {
     // Nothing to do.
     Nothing,
     // Send the command again, under the same number.
     Again { command: u8, number: u8 },
-    // The command was sent again as often as may be, and waits no longer.
+    // The command had all its repeats, and waits no longer.
     GivenUp { command: u8, number: u8 },
     // STATE 17: a field of the link is out of its range.
     State,
@@ -28,7 +28,7 @@ pub struct Ticked {
     pub link: Link,
 }
 
-// A due tick of a command that was sent again so many times.
+// A due tick of a command with so many repeats: PROTOCOL 9.6, 9.7.
 fn due_tick(link: Link, command: u8, number: u8, repeats: u8, clock: u32) -> Ticked
     ensures { λ r. ⌜ tickedOf r ≡ dueTickOf maxRepeats link command number repeats clock ⌝ }
 {
@@ -52,7 +52,7 @@ fn due_tick(link: Link, command: u8, number: u8, repeats: u8, clock: u32) -> Tic
     }
 }
 
-// A tick of a link that is given and returned by value; a box that holds its link in one place calls `tick`.
+// A tick of a link that is passed and returned by value; a box that holds its link in one place calls `tick`.
 pub fn tick_by_value(link: Link, clock: u32) -> Ticked
     ensures { λ r. ⌜ tickedOf r ≡ tickOf firstNumber maxRepeats link clock ⌝ }
 {
@@ -85,7 +85,7 @@ pub fn tick_by_value(link: Link, clock: u32) -> Ticked
     }
 }
 
-// A tick that alters the link in its own place, for a box that holds one link for its life.
+// A tick that changes the link in place: PROTOCOL 9.14.
 pub fn tick(link: &mut Link, clock: u32) -> TickResult
     ensures { λ r. ⌜ outcome (tickRowOf r) (now (link .exit))
         ≡ tickOf firstNumber maxRepeats (now (link .entry)) clock ⌝ }

@@ -1,26 +1,26 @@
-// The bytes as they come: the lines of each read are written before the next.
+// The bytes as they come: the lines of each read are written before the next read. PROTOCOL 10.7.
+use super::failure::keep_going;
 use super::output::close;
 use super::output::write_first;
-use super::trouble::keep_going;
 use frame::Reader;
 use libc::EIO;
 use libc::STDERR_FILENO;
 use libc::STDIN_FILENO;
 
-// The reader after some bytes, whether to go on, and whether the listing is whole.
+// The reader after some bytes, whether to continue, and whether the listing is whole.
 struct Turn {
     reader: Reader,
     keep_going: bool,
     is_whole: bool,
 }
 
-// A call that uses no byte would come again for ever; none does unless more than 2^62 bytes come in all.
+// A call that uses no byte would be made again for ever; this happens only where more than 2^62 bytes come in all.
 fn give_up() -> bool {
     io::write_all(STDERR_FILENO, b"standard input: too many bytes\n");
     false
 }
 
-// Lists some bytes: in one call, unless their lines are more than the output holds.
+// Lists some bytes, in one call unless their lines are more than the buffer holds.
 fn list_all(reader: Reader, bytes: &[u8], out: &mut [u8]) -> Turn {
     let mut next = reader;
     let mut at = 0;
@@ -51,7 +51,8 @@ fn heading(out: &mut [u8]) -> bool {
     write_first(out, count)
 }
 
-// The last line, behind which nothing is written. Without one, which no fed reader leaves, the listing is not whole.
+// The last line, after which nothing is written. A reader that began fresh always has one; without it the listing is
+// not whole.
 fn last(reader: Reader, out: &mut [u8]) -> bool {
     let finished = frame::finish(reader);
     let answer = finished.answer;
@@ -74,7 +75,7 @@ fn end(reader: Reader, out: &mut [u8]) -> Turn {
     }
 }
 
-// A read that failed. A serial line that is hung up fails with EIO where it might as well end, and is taken to end.
+// A read that failed. A terminal that is hung up fails with EIO, and this counts as its end: PROTOCOL 10.7.
 fn broken(reader: Reader, is_line: bool, out: &mut [u8]) -> Turn {
     if is_line {
         if os::errno() == EIO {
@@ -88,7 +89,7 @@ fn broken(reader: Reader, is_line: bool, out: &mut [u8]) -> Turn {
     }
 }
 
-// One read, whatever it gives.
+// One read, and the lines of what it returns.
 fn one_read(reader: Reader, is_line: bool, input: &mut [u8], out: &mut [u8]) -> Turn {
     let got = libc::read(STDIN_FILENO, input);
     if got < 0 {
@@ -101,8 +102,8 @@ fn one_read(reader: Reader, is_line: bool, input: &mut [u8], out: &mut [u8]) -> 
     list_all(reader, &input[..n], out)
 }
 
-// Whether the listing was written whole. Nothing says that the input ends, and a proved loop must: it counts its turns
-// down from a number that no run uses up.
+// Whether the listing was written whole. A proved loop must end, and nothing says that the input does: so the turns are
+// counted down from a number that no run uses up.
 pub(crate) fn list(input: &mut [u8], out: &mut [u8]) -> bool {
     if !heading(out) {
         return false;

@@ -1,12 +1,12 @@
-// Lists standard input on standard output, line by line as its bytes come.
+// The program of the listing: lists standard input on standard output, line by line as its bytes come. PROTOCOL 10.
+mod failure;
 mod live;
 mod output;
-mod trouble;
 
 use libc::STDERR_FILENO;
 
-// A program of Rattle cannot choose its exit status. So one that is given a word, any word, marks the whole listing on
-// standard error: what ends without the mark ended early.
+// A program of Rattle cannot choose its exit status. So with an argument, whatever it is, the program marks a whole
+// listing on standard error: a run that ends without the mark ended early.
 fn main() {
     let mut input = io::large_buffer();
     let mut out = io::large_buffer();

@@ -1,17 +1,17 @@
 // Standard output: all of some bytes, or one line on standard error that says why not.
-use super::trouble::keep_going;
+use super::failure::keep_going;
 use libc::STDERR_FILENO;
 use libc::STDOUT_FILENO;
 ghost use Prim.Native.Nat.{_≤_};
 ghost use lib.ListN.{length};
 
-// How many bytes a call took, and whether to go on.
+// How many bytes a call wrote, and whether to continue.
 struct Step {
     count: usize,
     keep_going: bool,
 }
 
-// No device should take nothing and call it a success; one that does would be asked for ever.
+// No device should write nothing and report success; with one that does, the loop would never end.
 fn stuck() -> bool {
     io::write_all(STDERR_FILENO, b"standard output: takes no byte\n");
     false
@@ -39,7 +39,8 @@ fn write_some(bytes: &[u8]) -> Step
     }
 }
 
-// However many calls it takes; they are counted down from a number that no run uses up, since a proved loop must end.
+// Writes all bytes, in as many calls as needed. A proved loop must end: so the calls are counted down from a number
+// that no run uses up.
 fn write_whole(bytes: &[u8]) -> bool {
     let mut at = 0;
     let mut turns = u64::MAX;
@@ -65,7 +66,7 @@ pub(crate) fn write_first(out: &[u8], count: usize) -> bool {
     write_whole(&out[..count])
 }
 
-// Some file systems tell of a failed write only here.
+// Some file systems report a failed write only here.
 pub(crate) fn close() -> bool {
     if libc::close(STDOUT_FILENO) == 0 {
         return true;

@@ -8,7 +8,7 @@ use native.Mathlib.Omega.{arith}
 use borrow.Author.Tests.{lt-ltb, le-ltb, ltb-true, ltb-false}
 use lib.ListN.{length, length-append}
 use lib.Dec.{ltb}
-use Rattle.listing.specs.Decimal.{digit, digitsIn, decimalOf}
+use Rattle.listing.specs.Digits.{digit, digitsIn, decimalOf}
 
 -- one digit or more
 pub by-size : (n : ℕ) (P : Type 0) → (n ≤ 9 → P) → (9 < n → P) → P

@@ -1,10 +1,13 @@
--- The laws of digits, columns, stores, the loop over bytes and listings.
+-- The laws; each file of claims in specs/ has its theorems in the file of its name here, and `each-listed` in
+-- DecisionTexts.
 pub mod Digits
+pub mod Decimals
 pub mod Puts
-pub mod Values
-pub mod Claims
-pub mod Loops
-pub mod LoopClaims
-pub mod Turns
-pub mod Listed
-pub mod Whole
+pub mod LineTexts
+pub mod LineCalls
+pub mod LoopLaws
+pub mod LoopRuns
+pub mod DecisionTexts
+pub mod WholeListing
+pub mod TurnListings
+pub mod WorkedListings

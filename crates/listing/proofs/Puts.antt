@@ -11,12 +11,13 @@ use borrow.Author.Tests.{lt-ltb, le-ltb}
 use Rattle.base.specs.Rows.{Row, row}
 use Rattle.base.specs.Outcomes.{Output, output, placed, writtenIn}
 use Rattle.base.proofs.Stores.{sets-append, sets-front}
-use Rattle.listing.specs.Decimal.{digit, decimalOf, columnsOf}
+use Rattle.listing.specs.Digits.{digit, decimalOf}
+use Rattle.listing.specs.Lines.{columnsOf}
 use Rattle.listing.proofs.Digits.{decimal-last, decimal-more, count-last, count-more}
 
 -- ---- from the back
 
--- a store behind a run of stores may come before it
+-- a store after a run of stores may come before it
 set-after : (vs l : List ℕ) (i j v : ℕ) → i + length vs ≤ j → sets (set l j v) i vs ≡ set (sets l i vs) j v
 set-after [] l i j v h = refl
 set-after (a ∷ vs) l i j v h =
@@ -38,7 +39,7 @@ module _ (out : List ℕ) (at n i : ℕ) (e : i + 1 ≡ at + length (decimalOf n
       let place : i ≡ at = omega (arith, count-last n h) in
       rw (place, decimal-last n h)
 
--- ---- a text at the front of an output
+-- ---- a text at the front of a buffer
 
 module _ (text out : List ℕ) where
   pub too-long : length out < length text → output (row 22 (0 ∷ [])) out ≡ placed text out
@@ -50,11 +51,11 @@ module _ (text out : List ℕ) where
 pub nothing-put : (out : List ℕ) → output (row 0 (0 ∷ [])) out ≡ placed [] out
 nothing-put out = fitting [] out (omega arith)
 
--- ---- a text put in the part of an output that begins at a place: `after` is that part afterwards
+-- ---- a text put in the part of a buffer that begins at a place: `after` is that part then
 
 module _ (text out : List ℕ) (at : ℕ) (fits : at + length text ≤ length out) {r : Row} {after : List ℕ}
     (put : output r after ≡ placed text (take (length out - at) (drop at out))) where
-  -- the part is all that is left of the output, and has room
+  -- the part is all that is left of the buffer, and has room
   part-fits : output r after ≡ output (row 0 (length text ∷ [])) (text ++ drop (at + length text) out)
   part-fits =
       let left : length (drop at out) ≡ length out - at = length-drop at out in
@@ -73,7 +74,7 @@ module _ (text out : List ℕ) (at : ℕ) (fits : at + length text ≤ length ou
       let part : after ≡ text ++ drop (at + length text) out = ap (λ (w : Output). w .out) part-fits in
       rw (part, drop-of-length-le (drop at out) left, append-nil, sets-eq text out at fits, append-assoc)
 
--- ---- from the front: bytes from the i-th on, put at their place behind at
+-- ---- from the front: bytes from the i-th on, put at their places from `at` on
 
 module _ (bytes out : List ℕ) (at : ℕ) where
   pub put-first : sets out (at + 0) (drop 0 bytes) ≡ sets out at bytes
@@ -100,7 +101,7 @@ module _ (l : List ℕ) (i : ℕ) (h : i < length l) where
       + length (columnsOf (drop (i + 1) l))
   columns-count = rw (columns-left, length-append) (omega arith)
 
-  -- what is put: the space, the number, and the others behind it
+  -- what is put: the space, the number, and the others after it
   pub columns-put : (out : List ℕ) (next : ℕ)
       → sets (sets (set out next 32) (next + 1) (decimalOf (getD l i 0))) (next + 1 + length (decimalOf (getD l i 0)))
       (columnsOf (drop (i + 1) l))

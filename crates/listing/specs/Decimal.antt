@@ -1,23 +1,22 @@
--- Numbers as decimal text: the "decimal numbers" of paper 01's listing.
-use Prim.Native.Nat.{ℕ, zero, suc, _+_, _/_, _%_}
-use mathlib.Core.Bool.{cond}
-use mathlib.Core.List.{List, [], _∷_, _++_}
-use lib.Dec.{ltb}
+-- Statement: what the decimal text of a number is. PROTOCOL 10.3.
+use Prim.Native.Nat.{ℕ, _+_, _*_, _-_, _≤_, _<_}
+use mathlib.Core.Path.{_≡_}
+use mathlib.Core.List.{List, [], _∷_, List·Memᴰ}
+use lib.ListN.{length, getD}
 
--- a digit below 10 in ASCII
-abbrev pub digit : ℕ → ℕ
-digit d = 48 + d
+-- a text of digits, read from the left on
+unfoldable pub valueFrom : ℕ → List ℕ → ℕ
+valueFrom n [] = n
+valueFrom n (d ∷ ds) = valueFrom (10 * n + (d - 48)) ds
 
--- the last digits of n, the most significant first: all of them, where so many are enough
-unfoldable pub digitsIn : ℕ → ℕ → List ℕ
-digitsIn zero n = []
-digitsIn (suc k) n = cond (ltb n 10) [] (digitsIn k (n / 10)) ++ digit (n % 10) ∷ []
+-- each byte is an ASCII digit
+pub record IsDigit (d : ℕ) : Type 0 where
+  pub from : 48 ≤ d
+  pub to : d ≤ 57
 
--- the digits of n: no number has more digits than it counts, and 0 has one
-unfoldable pub decimalOf : ℕ → List ℕ
-decimalOf n = digitsIn (suc n) n
-
--- numbers as columns of a line: each behind one space
-unfoldable pub columnsOf : List ℕ → List ℕ
-columnsOf [] = []
-columnsOf (n ∷ l) = 32 ∷ (decimalOf n ++ columnsOf l)
+-- the text reads as n, has digits alone, at least one, and no leading zero
+pub record DecimalText (n : ℕ) (text : List ℕ) : Type 0 where
+  pub value : valueFrom 0 text ≡ n
+  pub digits : (d : ℕ) → List·Memᴰ d text → IsDigit d
+  pub some : 1 ≤ length text
+  pub shortest : 1 < length text → 49 ≤ getD text 0 0

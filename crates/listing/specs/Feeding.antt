@@ -1,5 +1,5 @@
--- The desk's loop over bytes: they are fed, the line of each answer stands behind those before it, and what an answer
--- did not take is fed again.
+-- Model: the loop that feeds bytes and makes lines, held to what lists of calls gave by loop-lists and left-whole.
+-- What a feed leaves is fed again, and the line of each answer follows the previous ones. PROTOCOL 10.9, 10.10.
 use Prim.Native.Nat.{ℕ, zero, suc, _+_, _-_}
 use mathlib.Core.Bool.{Bool, cond, _||_}
 use mathlib.Core.List.{List, [], _++_}
@@ -10,19 +10,10 @@ use Rattle.frame.specs.Table.{countOf}
 use Rattle.frame.specs.State.{State, stateOf}
 use Rattle.frame.specs.Calls.{feedOf}
 use Rattle.listing.specs.Lines.{answerText, lineRoom}
+use Rattle.listing.specs.Table.{stopOf}
 use Rattle.listing.specs.declared.feeding.Listed.{Listed}
-use Rattle.listing.specs.declared.feeding.Stop.{Stop}
-use Rattle.listing.specs.declared.feeding.Stop.the-variants as stop
 
--- why a loop stopped, by the table's numbers: 0 all bytes are used, 22 the output might have no room for the next line,
--- 17 and 18 as the reader answered
-abbrev pub stopOf : Stop → ℕ
-stopOf stop.Done = 0
-stopOf stop.Room = 22
-stopOf stop.State = 17
-stopOf stop.Used = 18
-
--- what a loop does: the state that it leaves, the bytes that it used, their lines, and why it stopped
+-- what a loop does: the state that it leaves, the bytes that it used, their lines, and the number of its stop
 pub record Run : Type 0 where
   pub state : State
   pub used : ℕ
@@ -33,24 +24,24 @@ pub record Run : Type 0 where
 abbrev pub stopped : State → ℕ → Run
 stopped r number = record { state = r; used = 0; text = []; stop = number }
 
--- the output might have no room for the next line: ROOM
+-- the buffer might lack room for the next line
 abbrev pub full : State → Run
 full r = stopped r 22
 
--- an answer took bytes and has a line, and the loop goes on
+-- an answer consumed bytes and has a line, and the loop continues
 abbrev pub onward : ℕ → List ℕ → Run → Run
 onward count line run =
     record { state = run .state; used = count + run .used; text = line ++ run .text; stop = run .stop }
 
--- STATE and USED take nothing, and would come again for ever
+-- STATE and USED consume nothing, and would be given again for ever
 abbrev pub refuses : ℕ → Bool
 refuses number = eqb number 17 || eqb number 18
 
--- the line of what a call is answered, and of the body that the reader then holds
+-- the line of a feed: of its answer, and of the body that the reader then holds
 abbrev pub lineAfter : List ℕ → Outcome State → List ℕ
 lineAfter prefix y = answerText prefix (y .row) (y .state .body)
 
--- in at most n calls, each of what is left, with so much room left
+-- at most n feeds, each of what is left, with so much room left
 unfoldable pub listIn : ℕ → List ℕ → ℕ → State → List ℕ → ℕ → Run
 listIn limit prefix zero r bytes room = stopped r 0
 listIn limit prefix (suc n) r bytes room =
@@ -62,18 +53,17 @@ listIn limit prefix (suc n) r bytes room =
     (listIn limit prefix n (feedOf limit r bytes .state) (drop (countOf (feedOf limit r bytes .row)) bytes)
     (room - length (lineAfter prefix (feedOf limit r bytes)))))))
 
--- as many calls as there are bytes are enough: each takes one at least
+-- as many feeds as there are bytes are enough: each consumes one at least
 abbrev pub loopOf : ℕ → List ℕ → State → List ℕ → ℕ → Run
 loopOf limit prefix r bytes room = listIn limit prefix (length bytes) r bytes room
 
--- "17 comes before all others": an empty call is made first, so that a reader out of range is answered STATE with no
--- room and no bytes, too
+-- a feed with no data comes first, so that a reader out of range stops it even with no room and no bytes
 abbrev pub listOf : ℕ → List ℕ → State → List ℕ → ℕ → Run
 listOf limit prefix r bytes room =
     cond (refuses (feedOf limit r [] .row .number)) (stopped r (feedOf limit r [] .row .number))
     (loopOf limit prefix r bytes room)
 
--- what a call of the loop returns and leaves, with the output afterwards
+-- what a call of the loop returns, and the buffer after it
 pub record Left : Type 0 where
   pub state : State
   pub used : ℕ
@@ -81,7 +71,7 @@ pub record Left : Type 0 where
   pub stop : ℕ
   pub out : List ℕ
 
--- the same of what the code returns
+-- by what the code returns
 abbrev pub leftOf : Listed → List ℕ → Left
 leftOf l after =
     record {
@@ -92,7 +82,7 @@ leftOf l after =
       out = after;
     }
 
--- the lines stand at the front of the output, whose rest stays
+-- by the run: the lines are at the front of the buffer, whose rest stays
 abbrev pub leftBy : Run → List ℕ → Left
 leftBy run out =
     record {

@@ -1,4 +1,4 @@
--- Paper 01, "The listing program": the heading, the line of each answer, and the last line.
+-- Statement: the heading, the line of each answer, and the last line. PROTOCOL 10.1 to 10.6, 10.8, 10.9.
 use Prim.Native.Nat.{ℕ}
 use Prim.Native.Char.{code}
 use Prim.Native.String.{String, [] as []ˢ, _∷_ as _∷ˢ_}
@@ -8,18 +8,23 @@ use lib.ListN.{length, getD}
 use lib.Dec.{eqb}
 use Rattle.frame.specs.Wire.{commandOf, numberOf, flagsOf, payloadOf}
 use Rattle.base.specs.Rows.{Row}
-use Rattle.listing.specs.Decimal.{columnsOf}
+use Rattle.listing.specs.Digits.{decimalOf}
 
 -- a text's bytes, in ASCII: every character here is below 128
 abbrev pub ascii : String → List ℕ
 ascii []ˢ = []
 ascii (c ∷ˢ s) = code c ∷ ascii s
 
--- a line: what stands before its word, which is nothing in paper 01's listing, the word, decimal numbers, and the rest
+-- numbers as columns, each after one space: PROTOCOL 10.3
+unfoldable pub columnsOf : List ℕ → List ℕ
+columnsOf [] = []
+columnsOf (n ∷ l) = 32 ∷ (decimalOf n ++ columnsOf l)
+
+-- a line: a text of the caller's (PROTOCOL 10.8), the word, numbers as columns, and the rest
 abbrev pub textOf : List ℕ → List ℕ → List ℕ → List ℕ → List ℕ
 textOf prefix word numbers rest = prefix ++ (word ++ (columnsOf numbers ++ rest))
 
--- "kind start end cmd sn flags payload"
+-- PROTOCOL 10.2
 abbrev pub headingText : List ℕ → List ℕ
 headingText prefix = textOf prefix (ascii "kind start end cmd sn flags payload\n") [] []
 
@@ -27,27 +32,27 @@ headingText prefix = textOf prefix (ascii "kind start end cmd sn flags payload\n
 abbrev pub placesAt : ℕ → ℕ → List ℕ
 placesAt start end = start ∷ end ∷ []
 
--- they stand behind the count in a row's values
+-- they follow the count in a row's values
 abbrev pub placesOf : Row → List ℕ
 placesOf r = placesAt (getD (r .values) 1 0) (getD (r .values) 2 0)
 
--- cmd, sn and flags; "the last column is the payload's size"
+-- the columns of a body: PROTOCOL 10.4
 abbrev pub bodyColumns : List ℕ → List ℕ
 bodyColumns body = commandOf body ∷ numberOf body ∷ flagsOf body ∷ length (payloadOf body) ∷ []
 
--- FRAME: its places, and what its body says
+-- FRAME: PROTOCOL 10.4
 abbrev pub frameText : List ℕ → Row → List ℕ → List ℕ
 frameText prefix r body = textOf prefix (ascii "frame") (placesOf r ++ bodyColumns body) (ascii "\n")
 
--- the columns that a refused frame does not have
+-- the columns that a refused frame lacks
 abbrev pub dashes : List ℕ
 dashes = ascii " - - - -\n"
 
--- "Refused frames print their name in small letters and four dashes"
+-- a refused frame: PROTOCOL 10.5
 abbrev pub refusedText : List ℕ → String → Row → List ℕ
 refusedText prefix name r = textOf prefix (ascii name) (placesOf r) dashes
 
--- the line of an answer, by the table's numbers. Paper 01 names no line for MORE, STATE and USED, and they have none
+-- the line of an answer, by its number; MORE, STATE and USED have none: PROTOCOL 10.1
 abbrev pub answerText : List ℕ → Row → List ℕ → List ℕ
 answerText prefix r body =
     cond (eqb (r .number) 1) (frameText prefix r body)
@@ -57,11 +62,11 @@ answerText prefix r body =
     (cond (eqb (r .number) 14) (refusedText prefix "cut" r)
     (cond (eqb (r .number) 15) (refusedText prefix "sum" r) [])))))
 
--- no line has more bytes from its word on (claim `longest`), so an output with room for so many has room for any
+-- no line has more bytes from its word on, which the claim `longest` says: PROTOCOL 10.9
 abbrev pub lineRoom : ℕ
 lineRoom = 132
 
--- "the last line is `clean` with the bytes taken, or `open` with the start". STATE has none, as paper 01 names none
+-- the last line; STATE has none: PROTOCOL 10.6
 abbrev pub lastOf : List ℕ → Row → List ℕ
 lastOf prefix r =
     cond (eqb (r .number) 2) (textOf prefix (ascii "clean") (getD (r .values) 0 0 ∷ []) (ascii "\n"))

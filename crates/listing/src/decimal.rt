@@ -1,9 +1,9 @@
-// A number as decimal text.
+// A number as decimal text: PROTOCOL 10.3.
 ghost use mathlib.Core.Path.{_≡_};
 ghost use Prim.Native.Nat.{_+_, _≤_};
 ghost use lib.ListN.{length};
 ghost use Rattle.base.specs.Stores.{PutAt};
-ghost use Rattle.listing.specs.Decimal.{decimalOf};
+ghost use Rattle.listing.specs.Digits.{decimalOf};
 
 // How many digits a number has.
 pub(crate) fn width(n: u64) -> usize
@@ -18,7 +18,7 @@ pub(crate) fn width(n: u64) -> usize
     count
 }
 
-// A number's digits at a place of the output, from the last to the first; the place behind them.
+// Puts a number's digits from a place of the buffer on, the last one first; returns the place that follows them.
 pub(crate) fn put_decimal(out: &mut [u8], at: usize, n: u64) -> usize
     requires { ⌜ at + length (decimalOf n) ≤ length (now out) ⌝ }
     ensures { λ r. ⌜ PutAt (now (out .entry)) at (decimalOf n) r (now (out .exit)) ⌝ }

@@ -1,4 +1,5 @@
-// The desk's loop over bytes: each answer's line is put behind those before it, until the bytes or the room end.
+// The loop over bytes: each answer's line follows the previous ones, until the bytes or the room end.
+// PROTOCOL 10.9, 10.10.
 use super::lines::answer_line;
 use frame::FeedResult;
 use frame::Reader;
@@ -11,12 +12,13 @@ ghost use Rattle.frame.specs.Wire.{frameLimit};
 ghost use Rattle.frame.specs.State.{stateOf};
 ghost use Rattle.frame.specs.Table.{rowOf};
 ghost use Rattle.listing.specs.Lines.{answerText, lineRoom};
-ghost use Rattle.listing.specs.Feeding.{stopOf, refuses, loopOf, listOf, leftOf, leftBy};
+ghost use Rattle.listing.specs.Table.{stopOf};
+ghost use Rattle.listing.specs.Feeding.{refuses, loopOf, listOf, leftOf, leftBy};
 
-// No answer's line has more bytes behind what stands before its word.
+// No answer's line has more bytes from its word on: PROTOCOL 10.9.
 const LINE_ROOM: usize = 132;
 
-// Why a loop stopped: all bytes are used, the next line might have no room, or the reader refuses them.
+// Why a loop stopped: all bytes are used, the next line might lack room, or the reader refuses them.
 pub enum Stop {
     Done,
     Room,
@@ -24,7 +26,7 @@ pub enum Stop {
     Used,
 }
 
-// The reader afterwards, the bytes used, the bytes of text at the front of the output, and why no more.
+// The reader afterwards, the bytes used, the bytes of text at the front of the buffer, and why the loop stopped.
 pub struct Listed {
     pub reader: Reader,
     pub used: usize,
@@ -32,7 +34,7 @@ pub struct Listed {
     pub stop: Stop,
 }
 
-// Whether the reader refuses the call, and would refuse it again.
+// Whether the reader refuses the feed, and would refuse it again.
 fn is_refusal(answer: FeedResult) -> bool
     ensures { λ r. ⌜ r ≡ refuses (rowOf answer .number) ⌝ }
 {
@@ -49,7 +51,7 @@ fn is_refusal(answer: FeedResult) -> bool
     }
 }
 
-// Why a loop stops at a refusal; other answers do not stop one.
+// Why a loop stops at a refusal; no other answer stops one.
 fn refusal(answer: FeedResult) -> Stop
     ensures { λ r. ⌜ (refuses (rowOf answer .number) ≡ true → stopOf r ≡ rowOf answer .number) ⌝ }
 {
@@ -66,7 +68,7 @@ fn refusal(answer: FeedResult) -> Stop
     }
 }
 
-// The line of an answer at a place of the output that has room for it; the place behind it.
+// Puts the line of an answer at a place of the buffer that has room for it; returns the place that follows it.
 fn add_line(answer: FeedResult, prefix: &[u8], body: &[u8], out: &mut [u8], at: usize) -> usize
     requires { ⌜ at + length (now prefix) + lineRoom ≤ length (now out) ⌝ }
     ensures { λ r. ⌜ PutAt (now (out .entry)) at
@@ -108,9 +110,9 @@ fn feed_all(reader: Reader, prefix: &[u8], bytes: &[u8], out: &mut [u8]) -> List
     }
 }
 
-// Feeds bytes and puts the line of each answer. Where it stops for room, the caller writes the text out and calls again
-// with the bytes that are left: room is asked before the bytes are fed, so that no answer is lost. A reader that
-// is out of range is refused before all else.
+// Feeds bytes and puts the line of each answer. Where it stops for room, the caller writes the text and calls again
+// with the bytes that are left. Room is tested before a feed, so that no answer is lost. The feed with no data at the
+// beginning finds a reader that is out of range, even where there are no bytes.
 pub fn list(reader: Reader, prefix: &[u8], bytes: &[u8], out: &mut [u8]) -> Listed
     ensures { λ r. ⌜ leftOf r (now (out .exit)) ≡ leftBy (listOf frameLimit (now (prefix .entry)) (stateOf reader)
         (now (bytes .entry)) (length (now (out .entry)))) (now (out .entry)) ⌝ }

@@ -1,4 +1,4 @@
-// Lines of text for the desk, made at the front of lent buffers, and the loop that lists bytes.
+// The listing: lines of text, made at the front of the caller's buffer, and the loop that lists bytes. PROTOCOL 10.
 mod decimal;
 mod feeding;
 mod lines;

@@ -1,5 +1,5 @@
-// The listing's lines: the heading, the line of each answer, and the last line.
-// `before` stands before the word of each; what has no line puts nothing.
+// The heading, the line of each answer, and the last line: PROTOCOL 10.1 to 10.6.
+// The caller's `prefix` precedes the word of each (PROTOCOL 10.8); an answer without a line puts nothing.
 use super::text::LineResult;
 use super::text::put_line;
 use frame::FeedResult;
@@ -10,8 +10,8 @@ ghost use mathlib.Core.List.{_++_};
 ghost use Prim.Native.Nat.{_+_, _≤_};
 ghost use lib.ListN.{length};
 ghost use Rattle.frame.specs.Table.{rowOf, finishRowOf, decidedRow};
-ghost use Rattle.listing.specs.Lines.{ascii, textOf, headingText, placesAt, bodyColumns, dashes};
-ghost use Rattle.listing.specs.Lines.{answerText, lineRoom, lastOf};
+ghost use Rattle.listing.specs.Lines.{ascii, textOf, headingText, placesAt, bodyColumns, dashes, answerText};
+ghost use Rattle.listing.specs.Lines.{lineRoom, lastOf};
 ghost use Rattle.listing.specs.Table.{Puts};
 
 // The heading.
@@ -90,7 +90,7 @@ fn decided_line(
     }
 }
 
-// The line of an answer, and how long it can be; MORE, STATE and USED have none.
+// The line of an answer, with a bound of its length; MORE, STATE and USED have none.
 pub(crate) fn answer_line(
     answer: FeedResult,
     prefix: &[u8],
@@ -115,8 +115,8 @@ pub(crate) fn answer_line(
     }
 }
 
-// The line of what the reader said, and of the body that it holds.
-// Of another body than the one held the contract still says what is listed; paper 01 leaves that free.
+// The line of the reader's answer, and of the body that it holds.
+// A body that does not belong to the answer is treated as if it did: PROTOCOL 12.5.
 pub fn line(answer: FeedResult, prefix: &[u8], body: &[u8], out: &mut [u8]) -> LineResult
     ensures { λ r. ⌜ Puts r (now (out .exit))
         (answerText (now (prefix .entry)) (rowOf answer) (now (body .entry))) (now (out .entry)) ⌝ }

@@ -1,4 +1,4 @@
-// A line's text: what stands before the word, the word, decimal numbers and the line's rest, one behind the other.
+// A line's text: the caller's prefix, the word, decimal numbers and the line's rest, in this order.
 use super::decimal::put_decimal;
 use super::decimal::width;
 ghost use mathlib.Core.Path.{_≡_};
@@ -6,11 +6,10 @@ ghost use Prim.Native.Nat.{_+_, _*_, _≤_};
 ghost use lib.ListN.{length};
 ghost use Rattle.base.specs.Stores.{PutAt};
 ghost use Rattle.base.specs.Outcomes.{writtenIn};
-ghost use Rattle.listing.specs.Decimal.{columnsOf};
-ghost use Rattle.listing.specs.Lines.{textOf};
+ghost use Rattle.listing.specs.Lines.{columnsOf, textOf};
 ghost use Rattle.listing.specs.Table.{lineRowOf, Puts};
 
-// What a text to be put at the front of an output is answered.
+// The answer of a call that puts a text at the front of the buffer: PROTOCOL 10.8.
 pub enum LineResult {
     Wrote { count: usize },
     Room,
@@ -42,7 +41,7 @@ fn columns_width(numbers: &[u64]) -> usize
     count
 }
 
-// Numbers as columns at a place of the output; the place behind them.
+// Puts numbers as columns from a place of the buffer on; returns the place that follows them.
 fn put_columns(out: &mut [u8], at: usize, numbers: &[u64]) -> usize
     requires { ⌜ at + length (columnsOf (now numbers)) ≤ length (now out) ⌝ }
     ensures { λ r. ⌜ PutAt (now (out .entry)) at (columnsOf (now (numbers .entry))) r (now (out .exit)) ⌝ }
@@ -57,7 +56,7 @@ fn put_columns(out: &mut [u8], at: usize, numbers: &[u64]) -> usize
     next
 }
 
-// Bytes at a place of the output; the place behind them.
+// Puts bytes from a place of the buffer on; returns the place that follows them.
 fn put_bytes(out: &mut [u8], at: usize, bytes: &[u8]) -> usize
     requires { ⌜ at + length (now bytes) ≤ length (now out) ⌝ }
     ensures { λ r. ⌜ PutAt (now (out .entry)) at (now (bytes .entry)) r (now (out .exit)) ⌝ }
@@ -70,7 +69,7 @@ fn put_bytes(out: &mut [u8], at: usize, bytes: &[u8]) -> usize
     at + i
 }
 
-// A line at the front of the output, or refused with the output as it was.
+// Puts a line at the front of the buffer, or refuses and leaves the buffer as it was.
 pub(crate) fn put_line(
     prefix: &[u8],
     word: &[u8],

@@ -1,14 +1,14 @@
-// Plays standard input, record by record, on one reader, one link, the writer and the message calls, for tests.
-mod frames;
-mod links;
-mod made;
-mod messages;
-mod place;
-mod play;
-mod stream;
+// A driver for tests: plays standard input, record by record, on one reader, one link, the writer and the messages.
+mod frame_records;
+mod in_place;
+mod link_records;
+mod message_lines;
+mod message_records;
+mod records;
+mod stream_records;
 mod text;
 
 fn main() {
     let mut data = io::buffer();
-    play::records(&mut data);
+    records::play(&mut data);
 }

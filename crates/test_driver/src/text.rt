@@ -1,11 +1,11 @@
-// Words, numbers and bytes on standard output. Each call tells whether all of it was written.
+// Words, numbers and bytes on standard output. Each call returns whether all of it was written.
 use libc::STDOUT_FILENO;
 
 pub(crate) fn text(t: &[u8]) -> bool {
     io::write_all(STDOUT_FILENO, t)
 }
 
-// Each number behind a space.
+// Each number after a space.
 fn numbers(n: &[u64]) -> bool {
     let mut i = 0;
     while i < n.len() {
@@ -28,7 +28,7 @@ fn digit(d: u8) -> u8 {
     87 + d % 16
 }
 
-// Bytes behind a colon, each as two digits behind a space; in one piece, since each piece is a call of the system.
+// A colon and bytes, each as two digits after a space; in one piece, since each piece is a call of the system.
 pub(crate) fn bytes(b: &[u8]) -> bool {
     let mut line = [32u8; 6300];
     let mut i = 0;

@@ -1,4 +1,4 @@
--- `offers::offer` tests 17, 42 and 41, in this order.
+-- `offers::offer` tests STATE, UNSENT and BUSY, in this order.
 use borrow.Author.Needs.{needs}
 use Prim.Native.Nat.{ℕ}
 use mathlib.Core.Path.{_≡_, _∙_}
@@ -11,10 +11,10 @@ use Rattle.base.proofs.Tests.{past, caught}
 use Rattle.link.proofs.offers.offer.Statement.{statement}
 use Rattle.link.proofs.offers.offer.Tie as tie
 
--- an idle link in range takes a command that may be sent
-taken : (l : Link) (command clock : ℕ) → inRange firstNumber maxRepeats l ≡ true → mayWait command ≡ true
+-- an idle link in range accepts a command that may be sent
+accepts : (l : Link) (command clock : ℕ) → inRange firstNumber maxRepeats l ≡ true → mayWait command ≡ true
     → l .wait ≡ Idle → acceptOf firstNumber (l .next) command clock ≡ offerOf firstNumber maxRepeats l command clock
-taken l command clock r s w = simp (r, s) (simp w)
+accepts l command clock r s w = simp (r, s) (simp w)
 
 -- past both guards the link is in range, and the command may be sent
 module _ (c : tie.Else2) where
@@ -43,6 +43,6 @@ offer-spec =
     (search needs)
     (search needs)
     (λ c. let at = c .before .before .before in c .accept .ensures
-    ∙ taken _ _ _ (ranged at) (sent at) (c .before .enum-told .given .1))
+    ∙ accepts _ _ _ (ranged at) (sent at) (c .before .enum-told .given .1))
     λ c. let at = c .before .before .before in c .refused3 .ensures
     ∙ simp (ranged at, sent at) (simp (c .before .enum-told2 .given .1)))

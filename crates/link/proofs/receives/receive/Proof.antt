@@ -1,4 +1,4 @@
--- `receives::receive` tests 17 and 43, in this order.
+-- `receives::receive` tests STATE and STRAY, in this order.
 use borrow.Author.Needs.{needs}
 use mathlib.Core.Path.{_≡_}
 use mathlib.Core.Bool.{true}

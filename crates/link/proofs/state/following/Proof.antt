@@ -1,4 +1,4 @@
--- `state::following` counts on, and begins again behind 255.
+-- `state::following` counts up, and begins again after 255.
 use borrow.Author.Needs.{needs}
 use Rattle.base.proofs.Tests.{tests}
 use Rattle.link.proofs.state.following.Statement.{statement}

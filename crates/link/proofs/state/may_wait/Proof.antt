@@ -1,4 +1,4 @@
--- `state::may_wait` looks the command up: the first arm has the numbers of the list, the other none of them.
+-- `state::may_wait` looks the command up: the first arm has the numbers of the list, and the last arm has none of them.
 use mathlib.Core.Path.{refl}
 use mathlib.Core.List.{[], _∷_}
 use native.Mathlib.Omega.{arith}

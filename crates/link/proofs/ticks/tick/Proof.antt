@@ -1,8 +1,8 @@
 -- `ticks::tick` meets its contract: a walk of its MIR, by hand. The borrow is opened, the link is copied out of its
 -- place and passed to `tick_by_value`, the link that `tick_by_value` returned is stored in its place,
 -- and the borrow is closed at that link. All that the proof knows of `tick_by_value` is that it meets its contract.
--- A link and an answer own only facts, so what they own is made anew where it is asked for.
--- Their machine values are nowhere written out: each is what its type spells. Assumes nothing.
+-- A link and an answer own only facts, so what they own is made again where it is needed.
+-- Their machine values are not written out: each is what its type spells. Assumes nothing.
 use mathlib.Core.Path.{_≡_, refl, ap}
 use Prim.Native.Nat.{ℕ, _<_, _^_}
 use mathlib.Core.List.{[], _∷_, List}
@@ -90,7 +90,7 @@ module _ {M : Type 1} (𝓤 : URA M) (H : Heap 𝓤) (A : Atoms 𝓤) (mem : Mem
   abbrev TickByValue : Contract 𝓤
   TickByValue = tripleOf 𝓤 H A tick-by-value.signature (tick-by-value.spec 𝓤 H A mem run)
 
-  -- of its `ensured`, the clause alone: it has no `&mut`, so what is said of last values is dropped
+  -- of its `ensured`, the clause alone: it has no `&mut`, so nothing is needed of last values
   ticked-of : (h : Link) (n : ℕ) (r : Ticked)
       → ent 𝓤 (ensured 𝓤 H A tick-by-value.ended (tick-by-value.clauses 𝓤 H A mem run) tt (h, (n, tt)) tt r) (fact 𝓤
       (tickedOf r ≡ tickOf firstNumber maxRepeats h n))
@@ -125,7 +125,7 @@ module _ {M : Type 1} (𝓤 : URA M) (H : Heap 𝓤) (A : Atoms 𝓤) (W : Given
       fjoin ! $ frame ! $ owned ! R.the-row (Is R.the-row) (EL.makes R.the-type R′.the-plain 𝓤 H A) (r .answer) _
       (answer-is r v is) $ done !
 
-  -- what `tick_by_value`'s triple binds outside, and what it asks: all of it is had for nothing
+  -- what `tick_by_value`'s triple binds outside, and what it asks: all of it holds without a premise
   abbrev to-by-value : TickByValue 𝓤 H A at-mem run .Ghost
   to-by-value = ((tt, tt, tt, (h, (n, tt)), (link-vals h, (vint w32 n ∷ [], tt))), tt)
 

@@ -1,4 +1,4 @@
--- `ticks::tick_by_value` tests 17, and acts where the tick is due.
+-- `ticks::tick_by_value` tests STATE, and acts where the tick is due.
 use borrow.Author.Needs.{needs}
 use mathlib.Core.Path.{_≡_}
 use mathlib.Core.Bool.{true}

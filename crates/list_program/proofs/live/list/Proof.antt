@@ -1,4 +1,4 @@
--- `list::live::list` is safe and ends. The measure is the number of turns that are left;
+-- `live::list` is safe and ends. The measure is the number of turns that are left;
 -- the buffers keep their lengths. Assumes nothing.
 use mathlib.Core.Path.{_≡_}
 use borrow.Author.Needs.{needs}

@@ -1,4 +1,4 @@
--- `list::live::list_all` is safe and ends: no call uses more than was offered, and each turn uses a byte or is the
+-- `live::list_all` is safe and ends: no call uses more than was offered, and each turn uses a byte or is the
 -- last. Assumes nothing.
 use Prim.Native.Nat.{ℕ, _+_, _-_, _≤_}
 use mathlib.Core.Path.{_≡_, ap}
@@ -8,7 +8,7 @@ use lib.ListN.{length, take, drop, length-take}
 use Rattle.frame.specs.Wire.{frameLimit}
 use Rattle.frame.specs.State.{stateOf}
 use Rattle.listing.specs.Feeding.{Left}
-use Rattle.listing.proofs.LoopClaims.{loop-lists}
+use Rattle.listing.proofs.LoopRuns.{loop-lists}
 use borrow.Author.Needs.{needs}
 use Rattle.list_program.proofs.live.list_all.Statement.{statement}
 use Rattle.list_program.proofs.live.list_all.Tie as tie

@@ -1,4 +1,4 @@
--- `list::output::write_first` is safe and ends: the count is tested against the buffer. Assumes nothing.
+-- `output::write_first` is safe and ends: the count is tested against the buffer. Assumes nothing.
 use native.Mathlib.Omega.{arith}
 use lib.ListN.{length-take}
 use borrow.Author.Needs.{needs}

@@ -1,4 +1,4 @@
--- `list::output::write_whole` is safe and ends: no call takes more than is left, and the turns are counted down.
+-- `output::write_whole` is safe and ends: no call writes more than is left, and the turns are counted down.
 -- Assumes nothing.
 use Prim.Native.Nat.{ℕ, _+_, _-_, _≤_}
 use mathlib.Core.List.{List}
@@ -14,7 +14,7 @@ Inv-loop bytes at₀ turns₀ at turns = at ≤ length bytes
 abbrev μ-loop : tie.MeasureT-loop
 μ-loop bytes at₀ turns₀ at turns = turns
 
--- a call takes no more than is left
+-- a call writes no more than is left
 module _ (c : tie.After-struct-known2 Inv-loop μ-loop) where
   abbrev bytes : List ℕ
   bytes = c .before .before .before .before .before .before .before .before .before .args .bytes .now
@@ -22,8 +22,8 @@ module _ (c : tie.After-struct-known2 Inv-loop μ-loop) where
   abbrev at : ℕ
   at = c .before .before .before .before .before .before .before .loop .at
 
-  taken : at + c .before .before .before .write-some .result .count ≤ length bytes
-  taken =
+  within : at + c .before .before .before .write-some .result .count ≤ length bytes
+  within =
       omega (
         arith,
         c .before .before .before .write-some .ensures,
@@ -31,10 +31,10 @@ module _ (c : tie.After-struct-known2 Inv-loop μ-loop) where
       )
 
 add-at : tie.Need-add-at Inv-loop μ-loop
-add-at c = omega (arith, taken c)
+add-at c = omega (arith, within c)
 
 loop-again : tie.Need-loop-again Inv-loop μ-loop
-loop-again c = taken c
+loop-again c = within c
 
 pub write-whole-spec : {M : Type 1} → statement M
 write-whole-spec =

@@ -1,5 +1,5 @@
 -- `put_decimal` meets its contract. The loop's invariant: the digits of the rest,
--- put before those that were put, complete what was asked.
+-- put before those that were put, complete the text.
 use Prim.Native.Nat.{_+_, _/_, _<_}
 use mathlib.Core.Path.{_≡_, refl, _∙_}
 use native.Mathlib.Nat.{div-lt-self}
@@ -7,7 +7,7 @@ use native.Mathlib.Omega.{arith}
 use borrow.Author.Needs.{needs}
 use lib.ListN.{length, length-set}
 use lib.Seq.{sets}
-use Rattle.listing.specs.Decimal.{decimalOf}
+use Rattle.listing.specs.Digits.{decimalOf}
 use Rattle.listing.proofs.Digits.{count-more, count-least}
 use Rattle.listing.proofs.Puts.{digits-back, digits-done}
 use Rattle.listing.proofs.decimal.put_decimal.Statement.{statement}

@@ -5,7 +5,7 @@ use mathlib.Core.Path.{_≡_}
 use native.Mathlib.Nat.{div-lt-self}
 use native.Mathlib.Omega.{arith}
 use lib.ListN.{length}
-use Rattle.listing.specs.Decimal.{decimalOf}
+use Rattle.listing.specs.Digits.{decimalOf}
 use Rattle.listing.proofs.Digits.{count-last, count-more, count-most}
 use Rattle.listing.proofs.decimal.width.Statement.{statement}
 use Rattle.listing.proofs.decimal.width.Tie as tie

@@ -1,4 +1,4 @@
--- `add_line` meets its contract: a line that has room is put, in the part of the output behind `at`.
+-- `add_line` meets its contract: a line that has room is put, in the part of the buffer from `at` on.
 use Prim.Native.Nat.{ℕ, _+_, _≤_}
 use mathlib.Core.Path.{_≡_, ap, _∙_}
 use mathlib.Core.List.{List}

@@ -1,4 +1,4 @@
--- `feed_all` meets its contract. The loop's invariant: what is to be done, behind what was done, is the whole run.
+-- `feed_all` meets its contract. The loop's invariant: what is to be done, after what was done, is the whole run.
 use Prim.Native.Nat.{_-_}
 use mathlib.Core.Path.{sym, _∙_}
 use native.Mathlib.Omega.{arith}
@@ -8,8 +8,7 @@ use Rattle.base.specs.Outcomes.{Outcome}
 use Rattle.frame.specs.Wire.{frameLimit}
 use Rattle.frame.specs.State.{State, stateOf}
 use Rattle.frame.specs.Calls.{fedOf}
-use Rattle.listing.proofs.Loops.{At, at-start, at-end, at-done, at-room, at-refused}
-use Rattle.listing.proofs.Loops.{Onward, at-onward}
+use Rattle.listing.proofs.LoopLaws.{At, at-start, at-end, at-done, at-room, at-refused, Onward, at-onward}
 use Rattle.listing.proofs.feeding.feed_all.Statement.{statement}
 use Rattle.listing.proofs.feeding.feed_all.Tie as tie
 
@@ -33,7 +32,7 @@ returns-2 c =
     let at = c .before .before .loop .inv in
     at-end at _ _ (at-room at (c .before .if1 .left) (c .if2 .taken))
 
--- what the reader replies in a turn
+-- what the reader answers in a step
 abbrev outcome : tie.After-is-refusal Inv-loop μ-loop → Outcome State
 outcome c = fedOf (c .before .before .feed .result)
 
@@ -46,7 +45,7 @@ returns-3 c =
     (at-end at _ _ (at-refused at (s .before .before .before .before .before .if1 .left)
     (s .before .before .before .before .if2 .left) (outcome s) (s .before .before .feed .ensures) refused))
 
--- a turn that goes on
+-- a step that continues
 module _ (c : tie.After-count Inv-loop μ-loop) where
   abbrev turn : tie.After-is-refusal Inv-loop μ-loop
   turn = c .before .before

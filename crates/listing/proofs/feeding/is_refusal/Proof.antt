@@ -1,7 +1,7 @@
--- `is_refusal` goes by the answer.
+-- `is_refusal` is decided by the answer.
 use borrow.Author.Needs.{needs}
 use mathlib.Core.Path.{sym}
-use Rattle.listing.proofs.Loops.{verdict-continues}
+use Rattle.listing.proofs.LoopLaws.{verdict-continues}
 use Rattle.listing.proofs.feeding.is_refusal.Statement.{statement}
 use Rattle.listing.proofs.feeding.is_refusal.Tie as tie
 

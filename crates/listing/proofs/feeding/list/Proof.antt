@@ -1,21 +1,21 @@
--- `list` asks an empty call first, and then feeds the bytes.
+-- `list` feeds no data first, and then the bytes.
 use mathlib.Core.Path.{sym, _∙_}
 use borrow.Author.Needs.{needs}
 use Rattle.frame.specs.Wire.{frameLimit}
 use Rattle.frame.specs.State.{stateOf}
 use Rattle.frame.specs.Calls.{fedOf}
-use Rattle.listing.proofs.Loops.{none-fed, all-fed}
+use Rattle.listing.proofs.LoopLaws.{none-fed, all-fed}
 use Rattle.listing.proofs.feeding.list.Statement.{statement}
 use Rattle.listing.proofs.feeding.list.Tie as tie
 
--- what the call is given
-abbrev given : tie.After-is-refusal → tie.Start
-given s = s .before .before .before .before .before .before
+-- what `list` gets
+abbrev start : tie.After-is-refusal → tie.Start
+start s = s .before .before .before .before .before .before
 
 returns : tie.Need-returns
 returns c =
     let s = c .before .before in
-    let args = given s .args in
+    let args = start s .args in
     let refused = sym (s .is-refusal .ensures) ∙ c .before .if1 .taken in
     rw (c .refusal .ensures refused)
     (none-fed frameLimit (args .prefix .now) (args .bytes .now) (args .out .now) (stateOf (args .reader))
@@ -25,7 +25,7 @@ returns-2 : tie.Need-returns-2
 returns-2 c =
     let f = c .before .before in
     let s = f .before .before .before in
-    let args = given s .args in
+    let args = start s .args in
     let continues = sym (s .is-refusal .ensures) ∙ f .before .before .if1 .left in
     rw (← all-fed frameLimit (args .prefix .now) (args .bytes .now) (args .out .now) (stateOf (args .reader))
     (fedOf (s .before .feed .result)) (s .before .feed .ensures) continues)

@@ -2,7 +2,7 @@
 use borrow.Author.Needs.{needs}
 use mathlib.Core.Path.{refl, sym, _∙_}
 use mathlib.Core.Bool.{true≢false}
-use Rattle.listing.proofs.Loops.{verdict-continues}
+use Rattle.listing.proofs.LoopLaws.{verdict-continues}
 use Rattle.listing.proofs.feeding.refusal.Statement.{statement}
 use Rattle.listing.proofs.feeding.refusal.Tie as tie
 

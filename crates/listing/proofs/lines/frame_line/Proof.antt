@@ -1,4 +1,4 @@
--- `frame_line` meets its contract: the numbers of its line are the places and what the body's parts are read as.
+-- `frame_line` meets its contract: the numbers of its line are the places and the fields of the body.
 use native.Mathlib.Omega.{arith}
 use borrow.Author.Needs.{needs}
 use Rattle.listing.proofs.lines.frame_line.Statement.{statement}

@@ -4,7 +4,7 @@ use mathlib.Core.Path.{_≡_, ap}
 use native.Mathlib.Omega.{arith}
 use borrow.Author.Needs.{needs}
 use lib.ListN.{length, drop}
-use Rattle.listing.specs.Decimal.{columnsOf}
+use Rattle.listing.specs.Lines.{columnsOf}
 use Rattle.listing.proofs.Puts.{columns-count, columns-none}
 use Rattle.listing.proofs.text.columns_width.Statement.{statement}
 use Rattle.listing.proofs.text.columns_width.Tie as tie

@@ -1,5 +1,5 @@
 -- `put_bytes` meets its contract. The loop's invariant:
--- what is left, put behind what was put, completes what was asked.
+-- what is left, put after what was put, completes the text.
 use Prim.Native.Nat.{_+_, _-_, _≤_}
 use mathlib.Core.Path.{_≡_, refl, sym, _∙_}
 use native.Mathlib.Omega.{arith}

@@ -1,10 +1,10 @@
--- `put_columns` meets its contract. The loop's invariant: what is left, put from `next` on, completes what was asked.
+-- `put_columns` meets its contract. The loop's invariant: what is left, put from `next` on, completes the text.
 use Prim.Native.Nat.{_+_, _-_, _≤_}
 use mathlib.Core.Path.{_≡_, refl, ap, _∙_}
 use native.Mathlib.Omega.{arith}
 use lib.ListN.{length, drop, length-set}
 use lib.Seq.{sets}
-use Rattle.listing.specs.Decimal.{columnsOf}
+use Rattle.listing.specs.Lines.{columnsOf}
 use Rattle.listing.proofs.Puts.{columns-count, columns-put, columns-none}
 use Rattle.listing.proofs.text.put_columns.Statement.{statement}
 use Rattle.listing.proofs.text.put_columns.Tie as tie

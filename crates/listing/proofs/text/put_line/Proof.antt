@@ -1,5 +1,5 @@
 -- `put_line` meets its contract: what it measures is the text's length,
--- and what it puts, one part behind the other, is the text.
+-- and the pieces that it puts, in order, are the text.
 use Prim.Native.Nat.{ℕ, _+_, _≤_}
 use mathlib.Core.Path.{_≡_}
 use mathlib.Core.List.{List}
@@ -8,8 +8,7 @@ use borrow.Author.Needs.{needs}
 use lib.ListN.{length, length-append}
 use lib.Seq.{sets}
 use Rattle.base.proofs.Stores.{sets-append}
-use Rattle.listing.specs.Decimal.{columnsOf}
-use Rattle.listing.specs.Lines.{textOf}
+use Rattle.listing.specs.Lines.{columnsOf, textOf}
 use Rattle.listing.proofs.Puts.{too-long, fitting}
 use Rattle.listing.proofs.text.put_line.Statement.{statement}
 use Rattle.listing.proofs.text.put_line.Tie as tie

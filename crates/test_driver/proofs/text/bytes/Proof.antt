@@ -1,4 +1,4 @@
--- `driver::text::bytes` is safe and ends: what is printed is at most 2,100 bytes. Assumes nothing.
+-- `text::bytes` is safe and ends: what is printed is at most 2,100 bytes. Assumes nothing.
 use Prim.Native.Nat.{_-_, _≤_}
 use mathlib.Core.Path.{_≡_}
 use native.Mathlib.Omega.{arith}

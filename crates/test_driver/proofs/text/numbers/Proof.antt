@@ -1,4 +1,4 @@
--- `driver::text::numbers` is safe and ends: `i` is at most the length. Assumes nothing.
+-- `text::numbers` is safe and ends: `i` is at most the length. Assumes nothing.
 use Prim.Native.Nat.{_≤_, _-_}
 use borrow.Author.Needs.{needs}
 use lib.ListN.{length}

@@ -1,0 +1,17 @@
+-- Worked runs of a link, by computation. Assumes nothing.
+use mathlib.Core.Path.{refl}
+use Rattle.base.specs.Keys.{among}
+use Rattle.link.specs.Logs.{logOf, rowsIn, noneEnds, repeatsIn, lastSent, dueTicks}
+use Rattle.link.specs.WorkedRuns.{WorkedRun, WorkedWait, Example11}
+
+pub worked-run : WorkedRun
+unfolding among logOf rowsIn
+worked-run = record { rows = refl; last = refl; round = refl }
+
+pub worked-wait : WorkedWait
+unfolding among logOf noneEnds repeatsIn lastSent dueTicks
+worked-wait = record { due = refl; repeats = refl; last = refl; ends = refl }
+
+pub example-11 : Example11
+unfolding among
+example-11 = record { elapsed = refl; due = refl; not-due = refl; again = refl; nothing = refl }
