@@ -56,7 +56,7 @@ pub record WorkedPayloads : Type 0 where
   pub eight-read : eightAt (1 ∷ 2 ∷ 3 ∷ 4 ∷ 5 ∷ 6 ∷ 7 ∷ 8 ∷ []) 0 ≡ 72623859790382856
   pub eight-written : eight 72623859790382856 [] ≡ 1 ∷ 2 ∷ 3 ∷ 4 ∷ 5 ∷ 6 ∷ 7 ∷ 8 ∷ []
 
--- ---- cases: a payload and its row, in numbers
+-- ---- the cases: a payload and its row, in numbers
 
 -- a command, a payload, and the expected row
 pub record ReadCase : Type 0 where

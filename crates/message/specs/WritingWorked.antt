@@ -50,7 +50,7 @@ Example4 =
     (limit : ℕ) → 14 ≤ limit → (out : List ℕ) → 19 ≤ length out
     → sendOf limit example4 2 0 [] out ≡ output (row 0 (19 ∷ [])) (example4Bytes ++ drop 19 out)
 
--- ---- cases: a message, and its payload in literal bytes
+-- ---- the cases: a message, and its payload in literal bytes
 
 -- a message, the caller's data, its command and its payload
 pub record WriteCase : Type 0 where
