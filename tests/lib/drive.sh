@@ -1,32 +1,28 @@
-# For the run of a test to source: it stands two folders below the root, with its driver, check.py, beside it if it has one.
+# For the run of a test to source. The test's folder is two below the root, and has its driver, check.py, if it has one.
 here=$(cd "$(dirname "$0")" && pwd)
 root=$here/../..
 
-# Runs a driver and returns its status; whatever becomes of it, the last line is a count.
+# Runs a driver and returns its status. In any case the last line is a count.
 score() { # COMMAND..
-    local said status
-    said=$("$@" 2>&1)
+    local printed status
+    printed=$("$@" 2>&1)
     status=$?
-    echo "$said"
+    echo "$printed"
     # A run that dies half way has no last line of its own.
-    if ! [[ ${said##*$'\n'} =~ ^[0-9]+\ passed,\ [0-9]+\ failed$ ]]; then
+    if ! [[ ${printed##*$'\n'} =~ ^[0-9]+\ passed,\ [0-9]+\ failed$ ]]; then
         echo "0 passed, 1 failed"
         status=1
     fi
     return "$status"
 }
 
-# The driver that stands beside the run.
+# The driver in the test's folder.
 drive() { # WORD..
     score python3 -B "$here/check.py" "$@"
 }
 
-# The same on the program that plays scripts.
-drive_program() { # WORD..
-    drive "$root/target/bin/test_driver" "$@"
-}
-
-# Builds or tests the second implementation, which is quiet unless that fails.
+# Builds or tests the implementation in Rust; prints nothing unless that fails.
 differential() { # build|test
-    cargo "$1" --quiet --release --offline --manifest-path "$root/tests/differential/Cargo.toml" --target-dir "$root/target/differential"
+    local folders=(--manifest-path "$root/tests/differential/Cargo.toml" --target-dir "$root/target/differential")
+    cargo "$1" --quiet --release --offline "${folders[@]}"
 }

@@ -1,70 +1,17 @@
-#!/usr/bin/env python3
-"""Compares the driver with model.py on streams and on messages to write, and both with the answers that paper 01 names.
+"""Random streams of messages, messages to write and frames to reply to.
 
-check.py PROGRAM [SEED [COUNT]]: COUNT random streams in all, over the families below, at least one of each. The last line is
-'N passed, M failed'.
+A family of streams has its rounds, and a share in a thousand. A round is all the frames that it yields.
 """
-import collections
 import itertools
-import pathlib
-import sys
 
-import model
-from model import FF, STUFFED, wire_form
-from stated import STATED, STATED_TAIL, kinds, stated
+from driver import empty_output, message_step, reply_step
+from message import CONTROL, EMPTY, LISTED, QUERY, REPORT, STATUS, write_message
+from wire import FF, HEADER, STUFFING, body_of, in_bytes, stuff, on_wire
 
-sys.path.insert(0, str(pathlib.Path(__file__).resolve().parent.parent / "lib"))
-from checks import Checks, Program, seed_and_count
-from device import drive
-from records import FRESH, STREAM, record, records_of, streamed
-from records import MOST as MOST_DATA
-
-checks = Checks("messages")
-test = checks.test
-
-
-# A text against the model's.
-
-
-def first_block(lines):
-    """The lines up to the next that begins a block."""
-    begins = (i for i, line in enumerate(lines) if i and line.startswith(("frame ", "sum ")))
-    return lines[: next(begins, len(lines))]
-
-
-def difference(script, found, expected):
-    """Where a text differs first from the expected one, in a stream with the bytes up to the frame's end; '' where it does not."""
-    if found == expected.encode("ascii"):
-        return ""
-    theirs = found.decode("ascii", "backslashreplace").split("\n")[1:]
-    stream = b"".join(data for operation, data in records_of(script) if operation == STREAM)
-    at = 0
-    for start, end, lines in model.blocks(stream):
-        if theirs[: len(lines)] != lines:
-            i, line, said = first_difference(lines, first_block(theirs))
-            shown = f"bytes {at} to {end}: {stream[at:end].hex(' ')}"
-            return f"frame at {start}, line {i}\n  {shown}\n  should be: {line}\n  is:        {said}"
-        at, theirs = end, theirs[len(lines) :]
-    i, line, said = first_difference(expected.split("\n"), found.decode("ascii", "backslashreplace").split("\n"))
-    return f"line {i}\n  should be: {line}\n  is:        {said}"
-
-
-def first_difference(ours, theirs):
-    pairs = enumerate(itertools.zip_longest(ours, theirs, fillvalue="no line"), 1)
-    return next((i, *pair) for i, pair in pairs if pair[0] != pair[1])
-
-
-def stated_by_model():
-    """What the model says of the answers that were written by hand."""
-    for name, stream, *lines in STATED:
-        found = model.text(bytes.fromhex(stream))
-        test(f"the paper's answer to {name}", found == model.in_lines(lines), found)
-    test("the tail by the paper", model.in_lines(line for _, line in model.tail()) == STATED_TAIL)
+EDGES = bytes([FF, FF, STUFFING, 0, 1])
 
 
 # Payloads of each kind with random values, all allowed.
-
-EDGES = bytes([FF, FF, STUFFED, 0, 1])
 
 
 def some_bytes(rand, size):
@@ -73,7 +20,7 @@ def some_bytes(rand, size):
 
 
 def some_bits(rand, *places):
-    """A number in which only bits of the places named are set."""
+    """A number in which only bits of these places are set."""
     return sum(rand.randrange(2) << place for place in places)
 
 
@@ -90,11 +37,11 @@ def some_control(rand):
 
 
 def in_two(number):
-    return (number % 65536).to_bytes(2, "big")
+    return in_bytes(2, number % 65536)
 
 
 def with_code(rand, command, size, off=0):
-    """19 or 1B with a check code of that size, its n off by so much."""
+    """19 or 1B with a check code of that size, its count off by so much."""
     code = some_bytes(rand, size)
     if command == 0x19:
         return some_bytes(rand, 4) + in_two(size + off) + code
@@ -103,7 +50,7 @@ def with_code(rand, command, size, off=0):
 
 def messages(rand):
     """Each kind of message once: command and payload."""
-    for command in model.EMPTY:
+    for command in EMPTY:
         yield command, b""
     for size in (66, 74, 106):
         yield 0x02, some_bytes(rand, size)
@@ -123,7 +70,7 @@ def messages(rand):
     yield 0x1D, some_bytes(rand, 4 + rand.choice([0, 1, rand.randrange(130)]))
 
 
-# Sizes at which something changes; of the commands not named here, 0.
+# Sizes at which something changes; 0 for the commands that are not here.
 SIZES = {
     0x02: [66, 74, 106],
     0x03: [1, 5],
@@ -142,7 +89,7 @@ FIRST = {0x03: b"\1\2", 0x04: b"\3", 0x05: b"\4"}
 
 
 def plausible(rand, command, size):
-    """A payload of that size, mostly with a first byte or an n that the command could have."""
+    """A payload of that size, mostly with a first byte or a count that the command can have."""
     payload = bytearray(some_bytes(rand, size))
     if command in FIRST and rand.randrange(4):
         payload[:1] = bytes([rand.choice(FIRST[command])])
@@ -155,11 +102,11 @@ def plausible(rand, command, size):
 
 
 def framed(rand, command, payload):
-    number = rand.choice([0, 1, FF, STUFFED, rand.randrange(256)])
-    return wire_form(command, number, rand.choice([0, 0, 1, FF, 0xFF55, 0xFFFF, rand.randrange(65536)]), payload)
+    number = rand.choice([0, 1, FF, STUFFING, rand.randrange(256)])
+    return on_wire(command, number, rand.choice([0, 0, 1, FF, 0xFF55, 0xFFFF, rand.randrange(65536)]), payload)
 
 
-# The families of random streams. A round of a family is all the frames that it yields.
+# The families of streams.
 
 
 def every_command(rand):
@@ -169,7 +116,7 @@ def every_command(rand):
 
 
 def each_size(rand):
-    for command in model.LISTED:
+    for command in LISTED:
         for size in range(120 if command == 0x02 else 13):
             yield framed(rand, command, plausible(rand, command, size))
 
@@ -190,7 +137,7 @@ def one_bit_changed(rand):
 
 
 def one_byte_changed(rand):
-    """One byte other, left out or put in."""
+    """One byte changed, left out or put in."""
     for command, payload in messages(rand):
         data = bytearray(payload)
         how = rand.randrange(3) if data else 2
@@ -204,8 +151,8 @@ def one_byte_changed(rand):
         yield framed(rand, command, data)
 
 
-def other_bits(rand):
-    """Each of the other bits of status and control, each reserved bit of 0D."""
+def unused_bits(rand):
+    """Each bit of status and control that has no meaning, and each reserved bit of 0D."""
     for byte, places in ((0, range(4, 8)), (7, range(3, 8))):
         for place in places:
             for command, first in ((0x04, 3), (0x05, 4)):
@@ -221,7 +168,7 @@ def other_bits(rand):
 
 
 def each_mode(rand):
-    """Control with each flags, lamp and mode, status with each first four bits and each alarm."""
+    """Control with each set of flags, lamp and mode; status with each value of its first four bits and its alarms."""
     for flags, second in itertools.product(range(8), range(8)):
         yield framed(rand, 0x03, bytes([1, flags, second]) + some_bytes(rand, 2))
     for first, alarms in itertools.product(range(16), range(8)):
@@ -243,7 +190,7 @@ def each_code(rand):
 
 
 def counts(rand):
-    """19 and 1B with an n that fits or is off, or that is cut off."""
+    """19 and 1B with a count that fits, that is off, or that is cut."""
     for command, off in itertools.product((0x19, 0x1B), (-256, -2, -1, 0, 1, 2, 256)):
         for size in (0, 1, 2, 32, rand.randrange(260)):
             yield framed(rand, command, with_code(rand, command, size, off))
@@ -258,8 +205,8 @@ def no_payload(rand):
 
 
 def longest(rand):
-    """Payloads of 1,019 bytes and one less, with all the sizes listed that go so far."""
-    for command in (0x1D, 0x03, 0x04, 0x05, rand.randrange(256), rand.choice(model.LISTED)):
+    """Payloads of 1,019 bytes and of one less, also where the listed sizes reach so far."""
+    for command in (0x1D, 0x03, 0x04, 0x05, rand.randrange(256), rand.choice(LISTED)):
         yield framed(rand, command, plausible(rand, command, rand.randint(1018, 1019)))
     yield framed(rand, 0x1D, bytes([FF]) * 1019)
     yield framed(rand, 0x19, with_code(rand, 0x19, 1013, rand.choice([0, 0, -1, 1])))
@@ -267,19 +214,19 @@ def longest(rand):
 
 
 def all_ff(rand):
-    for command in model.LISTED:
+    for command in LISTED:
         for size in SIZES.get(command, [0]):
             yield framed(rand, command, bytes([FF]) * max(size + rand.choice([-1, 0, 0, 0, 1]), 0))
     for size in (66, 74, 106):
-        yield wire_form(0x02, FF, 0xFFFF, bytes([FF]) * size)
+        yield on_wire(0x02, FF, 0xFFFF, bytes([FF]) * size)
 
 
 def wrong_sums(rand):
     for command in range(256):
         payload = some_bytes(rand, rand.randrange(9))
-        body = bytearray(model.body_of(command, rand.randrange(256), rand.randrange(65536), payload))
+        body = bytearray(body_of(command, rand.randrange(256), rand.randrange(65536), payload))
         body[-1] = rand.choice([(body[-1] + 1) % 256, body[-1] ^ 1 << rand.randrange(8), FF, rand.randrange(256)])
-        yield bytes([FF, FF]) + body.replace(bytes([FF]), bytes([FF, STUFFED]))
+        yield HEADER + stuff(body)
 
 
 def noise(rand, most):
@@ -287,7 +234,7 @@ def noise(rand, most):
 
 
 def between_noise(rand):
-    """Frames, some of them cut short or with a byte of the wire changed, and noise."""
+    """Frames, some cut short or with a byte of the wire changed, and noise."""
     for command, payload in messages(rand):
         data = bytearray(framed(rand, command, payload))
         how = rand.randrange(5)
@@ -300,14 +247,13 @@ def between_noise(rand):
         yield noise(rand, 6) + data
 
 
-# A family: its rounds, and how many streams it has in a thousand.
-FAMILIES = [
+STREAMS = [
     ("every command, sizes near the listed ones", every_command, 130),
     ("listed commands, each size", each_size, 20),
     ("valid messages of each kind", each_kind, 110),
     ("messages with one bit changed", one_bit_changed, 110),
     ("messages with one byte changed", one_byte_changed, 110),
-    ("other and reserved bits", other_bits, 60),
+    ("unused and reserved bits", unused_bits, 60),
     ("modes with and without flag", each_mode, 60),
     ("first bytes of 03, 04 and 05", each_first_byte, 40),
     ("codes of 09, 11 and 12", each_code, 20),
@@ -316,7 +262,7 @@ FAMILIES = [
     ("the longest payloads", longest, 40),
     ("payloads full of FF", all_ff, 60),
     ("wrong sums", wrong_sums, 40),
-    ("frames between noise", between_noise, 100),
+    ("messages between noise", between_noise, 100),
 ]
 MOST = 65000  # bytes of a stream
 
@@ -334,7 +280,7 @@ def stream_of(rand, family):
         data += more
 
 
-# Messages to write: values that are allowed or not, lent bytes of sizes that fit or not, rooms near the one needed.
+# Messages to write: allowed values and others, opaque bytes that fit and others, rooms near the one that is needed.
 
 
 def some_values(rand):
@@ -346,12 +292,12 @@ def some_values(rand):
     device = [66, rand.randrange(65536)], [74, 0, rand.randrange(2**64)], [106, FF, rand.randrange(2**64)]
     return rand.choice(
         [
-            [rand.choice([rand.choice(model.EMPTY), number, 0x21])],
+            [rand.choice([rand.choice(EMPTY), number, 0x21])],
             [0x02, *rand.choice(device)],
-            [0x03, model.CONTROL, *bits[:4], mode, rand.randrange(65536)],
-            [0x03, model.READ],
-            [0x04, model.STATE, *counter, *bits[:3]],
-            [0x05, model.REPORT, *counter, *bits[:3]],
+            [0x03, CONTROL, *bits[:4], mode, rand.randrange(65536)],
+            [0x03, QUERY],
+            [0x04, STATUS, *counter, *bits[:3]],
+            [0x05, REPORT, *counter, *bits[:3]],
             [0x0D, *bits[:6], number, *bits[6:]],
             [0x09, rand.randint(1, 2)],
             [rand.choice([0x11, 0x12]), rand.randint(1, 4)],
@@ -363,107 +309,25 @@ def some_values(rand):
     )
 
 
-# Sizes of what is lent at which something changes; of the commands not named here, 0.
-LENT = {0x02: [64, 96], 0x19: [0, 32, 1013, 1014], 0x1B: [0, 32, 1015, 1016], 0x1D: [0, 99, 1015, 1016]}
+# Counts of opaque bytes at which something changes; 0 for the commands that are not here.
+OPAQUE_SIZES = {0x02: [64, 96], 0x19: [0, 32, 1013, 1014], 0x1B: [0, 32, 1015, 1016], 0x1D: [0, 99, 1015, 1016]}
 
 
 def some_write(rand):
-    """A record and its line."""
+    """A step that writes a message."""
     values = some_values(rand)
-    fitting = LENT.get(values[0], [0])
-    lent = some_bytes(rand, rand.choice([*fitting * 3, rand.randrange(120)]))
-    needed, output = 0, model.empty_output(4096)
+    fitting = OPAQUE_SIZES.get(values[0], [0])
+    opaque = some_bytes(rand, rand.choice([*fitting * 3, rand.randrange(120)]))
+    needed, output = 0, empty_output(4096)
     if rand.randrange(3):
-        needed = model.write_message(values, lent, 2, 0, output, len(output))[1]
-    return model.written(values, lent, max(needed + rand.choice([-1, 0, 0, 1, 40]), 0))
+        needed = write_message(values, opaque, 2, 0, output, len(output))[1]
+    return message_step(values, opaque, max(needed + rand.choice([-1, 0, 0, 1, 40]), 0))
 
 
-def some_answer(rand):
-    """The same of a frame to be answered with little room."""
+def some_reply(rand):
+    """A step that replies to a frame with little room."""
     command, payload = rand.choice([*messages(rand), (rand.randrange(256), some_bytes(rand, rand.randrange(9)))])
-    return model.answered(command, rand.randrange(256), payload, rand.randrange(7, 13))
+    return reply_step(command, rand.randrange(256), payload, rand.randrange(7, 13))
 
 
-def run_writes(program, seed, count):
-    """Each line is held to the model's; and all rows are seen."""
-    seen = collections.Counter()
-    families = [("writes", some_write, 50), ("answers", some_answer, 50)]
-    for place, rand, some in checks.inputs(families, seed, count, "script"):
-        pairs = [some(rand) for _ in range(200)]
-        lines = [line for _, line in pairs]
-        seen.update(tuple(line.split(" ")[:2]) for line in lines)
-        _, wrong = program.compared(b"".join(written for written, _ in pairs), model.in_lines(lines))
-        checks.test_random(place, wrong)
-    for word, rows in (("write", ("0", "21", "22", "31", "32", "33")), ("answer", ("0", "22"))):
-        for row in rows:
-            test(f"that '{word} {row}' was tried", seen[word, row] > 0)
-
-
-# The program on a stream.
-
-PATIENCE = 60  # seconds
-
-
-def run_stated(program):
-    for name, script, expected in stated():
-        _, wrong = program.compared(script, expected)
-        test(f"the program's answer to {name}", not wrong, wrong)
-    _, wrong = program.compared(*kinds())
-    test("a stream of each kind of message", not wrong, wrong)
-
-
-def run_families(program, seed, count):
-    seen = collections.Counter()
-    for place, rand, family in checks.inputs(FAMILIES, seed, count, "stream"):
-        stream = stream_of(rand, family)
-        expected = model.text(stream)
-        for line in expected.splitlines():
-            word, _, rest = line.partition(" ")
-            if word in ("frame", "sum"):
-                seen[word] += 1
-            elif word == "read":
-                seen["read", *rest.split(" ")[:2]] += 1
-        # The reader stays from record to record, wherever the stream is cut.
-        script = streamed(stream, rand.choice([37, 500, MOST_DATA]))
-        _, wrong = program.compared(script, "fresh\n" + expected)
-        checks.test_random(place, wrong)
-    checks.say(f"{seen['frame']} frames and {seen['sum']} wrong sums were tried")
-    # Streams without them would show nothing.
-    for row in ("31", "32", "33"):
-        test(f"that a message refused by {row} was tried", seen["read", row] > 0)
-    missing = [command for command in model.LISTED if not seen["read", "0", str(command)]]
-    test("that each listed command was read", not missing, f"missing {missing}")
-    test("that a wrong sum was tried", seen["sum"] > 0)
-
-
-def run_device(program):
-    """As a device drives it: the lines of a record are there before the next one is sent."""
-    steps = []
-    for _, stream, *lines in STATED:
-        steps += [(record(FRESH), ["fresh"]), (record(STREAM, bytes.fromhex(stream)), lines)]
-    steps += [(written, [line]) for written, line in model.tail()]
-    wrong = drive(program.path, steps)
-    test("each record's lines before the next record", not wrong, wrong)
-
-    stream = b"".join(bytes.fromhex(stream) for _, stream, *_ in STATED)
-    lines = {end: said for _, end, said in model.blocks(stream)}
-    steps = [(record(STREAM, stream[at : at + 1]), lines.get(at + 1, [])) for at in range(len(stream))]
-    wrong = drive(program.path, steps)
-    test("a stream byte by byte, the lines of a frame before the next byte", not wrong, wrong)
-
-
-def main():
-    path, *given = sys.argv[1:]
-    seed, count = seed_and_count(given, 400)
-    stated_by_model()
-    with checks.unless_dead():
-        program = Program(path, PATIENCE, difference)
-        run_stated(program)
-        run_families(program, seed, count)
-        run_writes(program, seed, count)
-        run_device(program)
-    return checks.end()
-
-
-if __name__ == "__main__":
-    sys.exit(main())
+STEPS = [("writes", some_write, 50), ("replies", some_reply, 50)]

@@ -1,18 +1,14 @@
-#!/usr/bin/env python3
-"""The answers that paper 01 itself names, for streams and for the tail of model.py, written by hand from the paper.
+"""Lines of the driver about messages and replies, worked out by hand (PROTOCOL 7 and 8).
 
-stated.py script prints them as a script for the driver, with a stream of each kind of message behind them; stated.py text
-what the driver has to print for it, of that stream by model.py.
+With a stream of each kind of message they are the second part of the driver's stored script.
 """
 import pathlib
-import sys
 
-import model
+from driver import message_step, reply_step, stream_lines
+from message import CONTROL, QUERY, REPORT, STATUS
+from records import NAMES, record
 
-sys.path.insert(0, str(pathlib.Path(__file__).resolve().parent.parent / "lib"))
-from records import print_part, streamed
-
-# A name, the stream and its lines.
+# A name, a stream, and the lines of its frames and wrong sums.
 
 STATED = [
     (
@@ -41,7 +37,7 @@ STATED = [
     ),
     ("example 3, one byte less", "FF FF 00 05 07 F3 00 00 FF"),
     (
-        "example 4; 05 is one that only the box sends",
+        "example 4, a report: only the box sends it, so it gets code 2",
         "FF FF 00 0E 05 02 00 00 04 05 00 03 00 00 00 FF 55 00 20",
         "frame 5 2 0 9",
         "read 0 5 4 1 0 1 3 255 0 0 0",
@@ -59,7 +55,7 @@ STATED = [
         "answer 0 10 18 1 15 : ff ff 00 06 12 01 00 00 01 1a",
     ),
     (
-        "the paper's listing",
+        "the listing's example",
         "FF FF FF 00 05 07 01 00 00 0D FF FF 00 05 07 FF FF 00 05 07 F3 00 00 FF 55",
         "frame 7 1 0 0",
         "read 0 7",
@@ -79,7 +75,7 @@ STATED = [
         "answer 0 9 : ff ff 00 05 08 01 00 00 0e",
     ),
     (
-        "01 asks the caller for device information",
+        "01: the caller has to send device information",
         "FF FF 00 05 01 03 00 00 09",
         "frame 1 3 0 0",
         "read 0 1",
@@ -87,7 +83,7 @@ STATED = [
         "answer 0 0 2 3",
     ),
     (
-        "03 read asks the caller for status",
+        "query: the caller has to send the status",
         "FF FF 00 06 03 04 00 00 02 0F",
         "frame 3 4 0 1",
         "read 0 3 2",
@@ -95,7 +91,7 @@ STATED = [
         "answer 0 0 4 4",
     ),
     (
-        "control: mode 3 and lamp are ignored where their flags are 0, and written as 0",
+        "control: without their flags mode 3 and lamp read as 0, and 0 is written",
         "FF FF 00 0A 03 06 00 00 01 04 07 02 01 22",
         "frame 3 6 0 5",
         "read 0 3 1 0 0 1 0 0 513",
@@ -103,14 +99,14 @@ STATED = [
         "answer 0 9 : ff ff 00 05 04 06 00 00 0f",
     ),
     (
-        "control: mode 3 is FIELD where its flag is set",
+        "control: mode 3 with its flag is FIELD",
         "FF FF 00 0A 03 06 00 00 01 06 07 02 01 24",
         "frame 3 6 0 5",
         "read 33",
         "answer 0 10 18 3 33 : ff ff 00 06 12 06 00 00 03 21",
     ),
     (
-        "control: one of the other bits is FIELD, flag or not",
+        "control: a bit that has no meaning is FIELD, flag or not",
         "FF FF 00 0A 03 06 00 00 01 00 08 00 00 1C",
         "frame 3 6 0 5",
         "read 33",
@@ -124,14 +120,14 @@ STATED = [
         "answer 0 10 18 3 33 : ff ff 00 06 12 06 00 00 03 21",
     ),
     (
-        "03 read with a byte behind it is SIZE",
+        "query with a byte after it is SIZE",
         "FF FF 00 07 03 06 00 00 02 00 12",
         "frame 3 6 0 2",
         "read 32",
         "answer 0 10 18 3 32 : ff ff 00 06 12 06 00 00 03 21",
     ),
     (
-        "a command not listed is COMMAND and gets code 2",
+        "a command that is not listed is COMMAND and gets code 2",
         "FF FF 00 06 21 07 00 00 00 2E",
         "frame 33 7 0 1",
         "read 31",
@@ -185,7 +181,7 @@ STATED = [
         "answer 0",
     ),
     (
-        "19 with a byte more than its n",
+        "19 with a byte more than its count",
         "FF FF 00 0D 19 0C 00 00 00 00 04 00 00 01 61 62 FA",
         "frame 25 12 0 8",
         "read 32",
@@ -211,57 +207,80 @@ STATED = [
     ),
 ]
 
-# What the tail of model.py has to print: the first line is example 4, the last two lines of writes are example 12.
-STATED_TAIL = """\
-write 0 19 : ff ff 00 0e 05 02 00 00 04 05 00 03 00 00 00 ff 55 00 20 : ff ff 00
-write 0 19 : ff ff 00 0e 05 02 00 00 04 09 00 03 00 00 00 ff 55 00 24 : ff ff 00
-write 0 19 : ff ff 00 0e 04 02 00 00 03 01 00 03 00 00 00 ff 55 00 1a : ff ff 00
-write 0 14 : ff ff 00 0a 03 02 00 00 01 02 04 00 00 16 : ff ff 00
-write 0 14 : ff ff 00 0a 03 02 00 00 01 02 02 00 00 14 : ff ff 00
-write 0 14 : ff ff 00 0a 03 02 00 00 01 00 00 00 00 10 : ff ff 00
-write 0 11 : ff ff 00 07 0d 02 00 00 0f 15 3a : ff ff 00
-write 33 : aa aa aa
-write 0 10 : ff ff 00 06 09 02 00 00 01 12 : ff ff 00
-write 0 10 : ff ff 00 06 09 02 00 00 02 13 : ff ff 00
-write 0 10 : ff ff 00 06 11 02 00 00 01 1a : ff ff 00
-write 0 10 : ff ff 00 06 12 02 00 00 04 1e : ff ff 00
-write 31 : aa aa aa
-write 31 : aa aa aa
-write 32 : aa aa aa
-write 0 9 : ff ff 00 05 04 02 00 00 0b : ff ff 00
-write 32 : aa aa aa
-write 32 : aa aa aa
-write 32 : aa aa aa
-write 32 : aa aa aa
-write 22 0 : aa aa aa
-write 0 19 : ff ff 00 0e 05 02 00 00 04 05 00 03 00 00 00 ff 55 00 20 : ff ff 00
-write 33 : aa aa aa
-write 21 0 : aa aa aa
-write 22 0 : aa aa aa
-answer 22 0 : aa aa aa
-answer 0 9 : ff ff 00 05 08 09 00 00 16
-names 0 1 2 1 2 1 2 3 4
-"""
 
-KINDS = pathlib.Path(__file__).resolve().parent / "kinds.hex"
+# Messages to write under number 2: values, refusals and rooms that no stream has.
 
 
-def stated():
-    """Of each of them the name, the script and the text."""
-    for name, stream, *lines in STATED:
-        yield name, streamed(bytes.fromhex(stream)), "fresh\n" + model.in_lines(lines)
-    yield "values, sizes, rooms and names that no stream has", b"".join(record for record, _ in model.tail()), STATED_TAIL
+def report(mode):
+    return [0x05, REPORT, 1, 0, mode, 3, 255, 0, 0, 0]
 
 
-def kinds():
-    """The script and the text of a stream with each kind of message."""
-    stream = bytes.fromhex(KINDS.read_text(encoding="ascii"))
-    return streamed(stream), "fresh\n" + model.text(stream)
+def status(mode):
+    return [0x04, STATUS, 1, 0, mode, 3, 255, 0, 0, 0]
 
 
-def parts():
-    return [*((script, text) for _, script, text in stated()), kinds()]
+def control(has_mode, mode):
+    return [0x03, CONTROL, 0, has_mode, 0, 1, mode, 513]
 
 
-if __name__ == "__main__":
-    print_part(lambda: b"".join(script for script, _ in parts()), lambda: "".join(text for _, text in parts()))
+def network(strength):
+    return [0x0D, 1, 0, 1, 0, 1, 0, strength, 1, 0]
+
+
+OPAQUE = bytes([1, 2, 3])
+PIECE = [0x1D, 1, 1]
+REPORT_1 = "write 0 19 : ff ff 00 0e 05 02 00 00 04 05 00 03 00 00 00 ff 55 00 20 : ff ff 00"
+# A name, the line, the message's values; perhaps its opaque bytes and the room.
+WRITTEN = [
+    ("example 4, report, mode 1", REPORT_1, report(1)),
+    ("report, mode 2", "write 0 19 : ff ff 00 0e 05 02 00 00 04 09 00 03 00 00 00 ff 55 00 24 : ff ff 00", report(2)),
+    ("status, mode 0", "write 0 19 : ff ff 00 0e 04 02 00 00 03 01 00 03 00 00 00 ff 55 00 1a : ff ff 00", status(0)),
+    ("control, mode 2", "write 0 14 : ff ff 00 0a 03 02 00 00 01 02 04 00 00 16 : ff ff 00", control(1, 2)),
+    ("control, mode 1", "write 0 14 : ff ff 00 0a 03 02 00 00 01 02 02 00 00 14 : ff ff 00", control(1, 1)),
+    ("control, no mode", "write 0 14 : ff ff 00 0a 03 02 00 00 01 00 00 00 00 10 : ff ff 00", control(0, 2)),
+    ("strength 7", "write 0 11 : ff ff 00 07 0d 02 00 00 0f 15 3a : ff ff 00", network(7)),
+    ("strength 8, too much for its bits", "write 33 : aa aa aa", network(8)),
+    ("09, way 1", "write 0 10 : ff ff 00 06 09 02 00 00 01 12 : ff ff 00", [0x09, 1]),
+    ("09, way 2", "write 0 10 : ff ff 00 06 09 02 00 00 02 13 : ff ff 00", [0x09, 2]),
+    ("11, code 1", "write 0 10 : ff ff 00 06 11 02 00 00 01 1a : ff ff 00", [0x11, 1]),
+    ("12, code 4", "write 0 10 : ff ff 00 06 12 02 00 00 04 1e : ff ff 00", [0x12, 4]),
+    ("a command that is not listed", "write 31 : aa aa aa", [0x21]),
+    ("COMMAND before SIZE", "write 31 : aa aa aa", [0x21], OPAQUE),
+    ("heartbeat with opaque bytes", "write 32 : aa aa aa", [0x07], OPAQUE),
+    ("04 may be empty", "write 0 9 : ff ff 00 05 04 02 00 00 0b : ff ff 00", [0x04]),
+    ("05 may not be empty", "write 32 : aa aa aa", [0x05]),
+    ("query with opaque bytes", "write 32 : aa aa aa", [0x03, QUERY], OPAQUE),
+    ("SIZE before FIELD", "write 32 : aa aa aa", network(8), OPAQUE),
+    ("02 without its texts and key", "write 32 : aa aa aa", [0x02, 66, 0]),
+    ("report, one byte of room too few", "write 22 0 : aa aa aa", report(1), b"", 18),
+    ("report, just enough room", REPORT_1, report(1), b"", 19),
+    ("FIELD before ROOM", "write 33 : aa aa aa", network(8), b"", 0),
+    ("example 12, payload of 1,020 bytes", "write 21 0 : aa aa aa", PIECE, bytes(1016)),
+    ("example 12, payload of 1,019 bytes, too little room", "write 22 0 : aa aa aa", PIECE, bytes(1015)),
+]
+# A name, the line, then command, number and payload of a received frame and the room.
+REPLIES = [
+    ("reply, one byte of room too few", "answer 22 0 : aa aa aa", 0x07, 9, b"", 8),
+    ("reply, just enough room", "answer 0 9 : ff ff 00 05 08 09 00 00 16", 0x07, 9, b"", 9),
+]
+# Modes, ways and codes (PROTOCOL 7.11, 7.13 and the picture before 7.17).
+NAMED = record(NAMES), ["names 0 1 2 1 2 1 2 3 4"]
+
+KINDS = bytes.fromhex(pathlib.Path(__file__).with_name("kinds.hex").read_text(encoding="ascii"))
+
+
+def streams():
+    """A name, a stream and its lines; those of the stream of each kind of message are the model's."""
+    for name, data, *lines in STATED:
+        yield name, bytes.fromhex(data), lines
+    yield "a stream of each kind of message", KINDS, stream_lines(KINDS)
+
+
+def steps():
+    """A name, a step of its own with the line by hand, and the model's line."""
+    for name, line, *message in WRITTEN:
+        made, (found,) = message_step(*message)
+        yield f"write {name}", (made, [line]), found
+    for name, line, *frame in REPLIES:
+        made, (found,) = reply_step(*frame)
+        yield name, (made, [line]), found

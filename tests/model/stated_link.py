@@ -1,21 +1,14 @@
-#!/usr/bin/env python3
-"""Answers of a link written by hand, from the paper, the project's decisions (ranges, clocks) and the form of records and lines.
+"""Lines of the driver about a link, worked out by hand (PROTOCOL 9).
 
-stated.py script prints them as a script for the driver, stated.py text what it has to print for it.
+They are the third part of the driver's stored script.
 """
-import pathlib
-import sys
-
-import model
-
-sys.path.insert(0, str(pathlib.Path(__file__).resolve().parent.parent / "lib"))
-from records import LINK, is_whole, print_part, record
+from records import LINK, record
 
 # A name, then each record and its line. A record is the operation, a, b, c, d and the clock. C7 is 199, C8 is 200.
 
 STATED = [
     (
-        "example 11: clock 4,294,967,200, then 104: elapsed 200, due; 103: not due",
+        "example 11, at 103 and at 104",
         "05 FF FF FF A0 00000067 > elapsed 199 0 : 1",
         "05 FF FF FF A0 00000068 > elapsed 200 1 : 1",
         "00 05 00 00 00 FFFFFFA0 > offer 0 1 : 2 5 1 4294967200 0",
@@ -23,7 +16,7 @@ STATED = [
         "01 00 00 00 00 00000068 > tick 0 1 5 1 : 2 5 1 104 1",
     ),
     (
-        "05, 09, 0B, 13, 15, 17, 1B, 27 or 29, and to each the answer that is command plus 1",
+        "each command that can wait, and its reply",
         "00 05 00 00 00 00000000 > offer 0 1 : 2 5 1 0 0",
         "02 06 01 00 00 00000000 > answer 0 5 1 : 2",
         "00 09 00 00 00 00000001 > offer 0 2 : 3 9 2 1 0",
@@ -44,7 +37,7 @@ STATED = [
         "02 2A 09 00 00 00000000 > answer 0 41 9 : 10",
     ),
     (
-        "numbers run 1 to 255 and then 1 again",
+        "after number 255 comes 1",
         "03 FE 00 00 00 00000000 > set : 254",
         "00 05 00 00 00 00000000 > offer 0 254 : 255 5 254 0 0",
         "02 06 FE 00 00 00000000 > answer 0 5 254 : 255",
@@ -53,7 +46,7 @@ STATED = [
         "00 05 00 00 00 00000000 > offer 0 1 : 2 5 1 0 0",
     ),
     (
-        "an accepted command uses one, a refused one none",
+        "only an accepted command uses a number",
         "00 07 00 00 00 00000000 > offer 42 : 1",
         "00 05 00 00 00 00000000 > offer 0 1 : 2 5 1 0 0",
         "00 09 00 00 00 00000000 > offer 41 : 2 5 1 0 0",
@@ -62,7 +55,7 @@ STATED = [
         "00 09 00 00 00 00000000 > offer 0 2 : 3 9 2 0 0",
     ),
     (
-        "elapsed time is the difference modulo 2^32",
+        "elapsed time, also over the clock's wrap",
         "05 00 00 00 00 00000000 > elapsed 0 0 : 1",
         "05 FF FF FF FF 00000000 > elapsed 1 0 : 1",
         "05 00 00 00 01 00000000 > elapsed 4294967295 0 : 1",
@@ -72,14 +65,14 @@ STATED = [
         "05 01 02 03 04 01020403 > elapsed 255 1 : 1",
     ),
     (
-        "a tick is due if 200 <= elapsed",
+        "due from 200 ms on",
         "04 02 05 01 00 00000000 > set : 2 5 1 0 0",
         "01 00 00 00 00 00000000 > tick 0 : 2 5 1 0 0",
         "01 00 00 00 00 000000C7 > tick 0 : 2 5 1 0 0",
         "01 00 00 00 00 000000C8 > tick 0 1 5 1 : 2 5 1 200 1",
     ),
     (
-        "a tick is due if elapsed < 2^31",
+        "due below 2^31 ms",
         "04 02 05 01 00 00000001 > set : 2 5 1 1 0",
         "01 00 00 00 00 80000001 > tick 0 : 2 5 1 1 0",
         "01 00 00 00 00 80000002 > tick 0 : 2 5 1 1 0",
@@ -88,7 +81,7 @@ STATED = [
         "01 00 00 00 00 FFFFFFFF > tick 0 1 5 1 : 2 5 1 4294967295 2",
     ),
     (
-        "a clock up to 2^31 behind the last sending is never due",
+        "a clock before the last sending is not due",
         "04 02 05 01 00 000000C8 > set : 2 5 1 200 0",
         "01 00 00 00 00 000000C7 > tick 0 : 2 5 1 200 0",
         "01 00 00 00 00 00000000 > tick 0 : 2 5 1 200 0",
@@ -97,7 +90,7 @@ STATED = [
         "01 00 00 00 00 800000C7 > tick 0 1 5 1 : 2 5 1 2147483847 1",
     ),
     (
-        "a due tick sends again and restarts the time; at most 3 repeats; the due tick after the last gives up; idle",
+        "three repeats, then the link gives up and is idle",
         "00 27 00 00 00 00000000 > offer 0 1 : 2 39 1 0 0",
         "01 00 00 00 00 000000C8 > tick 0 1 39 1 : 2 39 1 200 1",
         "01 00 00 00 00 0000018F > tick 0 : 2 39 1 200 1",
@@ -110,7 +103,7 @@ STATED = [
         "00 27 00 00 00 000003E8 > offer 0 2 : 3 39 2 1000 0",
     ),
     (
-        "in the end form a tick alters that record in its own place",
+        "the tick in place does the same",
         "00 27 00 00 00 00000000 > offer 0 1 : 2 39 1 0 0",
         "06 00 00 00 00 000000C7 > tick 0 : 2 39 1 0 0",
         "06 00 00 00 00 000000C8 > tick 0 1 39 1 : 2 39 1 200 1",
@@ -122,14 +115,14 @@ STATED = [
         "06 00 00 00 00 00000000 > tick 17 0 : 0",
     ),
     (
-        "the time restarts at the due tick, however late it came",
+        "the time starts again at the due tick, however late it is",
         "00 05 00 00 00 00000000 > offer 0 1 : 2 5 1 0 0",
         "01 00 00 00 00 000003E7 > tick 0 1 5 1 : 2 5 1 999 1",
         "01 00 00 00 00 000004AE > tick 0 : 2 5 1 999 1",
         "01 00 00 00 00 000004AF > tick 0 1 5 1 : 2 5 1 1199 2",
     ),
     (
-        "another tick changes nothing",
+        "a tick that is not due changes nothing",
         "01 00 00 00 00 00000000 > tick 0 : 1",
         "01 00 00 00 00 000000C8 > tick 0 : 1",
         "04 09 13 08 03 00000064 > set : 9 19 8 100 3",
@@ -138,7 +131,7 @@ STATED = [
         "01 00 00 00 00 00000063 > tick 0 : 9 19 8 100 3",
     ),
     (
-        "the answer that fits is command plus 1 with the same number; no waiting command, or other command or number",
+        "STRAY: nothing waits, another command, another number",
         "02 06 01 00 00 00000000 > answer 43 : 1",
         "00 05 00 00 00 00000000 > offer 0 1 : 2 5 1 0 0",
         "02 05 01 00 00 00000000 > answer 43 : 2 5 1 0 0",
@@ -149,13 +142,13 @@ STATED = [
         "02 06 01 00 00 00000000 > answer 43 : 2",
     ),
     (
-        "a repeat keeps command and number, and its answer fits still",
+        "a repeat keeps command and number, and its reply still fits",
         "04 01 29 FF 02 00000000 > set : 1 41 255 0 2",
         "01 00 00 00 00 000000C8 > tick 0 1 41 255 : 1 41 255 200 3",
         "02 2A FF 00 00 00000000 > answer 0 41 255 : 1",
     ),
     (
-        "17 comes before all others, state unchanged: next number 0",
+        "STATE comes first and changes nothing: next number 0",
         "03 00 00 00 00 00000000 > set : 0",
         "00 05 00 00 00 00000000 > offer 17 0 : 0",
         "00 07 00 00 00 00000000 > offer 17 0 : 0",
@@ -167,7 +160,7 @@ STATED = [
         "02 06 01 00 00 00000000 > answer 17 0 : 0 5 1 0 0",
     ),
     (
-        "17 comes before all others, state unchanged: waiting command not one of the nine",
+        "STATE comes first and changes nothing: a command that cannot wait",
         "04 02 07 01 00 00000000 > set : 2 7 1 0 0",
         "00 05 00 00 00 00000000 > offer 17 0 : 2 7 1 0 0",
         "00 07 00 00 00 00000000 > offer 17 0 : 2 7 1 0 0",
@@ -177,14 +170,14 @@ STATED = [
         "02 06 01 00 00 00000000 > answer 17 0 : 2 7 1 0 0",
     ),
     (
-        "17 comes before all others, state unchanged: waiting number 0",
+        "STATE comes first and changes nothing: waiting number 0",
         "04 02 05 00 00 00000000 > set : 2 5 0 0 0",
         "00 05 00 00 00 00000000 > offer 17 0 : 2 5 0 0 0",
         "01 00 00 00 00 000000C8 > tick 17 0 : 2 5 0 0 0",
         "02 06 00 00 00 00000000 > answer 17 0 : 2 5 0 0 0",
     ),
     (
-        "17 comes before all others, state unchanged: 4 repeats",
+        "STATE comes first and changes nothing: 4 repeats",
         "04 02 05 01 04 00000000 > set : 2 5 1 0 4",
         "00 05 00 00 00 00000000 > offer 17 0 : 2 5 1 0 4",
         "01 00 00 00 00 000000C8 > tick 17 0 : 2 5 1 0 4",
@@ -192,61 +185,55 @@ STATED = [
         "05 00 00 00 00 000000C8 > elapsed 200 1 : 2 5 1 0 4",
     ),
     (
-        "the last values in range are not 17",
+        "the last values in range are not STATE",
         "04 FF 29 FF 03 FFFFFFFF > set : 255 41 255 4294967295 3",
         "00 05 00 00 00 00000000 > offer 41 : 255 41 255 4294967295 3",
         "01 00 00 00 00 000000C6 > tick 0 : 255 41 255 4294967295 3",
         "01 00 00 00 00 000000C7 > tick 0 2 41 255 : 255",
     ),
     (
-        "order 17, 42, 41",
+        "UNSENT comes before BUSY",
         "04 02 05 01 00 00000000 > set : 2 5 1 0 0",
         "00 06 00 00 00 00000000 > offer 42 : 2 5 1 0 0",
         "00 09 00 00 00 00000000 > offer 41 : 2 5 1 0 0",
     ),
     (
-        "42: one that the box sends but that does not wait",
+        "UNSENT: commands that the box sends and that do not wait",
         "00 02 00 00 00 00000000 > offer 42 : 1",
         "00 08 00 00 00 00000000 > offer 42 : 1",
         "00 12 00 00 00 00000000 > offer 42 : 1",
     ),
     (
-        "each other operation takes a fresh link",
+        "any other operation makes a fresh link",
         "04 09 13 08 03 00000064 > set : 9 19 8 100 3",
         "07 FF FF FF FF FFFFFFFF > fresh : 1",
         "03 09 00 00 00 00000000 > set : 9",
         "FF 00 00 00 00 00000000 > fresh : 1",
     ),
-    ("an incomplete record at the end is passed over", "03 09 00 00 00 00000000 > set : 9", "00 05 00 00 00 000000 >"),
+    ("an incomplete record at the end is not played", "03 09 00 00 00 00000000 > set : 9", "00 05 00 00 00 000000 >"),
     ("no input", ">"),
 ]
 
-# Data of other sizes than 8: a missing byte is 0, and others are not asked for. Operation, data, line.
+# Data of other sizes than 8: a missing byte is 0, and more bytes count for nothing. Operation, data, line.
 SIZES = [
     (3, "09", "set : 9"),
     (0, "05", "offer 0 9 : 10 5 9 0 0"),
     (6, "00 00 00 00 00 00 00 C8 01", "tick 0 1 5 9 : 10 5 9 200 1"),
     (7, "", "fresh : 1"),
 ]
+FRESH_STEP = record(LINK + 7), ["fresh : 1"]
 
 
-def stated():
-    """For each of them the name, the script and the text."""
-    for name, *steps in STATED:
-        pairs = [step.split(">") for step in steps]
-        records = filter(None, (bytes.fromhex(record) for record, _ in pairs))
-        lines = [line.strip() for _, line in pairs]
-        yield name, b"".join(map(model.scripted, records)), "".join(line + "\n" for line in lines if line)
-    script = b"".join(record(LINK + operation, bytes.fromhex(data)) for operation, data, _ in SIZES)
-    yield "data of other sizes", script, "".join(line + "\n" for *_, line in SIZES)
+def in_record(call):
+    """A record from the operation, a, b, c, d and the clock; a front of these is the front of a record."""
+    return bytes([LINK | call[0], 0, 8]) + call[1:]
 
 
-def parts():
-    """Those of whole records, each behind a fresh link."""
-    for _, script, text in stated():
-        if is_whole(script):
-            yield record(LINK + 7) + script, "fresh : 1\n" + text
-
-
-if __name__ == "__main__":
-    print_part(lambda: b"".join(script for script, _ in parts()), lambda: "".join(text for _, text in parts()))
+def scripts():
+    """A name and the steps of each, to be played on a fresh link."""
+    for name, *rows in STATED:
+        pairs = [row.split(">") for row in rows]
+        calls = [(bytes.fromhex(call), line.strip()) for call, line in pairs]
+        yield name, [(in_record(call), [line] if line else []) for call, line in calls if call]
+    sizes = [(record(LINK + operation, bytes.fromhex(data)), [line]) for operation, data, line in SIZES]
+    yield "data of other sizes", sizes

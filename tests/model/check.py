@@ -1,0 +1,46 @@
+#!/usr/bin/env python3
+"""One reading of the rules, held to answers worked out by hand and to the definitions; then the program held to it.
+
+check.py PROGRAM STDIN STDOUT [SEED [COUNT]]: STDIN and STDOUT are the stored script and text of PROGRAM, test_driver.
+COUNT is the number of random streams of messages and of scripts of a link; of streams for the reader there are eight
+times as many. The last line is 'N passed, M failed'.
+"""
+import pathlib
+import sys
+
+sys.path.insert(1, str(pathlib.Path(__file__).resolve().parents[1] / "lib"))
+import check_comparison
+import check_device
+import check_examples
+import check_link
+import check_messages
+import check_stored
+import check_streams
+from checks import Checks, Program, seed_and_count
+
+PATIENCE = 60  # seconds
+
+
+def main():
+    path, stdin, stdout, *words = sys.argv[1:]
+    seed, count = seed_and_count(words, 400)
+    checks = Checks("model")
+    check_comparison.check(checks)
+    check_examples.check_model(checks)
+    check_streams.check_model(checks, seed, 8 * count)
+    check_messages.check_model(checks)
+    check_link.check_model(checks)
+    check_stored.check_files(checks, (stdin, stdout))
+    with checks.unless_dead():
+        program = Program(path, PATIENCE)
+        check_examples.check_program(checks, program)
+        check_streams.check_program(checks, program, seed, 8 * count)
+        check_messages.check_program(checks, program, seed, count)
+        check_link.check_program(checks, program, seed, count)
+        check_device.check_program(checks, program, seed)
+        check_stored.check_program(checks, program)
+    return checks.end()
+
+
+if __name__ == "__main__":
+    sys.exit(main())

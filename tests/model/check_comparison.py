@@ -1,0 +1,43 @@
+"""That comparing and counting find what is wrong: without them no test of the program could fail."""
+from checks import difference
+from counting import miscounted
+
+PIECES = [(b"\1", ["one", "two"]), (b"\2", []), (b"\3", ["three"])]
+TEXT = b"one\ntwo\nthree\n"
+WRONG = [
+    ("another line", b"one\n2\nthree\n"),
+    ("a line too few", b"one\ntwo\n"),
+    ("a line too many", TEXT + b"four\n"),
+    ("no end of the last line", TEXT[:-1]),
+    ("no text", b""),
+    ("two lines exchanged", b"two\none\nthree\n"),
+]
+
+# Calls on a link (counting.py) with their lines: an offer of 05 at clock 0, ticks, and the frame that fits.
+CALLS = [
+    ("00 05 00 00 00 00000000", "offer 0 1 : 2 5 1 0 0"),
+    ("01 00 00 00 00 000000C7", "tick 0 : 2 5 1 0 0"),
+    ("01 00 00 00 00 000000C8", "tick 0 1 5 1 : 2 5 1 200 1"),
+    ("02 06 01 00 00 000000C9", "answer 0 5 1 : 2"),
+    ("00 05 00 00 00 000000C9", "offer 0 2 : 3 5 2 201 0"),
+]
+MISCOUNTED = [
+    ("another number", 0, "offer 0 2 : 3 5 2 0 0"),
+    ("a repeat too early", 1, "tick 0 1 5 1 : 2 5 1 199 1"),
+    ("a repeat that is missing", 2, "tick 0 : 2 5 1 0 0"),
+    ("another waiting command", 3, "answer 0 9 1 : 2"),
+    ("a number used twice", 4, "offer 0 1 : 2 5 1 201 0"),
+]
+
+
+def check(checks):
+    checks.test("the right text has no difference", difference(PIECES, TEXT) == "")
+    for name, text in WRONG:
+        checks.test(f"{name}: found in a text", difference(PIECES, text) != "")
+    calls, lines = [bytes.fromhex(call) for call, _ in CALLS], [line for _, line in CALLS]
+    tally = dict.fromkeys(["numbers used", "waits of four due ticks"], 0)
+    checks.test("the right lines are counted right", miscounted(calls, lines, tally) == "")
+    for name, place, line in MISCOUNTED:
+        wrong = [*lines[:place], line, *lines[place + 1 :]]
+        checks.test(f"{name}: found by counting", miscounted(calls, wrong, tally) != "")
+    checks.test("a line too few: found by counting", miscounted(calls, lines[:-1], tally) != "")

@@ -1,0 +1,68 @@
+"""Messages: the model and the program against lines worked out by hand, then the program against the model."""
+import collections
+
+from checks import lines_of
+from driver import stream_lines, stream_pieces, stream_script
+from message import LISTED
+from random_messages import STEPS, STREAMS, stream_of
+from records import MAX_DATA
+from stated_messages import NAMED, STATED, steps, streams
+
+
+def check_model(checks):
+    for name, data, *lines in STATED:
+        found = stream_lines(bytes.fromhex(data))
+        checks.test(f"the model: {name}", found == lines, str(found))
+    for name, (_, lines), found in steps():
+        checks.test(f"the model: {name}", [found] == lines, found)
+
+
+def stated(checks, program):
+    for name, stream, lines in streams():
+        _, wrong = program.compared(stream_script(stream), [(stream, ["fresh", *lines])])
+        checks.test(f"the program: {name}", not wrong, wrong)
+    for name, step, _ in steps():
+        wrong = program.wrong_on([step])
+        checks.test(f"the program: {name}", not wrong, wrong)
+    wrong = program.wrong_on([NAMED])
+    checks.test("the program: the numbers of modes, ways and codes", not wrong, wrong)
+
+
+def random_streams(checks, program, seed, count):
+    seen = collections.Counter()
+    for place, rand, family in checks.inputs(STREAMS, seed, count, "message stream"):
+        stream = stream_of(rand, family)
+        pieces = [(b"", ["fresh"]), *stream_pieces(stream)]
+        for line in lines_of(pieces):
+            word, _, rest = line.partition(" ")
+            if word in ("frame", "sum"):
+                seen[word] += 1
+            elif word == "read":
+                seen["read", *rest.split(" ")[:2]] += 1
+        # The reader stays from record to record, wherever the stream is cut.
+        _, wrong = program.compared(stream_script(stream, rand.choice([37, 500, MAX_DATA])), pieces)
+        checks.test_random(f"the program: {place}", wrong)
+    checks.say(f"{seen['frame']} frames and {seen['sum']} wrong sums")
+    # Streams without these would show nothing.
+    for answer in ("31", "32", "33"):
+        checks.test(f"a message refused by {answer} is seen", seen["read", answer] > 0)
+    missing = [command for command in LISTED if not seen["read", "0", str(command)]]
+    checks.test("each listed command is read", not missing, f"missing {missing}")
+    checks.test("a wrong sum is seen", seen["sum"] > 0)
+
+
+def random_steps(checks, program, seed, count):
+    seen = collections.Counter()
+    for place, rand, some in checks.inputs(STEPS, seed, count, "message script"):
+        script = [some(rand) for _ in range(200)]
+        seen.update(tuple(line.split(" ")[:2]) for line in lines_of(script))
+        checks.test_random(f"the program: {place}", program.wrong_on(script))
+    for word, answers in (("write", ("0", "21", "22", "31", "32", "33")), ("answer", ("0", "22"))):
+        for answer in answers:
+            checks.test(f"'{word} {answer}' is seen", seen[word, answer] > 0)
+
+
+def check_program(checks, program, seed, count):
+    stated(checks, program)
+    random_streams(checks, program, seed, count)
+    random_steps(checks, program, seed, count)

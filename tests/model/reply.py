@@ -1,0 +1,35 @@
+"""What the box replies to a received frame (PROTOCOL 8.2 to 8.10)."""
+from answers import COMMAND, FIELD, SIZE, SUM
+from message import CONTROL
+
+NOTHING, WANTED, SENT = "nothing", "wanted", "sent"
+INFORMATION, STATUS = 0x02, 0x04  # what the caller is asked to send where it is WANTED
+REJECTION = 0x12
+BOX_SENDS = bytes.fromhex("02 04 05 08 09 0B 0E 10 12 13 15 17 1A 1B 1E 20 27 29")
+
+
+def reply_to(answer, values, command):
+    """What is to be done, with the command and payload that the box sends, or the command that is wanted.
+
+    `answer` is SUM, or that of reading the message; `values` are the message's where it is DONE.
+    """
+    if answer == SUM:
+        return SENT, REJECTION, bytes([1])
+    if answer == COMMAND or command in BOX_SENDS:
+        return SENT, REJECTION, bytes([2])
+    if answer in (SIZE, FIELD):
+        return SENT, REJECTION, bytes([3])
+    if command in (0x07, 0x0D, 0x0F):
+        return SENT, command + 1, b""
+    if command == 0x03 and values[1] == CONTROL:
+        return SENT, command + 1, b""
+    if command == 0x01:
+        return WANTED, INFORMATION, b""
+    if command == 0x03:
+        return WANTED, STATUS, b""
+    return NOTHING, 0, b""
+
+
+def cause_of(answer, command):
+    """The cause of a rejection (PROTOCOL 8.13)."""
+    return 0 if answer != SUM and command in BOX_SENDS else answer
