@@ -1,4 +1,4 @@
-//! What the box answers to what it received, always with flags 0 and the number received.
+//! What the box replies to what it received (PROTOCOL 8), always with flags 0 and the number received.
 
 use crate::messages::{self, Message, Refusal};
 use crate::writer::wire_form;
@@ -9,7 +9,7 @@ const WRONG_SUM: u8 = 1;
 const UNKNOWN_COMMAND: u8 = 2;
 const OTHER_ERROR: u8 = 3;
 
-/// The row of a wrong sum, and what stands for a command that only the box sends: no row refuses it.
+/// The number of a wrong sum, and of a command that only the box sends, which no answer refuses.
 const SUM_ROW: u8 = 15;
 const NO_ROW: u8 = 0;
 
@@ -19,14 +19,14 @@ const FROM_THE_BOX: [u8; 18] =
 
 pub enum Reply {
     Nothing,
-    /// The caller is to write this command.
+    /// The caller has to send this command.
     Wanted {
         command: u8,
     },
     Acknowledged {
         wire: Vec<u8>,
     },
-    /// The cause is the row that refuses the frame.
+    /// The cause is the number of the answer that refuses the frame.
     Rejected {
         code: u8,
         cause: u8,
@@ -34,7 +34,7 @@ pub enum Reply {
     },
 }
 
-/// The answer to a frame whose checksum holds.
+/// The reply to a frame whose checksum holds.
 pub fn to_frame(command: u8, number: u8, payload: &[u8]) -> Reply {
     if FROM_THE_BOX.contains(&command) {
         return rejected(number, UNKNOWN_COMMAND, NO_ROW);
@@ -51,7 +51,7 @@ pub fn to_frame(command: u8, number: u8, payload: &[u8]) -> Reply {
     }
 }
 
-/// The answer to a frame whose checksum is wrong.
+/// The reply to a frame whose checksum is wrong.
 pub fn to_wrong_sum(number: u8) -> Reply {
     rejected(number, WRONG_SUM, SUM_ROW)
 }

@@ -12,7 +12,7 @@ const WORKERS: usize = 2;
 /// Bytes of an input, and characters of a line, that are shown of the first difference.
 const SHOWN: usize = 400;
 
-/// What the first implementation did otherwise.
+/// What the first implementation does in another way.
 struct Difference {
     name: String,
     what: String,
@@ -22,7 +22,7 @@ struct Difference {
 struct Comparison {
     folder: PathBuf,
     seed: u64,
-    /// Programs that are not asked any more: missing, or hung once.
+    /// Programs that are not run any more: missing, or hung once.
     out: [AtomicBool; PROGRAMS.len()],
 }
 
@@ -66,7 +66,7 @@ impl Comparison {
         Comparison { folder: folder.into(), seed, out: Default::default() }
     }
 
-    /// The literal listing of both, and whether the programs are there.
+    /// The listing's example by both, and whether the programs are there.
     fn first_look(&self) -> Score {
         let mut score = Score::default();
         for program in PROGRAMS {
@@ -76,10 +76,10 @@ impl Comparison {
             }
         }
         let own = output_of(Program::List, &vectors::LISTED);
-        score.check_listing("the paper's listing, second implementation", Ok(own));
+        score.check_listing("the listing's example, second implementation", Ok(own));
         if self.takes_part(Program::List) {
             let first = self.run(Program::List, &vectors::LISTED);
-            score.check_listing("the paper's listing, first implementation", first);
+            score.check_listing("the listing's example, first implementation", first);
         }
         score
     }

@@ -1,4 +1,4 @@
-//! The counter's own layouts: status (8 bytes) and control (4 bytes), behind the first payload byte.
+//! The counter's own layouts (PROTOCOL 7): status (8 bytes) and control (4 bytes), after the first payload byte.
 
 use crate::messages::Refusal;
 

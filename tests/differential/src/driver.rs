@@ -1,4 +1,5 @@
-//! The program `driver`: records played on one reader, one link and the writer. Messages to write are not played here.
+//! The program `test_driver`: records played on one reader, one link and the writer. Messages to write are not
+//! played here.
 
 use crate::link::Link;
 use crate::links;
@@ -8,7 +9,7 @@ use crate::transcript;
 use crate::writer;
 use std::io::{self, Read, Write};
 
-/// Operations of a script; any other below LINK takes a fresh reader.
+/// Operations of a script; any other below LINK makes a fresh reader.
 pub const FEED: u8 = 1;
 pub const FINISH: u8 = 2;
 pub const SET: u8 = 3;
@@ -19,7 +20,7 @@ pub const LINK: u8 = 128;
 
 pub const MOST_DATA: usize = 4_096;
 pub const MOST_ROOM: usize = 2_100;
-/// Each output byte before the call, so that bytes left alone can be told from bytes written.
+/// Each output byte before the call, so that an untouched byte is seen.
 pub const UNTOUCHED: u8 = 0xAA;
 
 /// Plays the script to its end, or to the first record that is too large or incomplete. Each record's lines are written
@@ -78,7 +79,7 @@ fn record(input: &mut impl Read) -> Option<(u8, Vec<u8>)> {
     Some((operation, data))
 }
 
-/// Big-endian, from a place on; missing bytes count as 0.
+/// A big-endian number at a place; missing bytes count as 0.
 pub fn number(data: &[u8], place: usize, size: usize) -> u64 {
     let byte = |place: usize| u64::from(data.get(place).copied().unwrap_or(0));
     (place..place + size).fold(0, |number, place| number << 8 | byte(place))

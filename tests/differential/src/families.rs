@@ -3,7 +3,7 @@
 use crate::random::Rng;
 use crate::{link_scripts, scripts, streams, vectors};
 
-/// What an input is played through: the program `list`, or one kind of script on the program `driver`.
+/// What an input is played through: the program `list_program`, or one kind of script on `test_driver`.
 #[derive(Clone, Copy, PartialEq, Eq, Debug)]
 pub enum Play {
     List,
@@ -60,7 +60,7 @@ type Make = fn(&mut Rng, u64) -> Vec<u8>;
 /// What a family makes, and with it what that is played through.
 #[derive(Clone, Copy)]
 enum Kind {
-    /// A stream to list, to play in records, and to give to the reader in random cuts.
+    /// A stream to list, to play in records, and to feed to the reader in random cuts.
     Stream(Make),
     /// A stream that is too long for random cuts.
     Long(Make),
@@ -73,7 +73,7 @@ enum Kind {
 pub struct Family {
     pub name: &'static str,
     kind: Kind,
-    /// How many inputs, from the count that was asked for.
+    /// How many inputs, for the count of a run.
     inputs: fn(u64) -> u64,
 }
 

@@ -1,10 +1,10 @@
-//! The sending rules: one command waits at a time, is sent again when its time is up, and is given up in the end.
+//! The link (PROTOCOL 9): one command waits at a time. It is sent again when its time is up, and given up in the end.
 
-/// Commands that the box sends of itself and that wait for an answer.
+/// Commands that the box sends on its own and that wait for an answer.
 pub const SENDABLE: [u8; 9] = [0x05, 0x09, 0x0B, 0x13, 0x15, 0x17, 0x1B, 0x27, 0x29];
 const MOST_REPEATS: u8 = 3;
 const TIMEOUT: u32 = 200;
-/// From here on a clock counts as gone back.
+/// From here on a clock counts as turned back.
 const HALF_CLOCK: u32 = 1 << 31;
 
 #[derive(Clone, Copy, PartialEq, Eq, Debug)]
@@ -80,7 +80,7 @@ impl Link {
         Ok((answered.command, answered.number))
     }
 
-    /// A link from elsewhere may have fields that no fresh one comes to.
+    /// A link in any state may have fields that no fresh one reaches.
     fn check(&self) -> Result<(), Refusal> {
         let waiting_fits = |waiting: Waiting| {
             SENDABLE.contains(&waiting.command) && waiting.number != 0 && waiting.repeats <= MOST_REPEATS

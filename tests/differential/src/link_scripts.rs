@@ -66,7 +66,7 @@ impl Script {
         self.record(ELAPSED, self.clock.wrapping_sub(back).to_be_bytes(), self.clock);
     }
 
-    /// A link from elsewhere; about half of them have a field out of its range.
+    /// A link in any state; about half of them have a field out of its range.
     fn set(&mut self, rng: &mut Rng) {
         let next = rng.pick(&[0, 1, 2, 254, 255, 255]);
         if rng.once_in(4) {
@@ -90,7 +90,7 @@ impl Script {
     }
 }
 
-/// Milliseconds around the ones that count.
+/// Milliseconds around the ones at which something changes.
 fn step(rng: &mut Rng) -> u32 {
     const HALF: u32 = 1 << 31;
     match rng.below(12) {
@@ -103,7 +103,7 @@ fn step(rng: &mut Rng) -> u32 {
     }
 }
 
-/// A link that lives long enough for its numbers to come round.
+/// A link that lives long enough for its numbers to begin again.
 pub fn long_life(rng: &mut Rng, _index: u64) -> Vec<u8> {
     let mut script = Script::new(rng);
     for _ in 0..2 * RECORDS {
@@ -121,7 +121,7 @@ pub fn long_life(rng: &mut Rng, _index: u64) -> Vec<u8> {
     script.records
 }
 
-/// Links from elsewhere, each with a few calls.
+/// Links in any state, each with a few calls.
 pub fn elsewhere(rng: &mut Rng, _index: u64) -> Vec<u8> {
     let mut script = Script::new(rng);
     for _ in 0..RECORDS / 5 {

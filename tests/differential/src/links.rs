@@ -1,4 +1,4 @@
-//! The link's records of the program `driver`.
+//! The link's records of the program `test_driver`.
 
 use crate::driver::number;
 use crate::link::{self, Link, Refusal, Tick, Waiting};

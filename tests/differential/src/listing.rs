@@ -1,4 +1,4 @@
-//! The listing of a stream: one line for each decision.
+//! The listing of a stream (PROTOCOL 10): one line for each decision.
 
 use crate::reader::{Answer, Ending, Reader, Verdict};
 use crate::text;
@@ -8,7 +8,7 @@ const READ_SIZE: usize = 64 * 1_024;
 const TITLE: &[u8] = b"kind start end cmd sn flags payload\n";
 
 /// Lists the input. What was decided is written before more is read, so that a slow line can be watched.
-/// A failed read is the caller's to report; a failed write ends the listing, since nobody reads it any more.
+/// The caller reports a failed read; a failed write ends the listing, since nobody reads it any more.
 pub fn list(input: &mut impl Read, output: &mut impl Write) -> io::Result<()> {
     let mut reader = Reader::new();
     let mut bytes = vec![0; READ_SIZE];
@@ -46,7 +46,7 @@ fn add_lines(reader: &mut Reader, mut bytes: &[u8], lines: &mut Vec<u8>) {
                 add_line(verdict, start, end, reader, lines);
                 bytes = &bytes[count..];
             }
-            // All taken; the limits of a reader are out of reach of any real stream.
+            // All bytes are consumed; no real stream reaches a reader's limits.
             Answer::More { .. } | Answer::State | Answer::Used => return,
         }
     }

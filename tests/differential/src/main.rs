@@ -1,4 +1,4 @@
-//! The serial protocol once more, written from the paper, to be compared with the first implementation.
+//! A second implementation of the serial protocol, written from the rules alone, to compare the first one with.
 
 mod answers;
 mod compare;
@@ -86,7 +86,7 @@ fn generate(kind: &str, seed: &str, count: &str) -> Result<(), String> {
 fn compare(folder: &str, seed: Option<&str>, count: Option<&str>) -> Result<(), String> {
     let seed = seed.map_or(Ok(DEFAULT_SEED), number)?;
     let count = count.map_or(Ok(DEFAULT_COUNT), number)?;
-    // The score's line must be the last one, so nothing is said behind it.
+    // The score's line must be the last one, so nothing is printed after it.
     compare::compare(Path::new(folder), seed, count).then_some(()).ok_or(String::new())
 }
 

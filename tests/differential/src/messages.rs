@@ -1,4 +1,4 @@
-//! Messages: what a command and its payload mean, their values, their parts, and their payload written again.
+//! Messages (PROTOCOL 7): what a command and its payload mean, their values, their parts, their payload written again.
 
 use crate::counter::{Control, Status, CONTROL_SIZE, STATUS_SIZE};
 
@@ -118,7 +118,7 @@ fn read_request(payload: &[u8]) -> Result<Message<'_>, Refusal> {
     }
 }
 
-/// The first byte and behind it a status.
+/// The first byte, then a status.
 fn read_status(first: u8, payload: &[u8]) -> Result<Status, Refusal> {
     let (&begin, behind) = payload.split_first().ok_or(Refusal::Size)?;
     if begin != first {
@@ -181,7 +181,7 @@ impl<'a> Message<'a> {
         }
     }
 
-    /// The values behind the command, parts left out.
+    /// The values after the command, without the parts.
     pub fn values(&self) -> Vec<u64> {
         match self {
             Message::Empty { .. } => vec![],
@@ -200,7 +200,7 @@ impl<'a> Message<'a> {
         }
     }
 
-    /// The parts of the payload that the message hands over, each under its number; some may be empty.
+    /// The parts of the payload, each under its number; some may be empty.
     pub fn parts(&self) -> Vec<(u64, &'a [u8])> {
         match self {
             Message::Information(information) => information.parts(),

@@ -59,7 +59,7 @@ fn first(payload: &mut [u8], choices: &[u8], rng: &mut Rng) {
     }
 }
 
-/// Control (5 bytes) or query (1 byte), told apart by the first byte.
+/// Control (5 bytes) or query (1 byte); the first byte says which.
 fn request(payload: &mut [u8], rng: &mut Rng) {
     let begin = if payload.len() == 1 { 2 } else { 1 };
     first(payload, &[begin, begin, begin, begin, 0, 1, 2, 3], rng);

@@ -9,7 +9,7 @@ impl Rng {
         Rng { state: seed }
     }
 
-    /// A generator of its own for one test, so that a test's input does not depend on how many stand before it.
+    /// A generator of its own for one test, so that a test's input does not depend on the tests before it.
     pub fn for_test(seed: u64, family: u64, index: u64) -> Rng {
         let mut rng = Rng::new(seed);
         for part in [family, index] {

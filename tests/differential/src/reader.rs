@@ -1,4 +1,5 @@
-//! The streaming reader: raw bytes in, at most one decision for each call, places counted over the whole stream.
+//! The streaming reader (PROTOCOL 3 and 4): raw bytes in, at most one decision for each call, places counted over the
+//! whole stream.
 
 /// The greatest length field of a frame.
 pub const LIMIT: usize = 1_024;
@@ -6,19 +7,19 @@ pub const LIMIT: usize = 1_024;
 pub const BODY_SIZE: usize = LIMIT + 2;
 /// The least length: command, sequence number, flags and checksum.
 const LEAST_LENGTH: usize = 5;
-/// The most bytes that one reader takes.
+/// The most bytes that one reader consumes.
 const MOST_TAKEN: u64 = 1 << 62;
 
 /// What the reader remembers of the last raw byte, and whether a frame is open.
 #[derive(Clone, Copy, PartialEq, Eq)]
 enum Phase {
-    /// No frame open, the last byte is no FF.
+    /// No frame open, the last byte is not FF.
     Idle,
     /// No frame open, the last byte is FF.
     Half,
     /// The last two bytes are a header, no body byte yet.
     Header,
-    /// A frame is open, the last byte is no FF.
+    /// A frame is open, the last byte is not FF.
     Open,
     /// A frame is open, an FF of its body waits for its stuffing byte.
     Escape,
@@ -65,12 +66,12 @@ impl Reader {
         Reader::having_taken(0)
     }
 
-    /// Fresh but for the count of bytes taken; out of range above 2^62.
+    /// Fresh but for the count of bytes consumed; out of range above 2^62.
     pub fn having_taken(taken: u64) -> Reader {
         Reader { phase: Phase::Idle, taken, start: 0, have: 0, length: 0, sum: 0, body: [0; BODY_SIZE] }
     }
 
-    /// Bytes given: takes them up to the byte that decides something.
+    /// Feed: consumes the bytes up to the one that decides something.
     pub fn feed(&mut self, bytes: &[u8]) -> Answer {
         if self.taken > MOST_TAKEN {
             return Answer::State;
@@ -89,7 +90,7 @@ impl Reader {
         }
     }
 
-    /// End asked: changes nothing.
+    /// Finish: changes nothing.
     pub fn finish(&self) -> Ending {
         match self.phase {
             _ if self.taken > MOST_TAKEN => Ending::State,
@@ -103,7 +104,7 @@ impl Reader {
         &self.body[..self.length + 2]
     }
 
-    /// Takes the bytes at the front that can decide nothing, in one go, because most bytes are such.
+    /// Consumes the bytes at the front that cannot decide anything, in one go, because most bytes are such.
     fn take_run(&mut self, bytes: &[u8]) -> usize {
         let run = match self.phase {
             Phase::Idle => bytes.iter().take_while(|&&byte| byte != 0xFF).count(),
@@ -136,7 +137,7 @@ impl Reader {
         raw
     }
 
-    /// Takes one raw byte; a decision comes with the start of the frame that it is about.
+    /// Consumes one raw byte; a decision comes with the start of the frame that it is about.
     fn take_byte(&mut self, byte: u8) -> Option<(Verdict, u64)> {
         let place = self.taken;
         self.taken += 1;
@@ -144,7 +145,7 @@ impl Reader {
             (Phase::Idle | Phase::Half, _) if byte != 0xFF => self.phase = Phase::Idle,
             (Phase::Idle, _) => self.phase = Phase::Half,
             (Phase::Half, _) => self.open(place - 1),
-            // One more FF behind a header: the header is now the last two.
+            // One more FF after a header: the header is now the last two.
             (Phase::Header, 0xFF) => self.start += 1,
             (Phase::Open, 0xFF) => self.phase = Phase::Escape,
             (Phase::Escape, 0xFF) => {
@@ -166,7 +167,7 @@ impl Reader {
         self.sum = 0;
     }
 
-    /// The deciding byte is never FF here, so no half header is left behind.
+    /// The deciding byte is never FF here, so no half header is left.
     fn close(&mut self, verdict: Verdict) -> (Verdict, u64) {
         self.phase = Phase::Idle;
         (verdict, self.start)

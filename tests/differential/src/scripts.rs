@@ -9,7 +9,7 @@ use crate::transcript;
 use crate::vectors;
 use crate::writer::{wire_form, MOST_PAYLOAD};
 
-/// Any operation that has no meaning of its own takes a fresh reader.
+/// Any operation that has no meaning of its own makes a fresh reader.
 const FRESH: u8 = 0;
 /// A stream of up to so many bytes is cut in every way.
 const SHORT_STREAM: usize = 12;
@@ -30,7 +30,7 @@ impl Script {
         push_record(&mut self.records, operation, data);
     }
 
-    /// Returns how many bytes are taken, or None where the call is refused.
+    /// Returns how many bytes are consumed, or None where the call is refused.
     fn feed(&mut self, data: &[u8]) -> Option<usize> {
         self.record(FEED, data);
         match self.reader.feed(data) {
@@ -59,7 +59,7 @@ impl Script {
         transcript::lines(&mut self.reader, data, &mut Vec::new());
     }
 
-    /// Offers the bytes until all are taken.
+    /// Offers the bytes until all are consumed.
     fn feed_all(&mut self, mut bytes: &[u8]) {
         while !bytes.is_empty() {
             let Some(count) = self.feed(bytes) else { return };
@@ -67,7 +67,7 @@ impl Script {
         }
     }
 
-    /// One way to cut a short stream: bit i of the mask cuts behind byte i. Untaken bytes come again first.
+    /// One way to cut a short stream: bit i of the mask cuts after byte i. What a call leaves comes again first.
     fn one_cut(&mut self, stream: &[u8], mask: u32) {
         let mut taken = 0;
         for end in 1..=stream.len() {
@@ -91,8 +91,8 @@ pub fn in_records(stream: &[u8], rng: &mut Rng) -> Vec<u8> {
     records
 }
 
-/// A stream given in random pieces, with ends asked between them. Half of the scripts are steady: untaken bytes always
-/// come again first. In the others some are dropped, and the reader is replaced now and then.
+/// A stream fed in random pieces, with finish between them. Half of the scripts are steady: what a call leaves always
+/// comes again first. In the others some bytes are dropped, and the reader is replaced now and then.
 pub fn random_cuts(stream: &[u8], rng: &mut Rng) -> Vec<u8> {
     let mut script = Script::new();
     let mut place = 0;
@@ -147,7 +147,7 @@ fn replace_reader(script: &mut Script, rng: &mut Rng) {
     }
 }
 
-/// A set with fewer than 8 bytes, or more: missing ones count as 0, others are not asked for.
+/// A set with fewer than 8 bytes, or more: missing ones are 0, others count for nothing.
 fn short_set(script: &mut Script, rng: &mut Rng) {
     let size = rng.between(0, 10);
     let data = rng.bytes_from(&[0, 0x3F, 0x40, 0xFF], size);
@@ -159,7 +159,7 @@ fn short_set(script: &mut Script, rng: &mut Rng) {
     script.reader = Reader::having_taken(u64::from_be_bytes(taken));
 }
 
-/// Ends some scripts with a record that is too large or incomplete, behind which nothing is played.
+/// Ends some scripts with a record that is too large or incomplete; nothing is played after it.
 fn last_record(script: &mut Script, rng: &mut Rng) {
     match rng.below(16) {
         0 => script.record(FEED, &vec![0; MOST_DATA + 1]),
@@ -184,7 +184,7 @@ fn near_limit(rng: &mut Rng) -> u64 {
     }
 }
 
-/// A stream given by a reader that is close to its limit from the start.
+/// Streams fed to a reader that is close to its limit from the start.
 pub fn limits(rng: &mut Rng, _index: u64) -> Vec<u8> {
     let mut script = Script::new();
     for _ in 0..20 {

@@ -48,7 +48,7 @@ pub fn damage(stream: &mut Vec<u8>, rng: &mut Rng) {
     }
 }
 
-/// Frames broken off by the next header.
+/// Frames cut by the next header.
 pub fn cut(rng: &mut Rng, _index: u64) -> Vec<u8> {
     let mut stream = Vec::new();
     for _ in 0..rng.between(1, 6) {
@@ -97,7 +97,7 @@ pub fn few_bytes(rng: &mut Rng, _index: u64) -> Vec<u8> {
     stream
 }
 
-/// Runs of FF before, inside and behind frames.
+/// Runs of FF before, inside and after frames.
 pub fn half_headers(rng: &mut Rng, _index: u64) -> Vec<u8> {
     let mut stream = ff_run(rng);
     for _ in 0..rng.between(1, 4) {
@@ -123,7 +123,7 @@ pub fn all_ff(rng: &mut Rng, _index: u64) -> Vec<u8> {
     stream
 }
 
-/// Length fields at their edges, with as many bytes behind them as they name, or other ones.
+/// Length fields at their edges, then as many bytes as they name, or another number of bytes.
 pub fn lengths(rng: &mut Rng, _index: u64) -> Vec<u8> {
     let mut stream = Vec::new();
     for _ in 0..rng.between(1, 5) {
@@ -214,7 +214,7 @@ pub fn every_bit(rng: &mut Rng, index: u64) -> Vec<u8> {
     stream
 }
 
-/// Some valid frames, one behind the other.
+/// Some valid frames, one after the other.
 pub fn frames(rng: &mut Rng, most: usize) -> Vec<u8> {
     (0..rng.between(1, most)).flat_map(|_| frame(rng)).collect()
 }

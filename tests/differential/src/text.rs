@@ -1,7 +1,7 @@
 //! Numbers and bytes as text, appended to a buffer.
 
 const DIGITS: &[u8; 16] = b"0123456789abcdef";
-/// The greatest number of 64 bits has so many.
+/// The greatest number of 64 bits has so many digits.
 const MOST_DIGITS: usize = 20;
 
 /// Decimal without leading zeros; by hand, two digits at a time, because a listing is mostly made of these.
@@ -22,7 +22,7 @@ pub fn decimal(out: &mut Vec<u8>, mut number: u64) {
     out.extend_from_slice(&digits[first..]);
 }
 
-/// Each number behind a space.
+/// A space and a number, for each number.
 pub fn numbers(out: &mut Vec<u8>, numbers: &[u64]) {
     for &number in numbers {
         out.push(b' ');
@@ -42,7 +42,7 @@ pub fn hex(bytes: &[u8]) -> String {
     bytes.iter().flat_map(|&byte| [high_digit(byte), low_digit(byte)]).map(char::from).collect()
 }
 
-/// The bytes that hex digits stand for; white space between the bytes is allowed. None if it is no such text.
+/// The bytes that hex digits stand for; white space between the bytes is allowed. None if the text is something else.
 pub fn from_hex(text: &str) -> Option<Vec<u8>> {
     let digits: Option<Vec<u8>> =
         text.chars().filter(|c| !c.is_whitespace()).map(|c| c.to_digit(16).map(|d| d as u8)).collect();

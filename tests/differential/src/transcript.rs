@@ -1,4 +1,4 @@
-//! Bytes of a stream: each frame read, written again and answered.
+//! Bytes of a stream: each frame read, written again and replied to.
 
 use crate::answers::{self, Reply};
 use crate::messages::{self, Message};

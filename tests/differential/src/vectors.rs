@@ -1,10 +1,10 @@
-//! Streams written down by hand, from the papers.
+//! Streams written down by hand.
 
 use crate::scripts;
 use crate::text;
 
 const FILES: [(&str, &str); 2] =
-    [("01.hex", include_str!("../vectors/01.hex")), ("003.hex", include_str!("../vectors/003.hex"))];
+    [("examples.hex", include_str!("../vectors/examples.hex")), ("tables.hex", include_str!("../vectors/tables.hex"))];
 
 /// The listing's own example, with the exact text that is to be printed for it.
 pub const LISTED: [u8; 25] = [

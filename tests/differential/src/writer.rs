@@ -1,4 +1,4 @@
-//! The writer: header, then the stuffed body with its checksum.
+//! The writer (PROTOCOL 2 and 6): header, then the stuffed body with its checksum.
 
 use crate::reader::LIMIT;
 
@@ -12,7 +12,7 @@ pub enum Refusal {
     Room = 22,
 }
 
-/// Writes a frame to the front of the output and says how many bytes it has there.
+/// Writes a frame to the front of the output and returns how many bytes it has.
 pub fn write(command: u8, number: u8, flags: u16, payload: &[u8], out: &mut [u8]) -> Result<usize, Refusal> {
     if payload.len() > MOST_PAYLOAD {
         return Err(Refusal::Payload);
@@ -39,14 +39,14 @@ pub fn body(command: u8, number: u8, flags: u16, payload: &[u8]) -> Vec<u8> {
     body
 }
 
-/// The checksum put behind a body.
+/// A body with its checksum.
 pub fn sealed(mut body: Vec<u8>) -> Vec<u8> {
     let sum = body.iter().fold(0u8, |sum, &byte| sum.wrapping_add(byte));
     body.push(sum);
     body
 }
 
-/// Any body behind a header, stuffed.
+/// A header, then any body, stuffed.
 pub fn framed(body: &[u8]) -> Vec<u8> {
     let mut wire = Vec::with_capacity(2 * body.len() + 2);
     wire.extend_from_slice(&HEADER);
