@@ -21,9 +21,10 @@ uint32_t call(struct memory memory, enum side side, const struct frame *frame, s
         memcpy(payload, frame->payload, frame->payload_len);
     *out = fenced_place(memory.out, side, room);
     memset(memory.out.first, UNTOUCHED, memory.out.size);
-    /* a write to the payload, or round it, kills */
+    /* a write to the payload, or next to it, kills */
     fenced_lock(memory.payload, 1);
-    returned = trogonreed_write_frame(frame->command, frame->number, frame->flags, payload, frame->payload_len, *out, room);
+    returned = trogonreed_write_frame(frame->command, frame->number, frame->flags, payload, frame->payload_len, *out,
+                                      room);
     fenced_lock(memory.payload, 0);
     return returned;
 }

@@ -1,4 +1,4 @@
-/* What a call is given, and one call on fenced memory. */
+/* The arguments of a call, and one call on fenced memory. */
 #ifndef FRAMES_H
 #define FRAMES_H
 
@@ -22,7 +22,7 @@ struct memory {
 
 struct memory memory_new(void);
 
-/* A call with `room` bytes of output, each UNTOUCHED before it, at one side of their memory. `*out` is where the output lies. */
+/* A call with `room` bytes of output, each UNTOUCHED before it, at one side of their memory. `*out` is the output. */
 uint32_t call(struct memory memory, enum side side, const struct frame *frame, size_t room, uint8_t **out);
 
 /* The mode `random`: a line for each call. */

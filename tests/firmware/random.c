@@ -51,7 +51,7 @@ static struct frame frame_random(uint8_t payload[LONGEST])
     return frame;
 }
 
-/* From none to some more than the frame needs, often just enough or one less; what it needs is asked of the writer itself. */
+/* From none to some more than the frame needs, often just enough or one less. The writer itself says what it needs. */
 static size_t room_random(struct memory memory, const struct frame *frame)
 {
     uint8_t *out;

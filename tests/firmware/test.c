@@ -1,6 +1,6 @@
 /*
- * The writer as C calls it, on paper 01's examples and at its limits. No argument: runs the tests, last line 'N passed, M failed'.
- * random SEED COUNT: prints random calls for another program to check (random.c).
+ * The writer as C calls it, on the counted examples (PROTOCOL 11) and at its limits. No argument: runs the tests, last
+ * line 'N passed, M failed'. random SEED COUNT: prints random calls for another program to check (random.c).
  */
 #include <stdio.h>
 #include <stdlib.h>
@@ -29,7 +29,7 @@ struct example {
     size_t wire_len;
 };
 
-/* One call: what it returns, the output, and what lies round it. `count` is 0 for a refusal, which writes nothing. */
+/* One call: what it returns, the output, and what is around it. `count` is 0 for a refusal, which writes nothing. */
 static int holds(struct memory memory, const struct example *e, size_t room, uint32_t returned, size_t count)
 {
     const char *wrong = NULL;
@@ -72,9 +72,10 @@ static const uint8_t status[] = {0x04, 0x05, 0x00, 0x03, 0x00, 0x00, 0x00, 0xFF,
 static const uint8_t report[] = {0xFF, 0xFF, 0x00, 0x0E, 0x05, 0x02, 0x00, 0x00, 0x04, 0x05,
                                  0x00, 0x03, 0x00, 0x00, 0x00, 0xFF, 0x55, 0x00, 0x20};
 static const uint8_t ff_55[] = {0xFF, 0x55, 0xFF};
-static const uint8_t flags_ff_55[] = {0xFF, 0xFF, 0x00, 0x08, 0x07, 0x01, 0xFF, 0x55, 0x55, 0xFF, 0x55, 0x55, 0xFF, 0x55, 0xB7};
+static const uint8_t flags_ff_55[] = {0xFF, 0xFF, 0x00, 0x08, 0x07, 0x01, 0xFF, 0x55,
+                                      0x55, 0xFF, 0x55, 0x55, 0xFF, 0x55, 0xB7};
 
-/* Paper 01's examples 1 to 4, and one with FF and 55 side by side in flags and payload. */
+/* Examples 1 to 4, and one with FF and 55 side by side in flags and payload. */
 static void test_examples(struct memory memory)
 {
     static const struct example examples[] = {
@@ -105,11 +106,12 @@ struct long_example {
     size_t tail_len;
 };
 
-/* Example 12, "1,019 fits", and the longest frame there is; 1,018 bytes, where the length has an FF. */
+/* Example 12, 1,019 bytes, and the longest frame; 1,018 bytes, where the length has an FF. */
 static const struct long_example long_examples[] = {
     {"1,019 zeros", {0x07, 0x01, 0, zeros, 1019}, "\xFF\xFF\x04\x00\x07\x01\x00\x00", 8, "\x00", 1, 1019, "\x0C", 1},
     {"1,019 FF", {0x07, 0x01, 0, ones, 1019}, "\xFF\xFF\x04\x00\x07\x01\x00\x00", 8, "\xFF\x55", 2, 1019, "\x11", 1},
-    {"1,018 FF", {0x07, 0x01, 0, ones, 1018}, "\xFF\xFF\x03\xFF\x55\x07\x01\x00\x00", 9, "\xFF\x55", 2, 1018, "\x10", 1},
+    {"1,018 FF", {0x07, 0x01, 0, ones, 1018}, "\xFF\xFF\x03\xFF\x55\x07\x01\x00\x00", 9,
+     "\xFF\x55", 2, 1018, "\x10", 1},
     {"2,051 bytes", {0xFF, 0xFF, 0xFFFF, nearly, 1019}, "\xFF\xFF\x04\x00\xFF\x55\xFF\x55\xFF\x55\xFF\x55\xF9", 13,
      "\xFF\x55", 2, 1018, "\xFF\x55", 2},
 };
@@ -135,7 +137,7 @@ static void test_long(struct memory memory)
     }
 }
 
-/* Example 12, "1,020 is PAYLOAD", whatever the room. */
+/* Example 12, 1,020 bytes: PAYLOAD, whatever the room. */
 static void test_too_long(struct memory memory, const char *name, size_t payload_len)
 {
     static uint8_t payload[MOST_PAYLOAD];
@@ -149,20 +151,23 @@ static void test_too_long(struct memory memory, const char *name, size_t payload
     test(good, name);
 }
 
-/* A null pointer is asked for nothing where its length is 0. */
+/* A null pointer is not read or written where its length is 0. */
 static void test_null(void)
 {
     static uint8_t payload[1020];
     uint8_t out[sizeof heartbeat];
 
-    test(trogonreed_write_frame(0x07, 0x01, 0, NULL, 0, out, sizeof out) == sizeof heartbeat, "null payload: not written");
+    test(trogonreed_write_frame(0x07, 0x01, 0, NULL, 0, out, sizeof out) == sizeof heartbeat,
+         "null payload: not written");
     test(memcmp(out, heartbeat, sizeof out) == 0, "null payload: other bytes are written");
     test(trogonreed_write_frame(0x07, 0x01, 0, NULL, 0, NULL, 0) == TROGONREED_REFUSED_ROOM, "both null: not ROOM");
-    test(trogonreed_write_frame(0x07, 0x01, 0, payload, 1019, NULL, 0) == TROGONREED_REFUSED_ROOM, "null output: not ROOM");
-    test(trogonreed_write_frame(0x07, 0x01, 0, payload, 1020, NULL, 0) == TROGONREED_REFUSED_PAYLOAD, "null output: not PAYLOAD");
+    test(trogonreed_write_frame(0x07, 0x01, 0, payload, 1019, NULL, 0) == TROGONREED_REFUSED_ROOM,
+         "null output: not ROOM");
+    test(trogonreed_write_frame(0x07, 0x01, 0, payload, 1020, NULL, 0) == TROGONREED_REFUSED_PAYLOAD,
+         "null output: not PAYLOAD");
 }
 
-/* The header's numbers are paper 01's. */
+/* The header's numbers are those of the rules. */
 static void test_header(void)
 {
     test(TROGONREED_REFUSED == 65536 && TROGONREED_PAYLOAD == 21 && TROGONREED_ROOM == 22, "header: other numbers");
