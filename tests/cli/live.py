@@ -306,7 +306,7 @@ def control_c(test, door):
 # Long input in constant memory.
 
 MIB = 2**20
-MOST_KIB, MARGIN_KIB = 6 * 1024, 256
+MAX_KIB, MARGIN_KIB = 6 * 1024, 256
 
 
 def block(seed):
@@ -358,7 +358,7 @@ def through(test, door, data, lines, copies):
         test(f"{name}, each line", found == expected, first_difference(found, expected))
         # Its input is still open, so that it still runs.
         program = program_of(live.process.pid)
-        peak = peak_memory(program) if program else MOST_KIB * 99
+        peak = peak_memory(program) if program else MAX_KIB * 99
         sender.join(PATIENCE)
         live.close_wire()
         found = live.ended()
@@ -377,5 +377,5 @@ def send_all(live, data, copies):
 def memory(test, door, seed):
     data, lines = block(seed)
     small, large = (through(test, door, data, lines, size * MIB // len(data)) for size in (1, 30))
-    test(f"30 MiB in {MOST_KIB} KiB", large <= MOST_KIB, f"{large} KiB")
+    test(f"30 MiB in {MAX_KIB} KiB", large <= MAX_KIB, f"{large} KiB")
     test("1 MiB and 30 MiB in the same memory", abs(large - small) <= MARGIN_KIB, f"{small} KiB and {large} KiB")

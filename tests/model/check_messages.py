@@ -2,7 +2,7 @@
 import collections
 
 from checks import lines_of
-from driver import stream_lines, stream_pieces, stream_script
+from driver import reply_step, stream_lines, stream_pieces, stream_script
 from message import LISTED
 from random_messages import STEPS, STREAMS, stream_of
 from records import MAX_DATA
@@ -62,7 +62,24 @@ def random_steps(checks, program, seed, count):
             checks.test(f"'{word} {answer}' is seen", seen[word, answer] > 0)
 
 
+# A frame for each reply that the box writes: its command, and a payload. PROTOCOL 8.2, 8.6 to 8.8.
+REPLIED = [(0x03, "01 00 00 00 00"), (0x07, ""), (0x0D, "00 00"), (0x0F, ""), (0x21, ""), (0x02, ""), (0x09, "05"),
+           (0x11, "09"), (0x07, "00")]
+
+
+def small_rooms(checks, program):
+    """Every reply under every sequence number: 11 bytes hold it, and some reply needs all of them. PROTOCOL 8.12."""
+    for room, fits in ((11, True), (10, False)):
+        frames = [(command, number, payload) for command, payload in REPLIED for number in range(256)]
+        script = [reply_step(command, number, bytes.fromhex(payload), room) for command, number, payload in frames]
+        wrong = program.wrong_on(script)
+        checks.test(f"the program: every reply with room for {room} bytes", not wrong, wrong)
+        refused = [line for line in lines_of(script) if line.startswith("answer 22")]
+        checks.test(f"{room} bytes hold {'every' if fits else 'not every'} reply", bool(refused) != fits)
+
+
 def check_program(checks, program, seed, count):
     stated(checks, program)
+    small_rooms(checks, program)
     random_streams(checks, program, seed, count)
     random_steps(checks, program, seed, count)

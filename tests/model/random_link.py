@@ -202,13 +202,13 @@ FAMILIES = [
     ("a box at work", box_at_work, 120),
     ("any bytes", any_bytes, 40),
 ]
-MOST = 2000  # calls of a script
+MAX_CALLS = 2000  # calls of a script
 
 
 def script_of(rand, family):
     """Calls and steps of some rounds of a family."""
     script = Script(rand)
-    size = rand.choice([20, 50, 100, 200, 500, 500, 1000, MOST])
+    size = rand.choice([20, 50, 100, 200, 500, 500, 1000, MAX_CALLS])
     while len(script.calls) < size:
         family(script)
-    return script.calls[:MOST], script.steps[:MOST]
+    return script.calls[:MAX_CALLS], script.steps[:MAX_CALLS]

@@ -264,18 +264,18 @@ STREAMS = [
     ("wrong sums", wrong_sums, 40),
     ("messages between noise", between_noise, 100),
 ]
-MOST = 65000  # bytes of a stream
+MAX_SIZE = 65000  # bytes of a stream
 
 
 def stream_of(rand, family):
     """Rounds of a family in any order, at least one."""
-    most = rand.choice([2000, 4000, 6000, 10000, 15000, 20000] * 4 + [MOST])
+    most = rand.choice([2000, 4000, 6000, 10000, 15000, 20000] * 4 + [MAX_SIZE])
     data = b""
     while True:
         frames = list(family(rand))
         rand.shuffle(frames)
         more = b"".join(frames)
-        if data and len(data) + len(more) > most or len(more) > MOST:
+        if data and len(data) + len(more) > most or len(more) > MAX_SIZE:
             return data
         data += more
 

@@ -54,14 +54,14 @@ LISTINGS = [
 
 # Near the most bytes that a reader consumes (PROTOCOL 4.18): bytes consumed before, bytes fed, the lines of feed and
 # finish.
-MOST = 4611686018427387904
+MAX_CONSUMED = 4611686018427387904
 LIMITS = [
     (0, "", "feed 0 0", "end 2 0"),
-    (MOST - 1, "00", "feed 0 1", "end 2 4611686018427387904"),
-    (MOST - 1, "00 00", "feed 18 0", "end 2 4611686018427387903"),
-    (MOST, "", "feed 0 0", "end 2 4611686018427387904"),
-    (MOST, "00", "feed 18 0", "end 2 4611686018427387904"),
-    (MOST + 1, "", "feed 17 0", "end 17 0"),
+    (MAX_CONSUMED - 1, "00", "feed 0 1", "end 2 4611686018427387904"),
+    (MAX_CONSUMED - 1, "00 00", "feed 18 0", "end 2 4611686018427387903"),
+    (MAX_CONSUMED, "", "feed 0 0", "end 2 4611686018427387904"),
+    (MAX_CONSUMED, "00", "feed 18 0", "end 2 4611686018427387904"),
+    (MAX_CONSUMED + 1, "", "feed 17 0", "end 17 0"),
 ]
 
 # A name, the frame, the room for it, the answer and the bytes written.

@@ -1,7 +1,7 @@
--- worked-reader, by computation. Assumes nothing.
+-- worked-reader and made-up-end, by computation. Assumes nothing.
 use mathlib.Core.Path.{refl}
 use Rattle.frame.specs.Calls.{zeros, runOf}
-use Rattle.frame.specs.WorkedReader.{WorkedReader}
+use Rattle.frame.specs.WorkedReader.{WorkedReader, MadeUpEnds}
 
 pub worked-reader : WorkedReader
 unfolding zeros runOf
@@ -28,3 +28,7 @@ worked-reader =
       finish-waits = refl;
       finish-short = refl;
     }
+
+pub made-up-end : MadeUpEnds
+unfolding runOf
+made-up-end body = record { below-limit = refl; at-limit = refl; beyond-length = refl }

@@ -1,4 +1,4 @@
--- Claims: the reader worked out: literal bytes that a fresh reader is fed, and its answer. PROTOCOL 3.4 to 3.16.
+-- Claims: the reader worked out: literal bytes that a fresh reader is fed, and its answer. PROTOCOL 3.4 to 3.18.
 -- MORE is 0, FRAME 1, SHORT 11, LONG 12, STUFF 13, CUT 14, SUM 15; their values are count, start and end.
 use Prim.Native.Nat.{ℕ}
 use mathlib.Core.List.{List, [], _∷_}
@@ -6,7 +6,7 @@ use mathlib.Core.Path.{_≡_}
 use lib.ListN.{take}
 use Rattle.base.specs.Rows.{Row, row}
 use Rattle.frame.specs.Calls.{freshOf, feedOf, finishOf}
-use Rattle.frame.specs.State.{State}
+use Rattle.frame.specs.State.{Open, State}
 
 -- a reader after one feed
 abbrev pub readerAfter : List ℕ → State
@@ -57,3 +57,20 @@ pub record WorkedReader : Type 0 where
   pub finish-body : finishAfter (0x07 ∷ 0xFF ∷ 0xFF ∷ 0x00 ∷ []) ≡ row 16 (4 ∷ 1 ∷ [])
   pub finish-waits : finishAfter (0x07 ∷ 0xFF ∷ 0xFF ∷ 0x00 ∷ 0xFF ∷ []) ≡ row 16 (5 ∷ 1 ∷ [])
   pub finish-short : finishAfter (0xFF ∷ 0xFF ∷ 0x00 ∷ 0x04 ∷ []) ≡ row 2 (4 ∷ [])
+
+-- ---- made-up-end: where the body of a made-up reader ends, by computation. PROTOCOL 3.18
+
+-- a reader in range, in an open frame that starts at 2, with these body bytes so far, this length, and the sum 7
+abbrev pub madeUp : ℕ → ℕ → List ℕ → State
+madeUp filled length body =
+    record { scan = record { phase = Open; consumed = 9; start = 2; filled = filled; length = length; sum = 7 }; body = body }
+
+-- the byte after 1,024 and the one after 1,025 body bytes under a length of 60,000; the byte after 9 under a length of 3
+pub record MadeUpEnd (body : List ℕ) : Type 0 where
+  pub below-limit : feedOf 1024 (madeUp 1024 60000 body) (7 ∷ []) .row ≡ row 0 (1 ∷ [])
+  pub at-limit : feedOf 1024 (madeUp 1025 60000 body) (7 ∷ []) .row ≡ row 1 (1 ∷ 2 ∷ 10 ∷ [])
+  pub beyond-length : feedOf 1024 (madeUp 9 3 body) (8 ∷ []) .row ≡ row 15 (1 ∷ 2 ∷ 10 ∷ [])
+
+-- whatever bytes it keeps
+abbrev pub MadeUpEnds : Type 0
+MadeUpEnds = (body : List ℕ) → MadeUpEnd body

@@ -18,8 +18,8 @@ pub const STREAM: u8 = 5;
 /// The link's operations begin here.
 pub const LINK: u8 = 128;
 
-pub const MOST_DATA: usize = 4_096;
-pub const MOST_ROOM: usize = 2_100;
+pub const MAX_DATA: usize = 4_096;
+pub const MAX_ROOM: usize = 2_100;
 /// Each output byte before the call, so that an untouched byte is seen.
 pub const UNTOUCHED: u8 = 0xAA;
 
@@ -46,7 +46,7 @@ fn play_record(reader: &mut Reader, operation: u8, data: &[u8], lines: &mut Vec<
         FEED => feed(reader, data, lines),
         FINISH => finish(reader, lines),
         SET => {
-            *reader = Reader::having_taken(number(data, 0, 8));
+            *reader = Reader::having_consumed(number(data, 0, 8));
             lines.extend_from_slice(b"set");
         }
         WRITE => write(data, lines),
@@ -71,7 +71,7 @@ fn record(input: &mut impl Read) -> Option<(u8, Vec<u8>)> {
     input.read_exact(&mut head).ok()?;
     let [operation, high, low] = head;
     let size = usize::from(u16::from_be_bytes([high, low]));
-    if size > MOST_DATA {
+    if size > MAX_DATA {
         return None;
     }
     let mut data = vec![0; size];
@@ -104,14 +104,14 @@ fn feed(reader: &mut Reader, data: &[u8], line: &mut Vec<u8>) {
 fn finish(reader: &Reader, line: &mut Vec<u8>) {
     line.extend_from_slice(b"end");
     match reader.finish() {
-        Ending::Clean { taken } => text::numbers(line, &[2, taken]),
-        Ending::Open { taken, start } => text::numbers(line, &[16, taken, start]),
+        Ending::Clean { consumed } => text::numbers(line, &[2, consumed]),
+        Ending::Open { consumed, start } => text::numbers(line, &[16, consumed, start]),
         Ending::State => text::numbers(line, &[17, 0]),
     }
 }
 
 fn write(data: &[u8], line: &mut Vec<u8>) {
-    let room = (number(data, 4, 2) as usize).min(MOST_ROOM);
+    let room = (number(data, 4, 2) as usize).min(MAX_ROOM);
     let (command, sequence, flags) = (number(data, 0, 1) as u8, number(data, 1, 1) as u8, number(data, 2, 2) as u16);
     let payload = data.get(6..).unwrap_or(&[]);
     let mut out = vec![UNTOUCHED; room];

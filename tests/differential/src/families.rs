@@ -81,37 +81,37 @@ const fn family(name: &'static str, kind: Kind, inputs: fn(u64) -> u64) -> Famil
     Family { name, kind, inputs }
 }
 
-fn as_asked(count: u64) -> u64 {
+fn full_count(count: u64) -> u64 {
     count
 }
 
 const FAMILIES: [Family; 25] = [
-    family("whole", Kind::Stream(streams::whole), as_asked),
-    family("damaged", Kind::Stream(streams::damaged), as_asked),
-    family("cut", Kind::Stream(streams::cut), as_asked),
-    family("brim", Kind::Stream(streams::brim), as_asked),
-    family("noise", Kind::Stream(streams::noise), as_asked),
-    family("few-bytes", Kind::Stream(streams::few_bytes), as_asked),
-    family("half-headers", Kind::Stream(streams::half_headers), as_asked),
-    family("all-ff", Kind::Stream(streams::all_ff), as_asked),
-    family("lengths", Kind::Stream(streams::lengths), as_asked),
-    family("wrong-sums", Kind::Stream(streams::wrong_sums), as_asked),
+    family("whole", Kind::Stream(streams::whole), full_count),
+    family("damaged", Kind::Stream(streams::damaged), full_count),
+    family("cut", Kind::Stream(streams::cut), full_count),
+    family("brim", Kind::Stream(streams::brim), full_count),
+    family("noise", Kind::Stream(streams::noise), full_count),
+    family("few-bytes", Kind::Stream(streams::few_bytes), full_count),
+    family("half-headers", Kind::Stream(streams::half_headers), full_count),
+    family("all-ff", Kind::Stream(streams::all_ff), full_count),
+    family("lengths", Kind::Stream(streams::lengths), full_count),
+    family("wrong-sums", Kind::Stream(streams::wrong_sums), full_count),
     // Never fewer than one input for each command.
     family("commands", Kind::Stream(streams::commands), |count| count.max(256)),
     family("every-bit", Kind::Stream(streams::every_bit), |_| streams::BIT_SETS),
     family("empty", Kind::Stream(streams::empty), |_| 1),
     family("vectors", Kind::Stream(|_, index| vectors::all()[index as usize].clone()), |_| vectors::all().len() as u64),
     family("long", Kind::Long(streams::long), |count| count / 10),
-    family("limits", Kind::Calls(scripts::limits), as_asked),
-    family("writer", Kind::Calls(scripts::writer), as_asked),
+    family("limits", Kind::Calls(scripts::limits), full_count),
+    family("writer", Kind::Calls(scripts::writer), full_count),
     family("every-room", Kind::Calls(scripts::every_room), |count| count / 4),
     family("every-cut-vectors", Kind::Calls(scripts::every_cut_of_vector), |_| vectors::short().len() as u64),
     family("every-cut-damaged", Kind::Calls(scripts::every_cut_of_damaged), |count| count / 2),
     family("every-stream", Kind::Calls(scripts::every_stream), |_| scripts::STREAM_SETS),
     family("every-large-room", Kind::Calls(scripts::every_large_room), |_| 1),
-    family("long-life", Kind::Links(link_scripts::long_life), as_asked),
-    family("elsewhere", Kind::Links(link_scripts::elsewhere), as_asked),
-    family("link-noise", Kind::Links(link_scripts::noise), as_asked),
+    family("long-life", Kind::Links(link_scripts::long_life), full_count),
+    family("any-state", Kind::Links(link_scripts::any_state), full_count),
+    family("link-noise", Kind::Links(link_scripts::noise), full_count),
 ];
 
 /// One input, played once.

@@ -1,7 +1,7 @@
 //! Long random streams for measuring.
 
 use crate::random::Rng;
-use crate::writer::{wire_form, MOST_PAYLOAD};
+use crate::writer::{wire_form, MAX_PAYLOAD};
 use std::io::{self, Write};
 
 const CHUNK: usize = 64 * 1_024;
@@ -38,7 +38,7 @@ pub fn generate(kind: Kind, seed: u64, count: u64, output: &mut impl Write) -> i
             leaf = leaf.wrapping_add(1);
             match kind {
                 Kind::Reports => chunk.extend(wire_form(0x05, number, 0, &report(leaf, &mut rng))),
-                Kind::AllFf => chunk.extend(wire_form(0x1D, number, 0, &[0xFF; MOST_PAYLOAD])),
+                Kind::AllFf => chunk.extend(wire_form(0x1D, number, 0, &[0xFF; MAX_PAYLOAD])),
                 Kind::Noise => noise(&mut chunk, size, &mut rng),
             }
         }

@@ -2,7 +2,7 @@
 
 /// Commands that the box sends on its own and that wait for an answer.
 pub const SENDABLE: [u8; 9] = [0x05, 0x09, 0x0B, 0x13, 0x15, 0x17, 0x1B, 0x27, 0x29];
-const MOST_REPEATS: u8 = 3;
+const MAX_REPEATS: u8 = 3;
 const TIMEOUT: u32 = 200;
 /// From here on a clock counts as turned back.
 const HALF_CLOCK: u32 = 1 << 31;
@@ -63,7 +63,7 @@ impl Link {
             return Ok(Tick::Nothing);
         }
         let (command, number) = (waiting.command, waiting.number);
-        if waiting.repeats == MOST_REPEATS {
+        if waiting.repeats == MAX_REPEATS {
             self.waiting = None;
             return Ok(Tick::GivenUp { command, number });
         }
@@ -83,7 +83,7 @@ impl Link {
     /// A link in any state may have fields that no fresh one reaches.
     fn check(&self) -> Result<(), Refusal> {
         let waiting_fits = |waiting: Waiting| {
-            SENDABLE.contains(&waiting.command) && waiting.number != 0 && waiting.repeats <= MOST_REPEATS
+            SENDABLE.contains(&waiting.command) && waiting.number != 0 && waiting.repeats <= MAX_REPEATS
         };
         if self.next != 0 && self.waiting.is_none_or(waiting_fits) {
             Ok(())

@@ -122,7 +122,7 @@ pub fn long_life(rng: &mut Rng, _index: u64) -> Vec<u8> {
 }
 
 /// Links in any state, each with a few calls.
-pub fn elsewhere(rng: &mut Rng, _index: u64) -> Vec<u8> {
+pub fn any_state(rng: &mut Rng, _index: u64) -> Vec<u8> {
     let mut script = Script::new(rng);
     for _ in 0..RECORDS / 5 {
         match rng.once_in(12) {

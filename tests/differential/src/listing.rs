@@ -67,9 +67,9 @@ fn add_line(verdict: Verdict, start: u64, end: u64, reader: &Reader, lines: &mut
 
 fn add_last_line(reader: &Reader, lines: &mut Vec<u8>) {
     match reader.finish() {
-        Ending::Clean { taken } => {
+        Ending::Clean { consumed } => {
             lines.extend_from_slice(b"clean");
-            text::numbers(lines, &[taken]);
+            text::numbers(lines, &[consumed]);
         }
         Ending::Open { start, .. } => {
             lines.extend_from_slice(b"open");

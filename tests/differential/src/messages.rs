@@ -96,10 +96,10 @@ fn read_information(payload: &[u8]) -> Result<Message<'_>, Refusal> {
     if ![66, 74, 106].contains(&payload.len()) {
         return Err(Refusal::Size);
     }
-    let (texts, behind) = payload.split_first_chunk().ok_or(Refusal::Size)?;
-    let (timeout, behind) = behind.split_first_chunk().ok_or(Refusal::Size)?;
+    let (texts, rest) = payload.split_first_chunk().ok_or(Refusal::Size)?;
+    let (timeout, rest) = rest.split_first_chunk().ok_or(Refusal::Size)?;
     let timeout = u16::from_be_bytes(*timeout);
-    let (attributes, secret) = match behind.split_first_chunk() {
+    let (attributes, secret) = match rest.split_first_chunk() {
         None => (None, None),
         Some((attributes, secret)) => (Some(*attributes), (!secret.is_empty()).then_some(secret)),
     };
@@ -109,53 +109,53 @@ fn read_information(payload: &[u8]) -> Result<Message<'_>, Refusal> {
 fn read_request(payload: &[u8]) -> Result<Message<'_>, Refusal> {
     match payload {
         [] => Err(Refusal::Size),
-        [CONTROL, behind @ ..] => {
-            let control: [u8; CONTROL_SIZE] = behind.try_into().map_err(|_| Refusal::Size)?;
+        [CONTROL, rest @ ..] => {
+            let control: [u8; CONTROL_SIZE] = rest.try_into().map_err(|_| Refusal::Size)?;
             Control::read(control).map(Message::Control)
         }
-        [QUERY, behind @ ..] => only(behind.is_empty(), Message::Query),
+        [QUERY, rest @ ..] => only(rest.is_empty(), Message::Query),
         _ => Err(Refusal::Field),
     }
 }
 
 /// The first byte, then a status.
 fn read_status(first: u8, payload: &[u8]) -> Result<Status, Refusal> {
-    let (&begin, behind) = payload.split_first().ok_or(Refusal::Size)?;
+    let (&begin, rest) = payload.split_first().ok_or(Refusal::Size)?;
     if begin != first {
         return Err(Refusal::Field);
     }
-    let status: [u8; STATUS_SIZE] = behind.try_into().map_err(|_| Refusal::Size)?;
+    let status: [u8; STATUS_SIZE] = rest.try_into().map_err(|_| Refusal::Size)?;
     Status::read(status)
 }
 
 fn read_time(payload: &[u8]) -> Result<Message<'_>, Refusal> {
-    let (year, behind) = payload.split_first_chunk().ok_or(Refusal::Size)?;
-    let (&month_to_second, behind) = behind.split_first_chunk().ok_or(Refusal::Size)?;
-    let unix = match behind.len() {
+    let (year, rest) = payload.split_first_chunk().ok_or(Refusal::Size)?;
+    let (&month_to_second, rest) = rest.split_first_chunk().ok_or(Refusal::Size)?;
+    let unix = match rest.len() {
         0 => None,
-        4 => Some(number(behind) as u32),
+        4 => Some(number(rest) as u32),
         _ => return Err(Refusal::Size),
     };
     Ok(Message::Time(Time { year: u16::from_be_bytes(*year), month_to_second, unix }))
 }
 
 fn read_announcement(payload: &[u8]) -> Result<Message<'_>, Refusal> {
-    let (size, behind) = payload.split_first_chunk().ok_or(Refusal::Size)?;
-    let (count, check_code) = behind.split_first_chunk().ok_or(Refusal::Size)?;
+    let (size, rest) = payload.split_first_chunk().ok_or(Refusal::Size)?;
+    let (count, check_code) = rest.split_first_chunk().ok_or(Refusal::Size)?;
     let fits = check_code.len() == usize::from(u16::from_be_bytes(*count));
     only(fits, Message::Announcement { size: u32::from_be_bytes(*size), check_code })
 }
 
 fn read_ready(payload: &[u8]) -> Result<Message<'_>, Refusal> {
-    let (count, behind) = payload.split_first_chunk().ok_or(Refusal::Size)?;
-    let (check_code, piece_size) = behind.split_last_chunk().ok_or(Refusal::Size)?;
+    let (count, rest) = payload.split_first_chunk().ok_or(Refusal::Size)?;
+    let (check_code, piece_size) = rest.split_last_chunk().ok_or(Refusal::Size)?;
     let fits = check_code.len() == usize::from(u16::from_be_bytes(*count));
     only(fits, Message::Ready { check_code, piece_size: u16::from_be_bytes(*piece_size) })
 }
 
 fn read_piece(payload: &[u8]) -> Result<Message<'_>, Refusal> {
-    let (index, behind) = payload.split_first_chunk().ok_or(Refusal::Size)?;
-    let (total, data) = behind.split_first_chunk().ok_or(Refusal::Size)?;
+    let (index, rest) = payload.split_first_chunk().ok_or(Refusal::Size)?;
+    let (total, data) = rest.split_first_chunk().ok_or(Refusal::Size)?;
     Ok(Message::Piece { index: u16::from_be_bytes(*index), total: u16::from_be_bytes(*total), data })
 }
 
@@ -186,10 +186,10 @@ impl<'a> Message<'a> {
         match self {
             Message::Empty { .. } => vec![],
             Message::Information(information) => information.values(),
-            Message::Control(control) => behind(CONTROL, control.values()),
+            Message::Control(control) => after_first(CONTROL, control.values()),
             Message::Query => vec![QUERY.into()],
-            Message::Status(status) => behind(STATUS, status.values()),
-            Message::Report(status) => behind(REPORT, status.values()),
+            Message::Status(status) => after_first(STATUS, status.values()),
+            Message::Report(status) => after_first(REPORT, status.values()),
             Message::Onboarding { way } => vec![(*way).into()],
             Message::Network { bits } => network_values(*bits),
             Message::Reject { code, .. } => vec![(*code).into()],
@@ -235,7 +235,7 @@ impl<'a> Message<'a> {
     }
 }
 
-fn behind(first: u8, values: Vec<u64>) -> Vec<u64> {
+fn after_first(first: u8, values: Vec<u64>) -> Vec<u64> {
     [vec![first.into()], values].concat()
 }
 

@@ -8,7 +8,7 @@ pub const BODY_SIZE: usize = LIMIT + 2;
 /// The least length: command, sequence number, flags and checksum.
 const LEAST_LENGTH: usize = 5;
 /// The most bytes that one reader consumes.
-const MOST_TAKEN: u64 = 1 << 62;
+const MAX_TAKEN: u64 = 1 << 62;
 
 /// What the reader remembers of the last raw byte, and whether a frame is open.
 #[derive(Clone, Copy, PartialEq, Eq)]
@@ -46,16 +46,16 @@ pub enum Answer {
 
 #[derive(Clone, Copy, PartialEq, Eq, Debug)]
 pub enum Ending {
-    Clean { taken: u64 },
-    Open { taken: u64, start: u64 },
+    Clean { consumed: u64 },
+    Open { consumed: u64, start: u64 },
     State,
 }
 
 pub struct Reader {
     phase: Phase,
-    taken: u64,
+    consumed: u64,
     start: u64,
-    have: usize,
+    filled: usize,
     length: usize,
     sum: u8,
     body: [u8; BODY_SIZE],
@@ -63,20 +63,20 @@ pub struct Reader {
 
 impl Reader {
     pub fn new() -> Reader {
-        Reader::having_taken(0)
+        Reader::having_consumed(0)
     }
 
     /// Fresh but for the count of bytes consumed; out of range above 2^62.
-    pub fn having_taken(taken: u64) -> Reader {
-        Reader { phase: Phase::Idle, taken, start: 0, have: 0, length: 0, sum: 0, body: [0; BODY_SIZE] }
+    pub fn having_consumed(consumed: u64) -> Reader {
+        Reader { phase: Phase::Idle, consumed, start: 0, filled: 0, length: 0, sum: 0, body: [0; BODY_SIZE] }
     }
 
     /// Feed: consumes the bytes up to the one that decides something.
     pub fn feed(&mut self, bytes: &[u8]) -> Answer {
-        if self.taken > MOST_TAKEN {
+        if self.consumed > MAX_TAKEN {
             return Answer::State;
         }
-        if self.taken + bytes.len() as u64 > MOST_TAKEN {
+        if self.consumed + bytes.len() as u64 > MAX_TAKEN {
             return Answer::Used;
         }
         let mut count = 0;
@@ -85,7 +85,7 @@ impl Reader {
             let Some(&byte) = bytes.get(count) else { return Answer::More { count } };
             count += 1;
             if let Some((verdict, start)) = self.take_byte(byte) {
-                return Answer::Decided { verdict, count, start, end: self.taken };
+                return Answer::Decided { verdict, count, start, end: self.consumed };
             }
         }
     }
@@ -93,9 +93,9 @@ impl Reader {
     /// Finish: changes nothing.
     pub fn finish(&self) -> Ending {
         match self.phase {
-            _ if self.taken > MOST_TAKEN => Ending::State,
-            Phase::Idle | Phase::Half => Ending::Clean { taken: self.taken },
-            _ => Ending::Open { taken: self.taken, start: self.start },
+            _ if self.consumed > MAX_TAKEN => Ending::State,
+            Phase::Idle | Phase::Half => Ending::Clean { consumed: self.consumed },
+            _ => Ending::Open { consumed: self.consumed, start: self.start },
         }
     }
 
@@ -108,16 +108,16 @@ impl Reader {
     fn take_run(&mut self, bytes: &[u8]) -> usize {
         let run = match self.phase {
             Phase::Idle => bytes.iter().take_while(|&&byte| byte != 0xFF).count(),
-            Phase::Open if self.have >= 2 => self.store_run(bytes),
+            Phase::Open if self.filled >= 2 => self.store_run(bytes),
             _ => 0,
         };
-        self.taken += run as u64;
+        self.consumed += run as u64;
         run
     }
 
     /// Stores body bytes, each stuffed FF with its 55, but never the checksum: that one decides.
     fn store_run(&mut self, bytes: &[u8]) -> usize {
-        let free = &mut self.body[self.have..self.length + 1];
+        let free = &mut self.body[self.filled..self.length + 1];
         let (mut raw, mut stored, mut sum) = (0, 0, self.sum);
         while stored < free.len() && raw < bytes.len() {
             let byte = bytes[raw];
@@ -132,15 +132,15 @@ impl Reader {
             stored += 1;
             sum = sum.wrapping_add(byte);
         }
-        self.have += stored;
+        self.filled += stored;
         self.sum = sum;
         raw
     }
 
     /// Consumes one raw byte; a decision comes with the start of the frame that it is about.
     fn take_byte(&mut self, byte: u8) -> Option<(Verdict, u64)> {
-        let place = self.taken;
-        self.taken += 1;
+        let place = self.consumed;
+        self.consumed += 1;
         match (self.phase, byte) {
             (Phase::Idle | Phase::Half, _) if byte != 0xFF => self.phase = Phase::Idle,
             (Phase::Idle, _) => self.phase = Phase::Half,
@@ -163,7 +163,7 @@ impl Reader {
     fn open(&mut self, start: u64) {
         self.phase = Phase::Header;
         self.start = start;
-        self.have = 0;
+        self.filled = 0;
         self.sum = 0;
     }
 
@@ -176,9 +176,9 @@ impl Reader {
     /// Stores one body byte, stuffing removed.
     fn body_byte(&mut self, byte: u8) -> Option<(Verdict, u64)> {
         self.phase = Phase::Open;
-        self.body[self.have] = byte;
-        self.have += 1;
-        if self.have == 2 {
+        self.body[self.filled] = byte;
+        self.filled += 1;
+        if self.filled == 2 {
             self.length = usize::from(u16::from_be_bytes([self.body[0], byte]));
             if self.length < LEAST_LENGTH {
                 return Some(self.close(Verdict::Short));
@@ -186,7 +186,7 @@ impl Reader {
             if self.length > LIMIT {
                 return Some(self.close(Verdict::Long));
             }
-        } else if self.have > 2 && self.have == self.length + 2 {
+        } else if self.filled > 2 && self.filled == self.length + 2 {
             let verdict = if byte == self.sum { Verdict::Frame } else { Verdict::Sum };
             return Some(self.close(verdict));
         }
@@ -238,13 +238,13 @@ mod tests {
 
     #[test]
     fn limits() {
-        let mut reader = Reader::having_taken(MOST_TAKEN - 1);
+        let mut reader = Reader::having_consumed(MAX_TAKEN - 1);
         assert_eq!(reader.feed(&[0, 0]), Answer::Used);
         assert_eq!(reader.feed(&[0]), Answer::More { count: 1 });
-        assert_eq!(reader.finish(), Ending::Clean { taken: MOST_TAKEN });
+        assert_eq!(reader.finish(), Ending::Clean { consumed: MAX_TAKEN });
         assert_eq!(reader.feed(&[]), Answer::More { count: 0 });
         assert_eq!(reader.feed(&[0]), Answer::Used);
-        let mut beyond = Reader::having_taken(MOST_TAKEN + 1);
+        let mut beyond = Reader::having_consumed(MAX_TAKEN + 1);
         assert_eq!(beyond.feed(&[]), Answer::State);
         assert_eq!(beyond.finish(), Ending::State);
     }

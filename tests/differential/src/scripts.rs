@@ -1,19 +1,19 @@
 //! Scripts of calls: streams cut into calls or played whole, and records for the writer.
 
-use crate::driver::{push_record, FEED, FINISH, MOST_DATA, MOST_ROOM, SET, STREAM, WRITE};
+use crate::driver::{push_record, FEED, FINISH, MAX_DATA, MAX_ROOM, SET, STREAM, WRITE};
 use crate::link_scripts;
 use crate::random::Rng;
 use crate::reader::{Answer, Reader};
 use crate::streams;
 use crate::transcript;
 use crate::vectors;
-use crate::writer::{wire_form, MOST_PAYLOAD};
+use crate::writer::{wire_form, MAX_PAYLOAD};
 
 /// Any operation that has no meaning of its own makes a fresh reader.
 const FRESH: u8 = 0;
 /// A stream of up to so many bytes is cut in every way.
 const SHORT_STREAM: usize = 12;
-const MOST_TAKEN: u64 = 1 << 62;
+const MAX_TAKEN: u64 = 1 << 62;
 
 /// A script, and a reader that follows it to know which bytes are left over.
 struct Script {
@@ -48,9 +48,9 @@ impl Script {
         self.reader = Reader::new();
     }
 
-    fn set(&mut self, taken: u64) {
-        self.record(SET, &taken.to_be_bytes());
-        self.reader = Reader::having_taken(taken);
+    fn set(&mut self, consumed: u64) {
+        self.record(SET, &consumed.to_be_bytes());
+        self.reader = Reader::having_consumed(consumed);
     }
 
     /// Plays the bytes as those of a stream.
@@ -69,13 +69,13 @@ impl Script {
 
     /// One way to cut a short stream: bit i of the mask cuts after byte i. What a call leaves comes again first.
     fn one_cut(&mut self, stream: &[u8], mask: u32) {
-        let mut taken = 0;
+        let mut consumed = 0;
         for end in 1..=stream.len() {
             if end == stream.len() || mask >> (end - 1) & 1 == 1 {
-                taken += self.feed(&stream[taken..end]).unwrap_or(0);
+                consumed += self.feed(&stream[consumed..end]).unwrap_or(0);
             }
         }
-        self.feed_all(&stream[taken..]);
+        self.feed_all(&stream[consumed..]);
         self.finish();
         self.fresh(FRESH);
     }
@@ -84,7 +84,7 @@ impl Script {
 /// A stream played by one reader, in records of up to some size.
 pub fn in_records(stream: &[u8], rng: &mut Rng) -> Vec<u8> {
     let mut records = Vec::new();
-    let size = rng.pick(&[20, 500, MOST_DATA, MOST_DATA]);
+    let size = rng.pick(&[20, 500, MAX_DATA, MAX_DATA]);
     for piece in stream.chunks(size) {
         push_record(&mut records, STREAM, piece);
     }
@@ -96,7 +96,7 @@ pub fn in_records(stream: &[u8], rng: &mut Rng) -> Vec<u8> {
 pub fn random_cuts(stream: &[u8], rng: &mut Rng) -> Vec<u8> {
     let mut script = Script::new();
     let mut place = 0;
-    let most = rng.pick(&[1, 3, 10, 100, MOST_DATA]);
+    let most = rng.pick(&[1, 3, 10, 100, MAX_DATA]);
     let steady = rng.once_in(2);
     if !steady && rng.once_in(2) {
         script.set(near_limit(rng));
@@ -151,36 +151,36 @@ fn replace_reader(script: &mut Script, rng: &mut Rng) {
 fn short_set(script: &mut Script, rng: &mut Rng) {
     let size = rng.between(0, 10);
     let data = rng.bytes_from(&[0, 0x3F, 0x40, 0xFF], size);
-    let mut taken = [0; 8];
-    for (byte, &given) in taken.iter_mut().zip(&data) {
+    let mut consumed = [0; 8];
+    for (byte, &given) in consumed.iter_mut().zip(&data) {
         *byte = given;
     }
     script.record(SET, &data);
-    script.reader = Reader::having_taken(u64::from_be_bytes(taken));
+    script.reader = Reader::having_consumed(u64::from_be_bytes(consumed));
 }
 
 /// Ends some scripts with a record that is too large or incomplete; nothing is played after it.
 fn last_record(script: &mut Script, rng: &mut Rng) {
     match rng.below(16) {
-        0 => script.record(FEED, &vec![0; MOST_DATA + 1]),
+        0 => script.record(FEED, &vec![0; MAX_DATA + 1]),
         1 => {
             script.record(FEED, &[1, 2, 3]);
             script.records.pop();
         }
         2 => script.records.push(FINISH),
-        3 => script.record(FEED, &vec![0xFF; MOST_DATA]),
+        3 => script.record(FEED, &vec![0xFF; MAX_DATA]),
         _ => {}
     }
 }
 
 fn near_limit(rng: &mut Rng) -> u64 {
     match rng.below(6) {
-        0 => MOST_TAKEN,
-        1 => MOST_TAKEN + 1,
-        2 => MOST_TAKEN + rng.below(5_000),
+        0 => MAX_TAKEN,
+        1 => MAX_TAKEN + 1,
+        2 => MAX_TAKEN + rng.below(5_000),
         3 => u64::MAX - rng.below(3),
-        4 => MOST_TAKEN - rng.below(40),
-        _ => MOST_TAKEN - rng.below(6_000),
+        4 => MAX_TAKEN - rng.below(40),
+        _ => MAX_TAKEN - rng.below(6_000),
     }
 }
 
@@ -255,11 +255,11 @@ pub fn writer(rng: &mut Rng, _index: u64) -> Vec<u8> {
     let mut script = Script::new();
     for _ in 0..12 {
         let size = rng.pick(&[0, 1, 9, 1_018, 1_019, 1_020, 1_021]);
-        let size = if rng.once_in(3) { rng.between(0, MOST_DATA - 6) } else { size };
+        let size = if rng.once_in(3) { rng.between(0, MAX_DATA - 6) } else { size };
         let payload = if rng.once_in(2) { rng.bytes(size) } else { rng.bytes_from(&[0xFF, 0x55], size) };
         let (command, number, flags) = (rng.byte(), rng.pick(&[0, 1, 0xFF]), rng.pick(&[0, 0xFFFF, 0x55FF]));
-        let needed = if size > MOST_PAYLOAD { 0 } else { wire_form(command, number, flags, &payload).len() };
-        let any = rng.between(0, MOST_ROOM);
+        let needed = if size > MAX_PAYLOAD { 0 } else { wire_form(command, number, flags, &payload).len() };
+        let any = rng.between(0, MAX_ROOM);
         for room in [needed.saturating_sub(1), needed, needed + 2, any, 0xFFFF] {
             write_record(&mut script, command, number, flags, room, &payload);
         }
@@ -287,7 +287,7 @@ pub fn every_room(rng: &mut Rng, _index: u64) -> Vec<u8> {
 pub fn every_large_room(_rng: &mut Rng, _index: u64) -> Vec<u8> {
     let mut script = Script::new();
     for (filling, needed) in [(0x00, 1_028), (0xFF, 2_047)] {
-        let payload = vec![filling; MOST_PAYLOAD];
+        let payload = vec![filling; MAX_PAYLOAD];
         let rooms = (0..needed).step_by(97).chain(needed - 3..=needed + 2);
         for room in rooms {
             write_record(&mut script, 7, 1, 0, room, &payload);

@@ -2,7 +2,7 @@
 
 use crate::payloads;
 use crate::random::Rng;
-use crate::writer::{body, framed, sealed, wire_form, MOST_PAYLOAD};
+use crate::writer::{body, framed, sealed, wire_form, MAX_PAYLOAD};
 
 /// Bytes that headers, stuffing and lengths are made of.
 const FEW: [u8; 6] = [0xFF, 0x55, 0x00, 0x05, 0x04, 0x01];
@@ -64,8 +64,8 @@ pub fn cut(rng: &mut Rng, _index: u64) -> Vec<u8> {
 pub fn brim(rng: &mut Rng, _index: u64) -> Vec<u8> {
     let mut stream = Vec::new();
     for _ in 0..rng.between(1, 3) {
-        let size = rng.pick(&[MOST_PAYLOAD, MOST_PAYLOAD - 1, 1, 64]);
-        let size = if rng.once_in(2) { size } else { rng.between(0, MOST_PAYLOAD) };
+        let size = rng.pick(&[MAX_PAYLOAD, MAX_PAYLOAD - 1, 1, 64]);
+        let size = if rng.once_in(2) { size } else { rng.between(0, MAX_PAYLOAD) };
         let payload = rng.bytes_from(&[0xFF, 0xFF, 0x55], size);
         stream.extend(any_frame(&payload, rng));
     }
@@ -104,9 +104,9 @@ pub fn half_headers(rng: &mut Rng, _index: u64) -> Vec<u8> {
         let mut frame = frame(rng);
         if rng.once_in(2) {
             let place = rng.between(0, frame.len());
-            let behind = frame.split_off(place);
+            let rest = frame.split_off(place);
             frame.extend(ff_run(rng));
-            frame.extend(behind);
+            frame.extend(rest);
         }
         stream.extend(frame);
         stream.extend(ff_run(rng));
@@ -117,7 +117,7 @@ pub fn half_headers(rng: &mut Rng, _index: u64) -> Vec<u8> {
 pub fn all_ff(rng: &mut Rng, _index: u64) -> Vec<u8> {
     let mut stream = Vec::new();
     for _ in 0..rng.between(1, 3) {
-        let size = if rng.once_in(4) { MOST_PAYLOAD } else { rng.between(0, MOST_PAYLOAD) };
+        let size = if rng.once_in(4) { MAX_PAYLOAD } else { rng.between(0, MAX_PAYLOAD) };
         stream.extend(any_frame(&vec![0xFF; size], rng));
     }
     stream
@@ -200,9 +200,9 @@ pub fn every_bit(rng: &mut Rng, index: u64) -> Vec<u8> {
             }
             4 => [0x09, 0x11, 0x12].map(|command| (command, vec![value])).into(),
             5 => vec![(0x0D, vec![value, rng.byte()]), (0x0D, vec![rng.byte(), value])],
-            6 => [0, 4].map(|behind| (3, [vec![value], vec![0; behind]].concat())).into(),
-            7 => [0, 8].map(|behind| (4, [vec![value], vec![0; behind]].concat())).into(),
-            _ => [0, 8].map(|behind| (5, [vec![value], vec![0; behind]].concat())).into(),
+            6 => [0, 4].map(|rest| (3, [vec![value], vec![0; rest]].concat())).into(),
+            7 => [0, 8].map(|rest| (4, [vec![value], vec![0; rest]].concat())).into(),
+            _ => [0, 8].map(|rest| (5, [vec![value], vec![0; rest]].concat())).into(),
         }
     };
     let mut stream = Vec::new();

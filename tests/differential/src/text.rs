@@ -2,12 +2,12 @@
 
 const DIGITS: &[u8; 16] = b"0123456789abcdef";
 /// The greatest number of 64 bits has so many digits.
-const MOST_DIGITS: usize = 20;
+const MAX_DIGITS: usize = 20;
 
 /// Decimal without leading zeros; by hand, two digits at a time, because a listing is mostly made of these.
 pub fn decimal(out: &mut Vec<u8>, mut number: u64) {
-    let mut digits = [b'0'; MOST_DIGITS];
-    let mut first = MOST_DIGITS;
+    let mut digits = [b'0'; MAX_DIGITS];
+    let mut first = MAX_DIGITS;
     while number >= 10 {
         let pair = (number % 100) as u8;
         number /= 100;
@@ -15,7 +15,7 @@ pub fn decimal(out: &mut Vec<u8>, mut number: u64) {
         digits[first] += pair / 10;
         digits[first + 1] += pair % 10;
     }
-    if number > 0 || first == MOST_DIGITS {
+    if number > 0 || first == MAX_DIGITS {
         first -= 1;
         digits[first] += number as u8;
     }

@@ -2,7 +2,7 @@
 
 use crate::reader::LIMIT;
 
-pub const MOST_PAYLOAD: usize = LIMIT - 5;
+pub const MAX_PAYLOAD: usize = LIMIT - 5;
 const HEADER: [u8; 2] = [0xFF, 0xFF];
 const STUFFING: u8 = 0x55;
 
@@ -14,7 +14,7 @@ pub enum Refusal {
 
 /// Writes a frame to the front of the output and returns how many bytes it has.
 pub fn write(command: u8, number: u8, flags: u16, payload: &[u8], out: &mut [u8]) -> Result<usize, Refusal> {
-    if payload.len() > MOST_PAYLOAD {
+    if payload.len() > MAX_PAYLOAD {
         return Err(Refusal::Payload);
     }
     let wire = wire_form(command, number, flags, payload);
