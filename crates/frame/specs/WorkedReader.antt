@@ -63,9 +63,12 @@ pub record WorkedReader : Type 0 where
 -- a reader in range, in an open frame that starts at 2, with these body bytes so far, this length, and the sum 7
 abbrev pub madeUp : ℕ → ℕ → List ℕ → State
 madeUp filled length body =
-    record { scan = record { phase = Open; consumed = 9; start = 2; filled = filled; length = length; sum = 7 }; body = body }
+    record {
+      scan = record { phase = Open; consumed = 9; start = 2; filled = filled; length = length; sum = 7 };
+      body = body;
+    }
 
--- the byte after 1,024 and the one after 1,025 body bytes under a length of 60,000; the byte after 9 under a length of 3
+-- the byte after 1,024 and the one after 1,025 body bytes, under a length of 60,000; the one after 9, under length 3
 pub record MadeUpEnd (body : List ℕ) : Type 0 where
   pub below-limit : feedOf 1024 (madeUp 1024 60000 body) (7 ∷ []) .row ≡ row 0 (1 ∷ [])
   pub at-limit : feedOf 1024 (madeUp 1025 60000 body) (7 ∷ []) .row ≡ row 1 (1 ∷ 2 ∷ 10 ∷ [])
