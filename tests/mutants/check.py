@@ -1,11 +1,20 @@
-"""Wrong programs, each an edit of one crate: the prover must refuse every one.
+"""Wrong programs, each an edit of one crate: the prover must refuse every one, at a fact.
 
-`code_` edits change the code alone, and its contract refuses them. `rule_` edits change a definition, and the code alike where it follows it: a
-claim refuses them. Each is tried over a copy of the crate's incremental folder, which is cheaper than a check from nothing. For a refusal that is
-enough: the same folder proves the crate without the edit first. One `rule_` edit of each crate at least stands in crates/NAME/must-fail, and is
-tried from nothing by rt.
+The start of an edit's name says what it changes. `code_`: the code alone, and its contract refuses it. `rule_`: a
+definition, and the code alike where it follows it. A `rule_` edit names the claims that refuse it: each is a theorem
+that the prover must not admit.
+
+A check of a whole crate takes up to a minute and a half, so an edit is tried over an incremental folder: rt checks
+only what reads the text that changed. The folder holds the modules that rt proved of the crate without the edit. It is
+made anew for every edit, so that no edit sees what another one left. Before the first edit rt has to prove the crate
+over the same folder without one. The incremental check is not a verdict that something is proved. For a refusal it is
+enough: each error is one that the prover found now. One `rule_` edit of each crate stands in crates/NAME/must-fail all
+the same, where rt ci tries it from nothing; this test reads the output of that run.
+
+Words of the command line, CRATE or CRATE/EDIT, ask for these alone.
 """
 import concurrent.futures
+import contextlib
 import os
 import pathlib
 import re
@@ -21,9 +30,11 @@ ROOT = HERE.parents[1]
 sys.path.insert(0, str(HERE.parent / "lib"))
 from checks import Checks  # noqa: E402
 
-PATIENCE = 1200
+PATIENCE = 1200  # seconds for one check
+MEMORY = pathlib.Path("/dev/shm")
+MEMORY_NEEDED = 1 << 30  # bytes; two checks hold some 300 MB there
 MAY_CHANGE = {"code": ("src/",), "rule": ("src/", "specs/")}
-MISFITS = ("has no `Need-", "can be named from here")  # of a proof text, and not of what is to be proved
+MISFITS = ("has no `Need-", "can be named from here")  # about a proof's text, and not about what it has to prove
 
 
 def replacements(edit):
@@ -60,147 +71,209 @@ def claims_of(edit):
 
 
 def write(crate, texts):
+    """Writes files of a crate."""
     for file, text in texts.items():
         (crate / file).write_text(text, encoding="utf-8")
 
 
-def prove(room, name):
-    """What the quick check says, and whether it proved the crate, refused it, or neither."""
-    done = subprocess.run(["rt", "dev", name], cwd=room, capture_output=True, text=True, timeout=PATIENCE)
-    said = done.stdout + done.stderr
-    if done.returncode == 0 and re.search(r"^logic=proved", said, re.M):
-        return said, "proved"
-    return said, "refused" if done.returncode == 1 and re.search(r"^logic=not-proved", said, re.M) else "stopped"
+def prove(room, name, scratch):
+    """The output of the quick check, and whether it proved the crate, refused it, or neither."""
+    done = subprocess.run(["rt", "dev", name], cwd=room, env={**os.environ, "TMPDIR": scratch},
+                          capture_output=True, text=True, timeout=PATIENCE)
+    output = done.stdout + done.stderr
+    if done.returncode == 0 and re.search(r"^logic=proved", output, re.M):
+        return output, "proved"
+    refused = done.returncode == 1 and re.search(r"^logic=not-proved", output, re.M)
+    return output, "refused" if refused else "stopped"
 
 
-def first_error(said):
-    """The line of the first error that is no consequence of another or, where the prover answers a function by itself, of its first note."""
-    errors = [e for e in re.finditer(r"^(\S+:\d+:\d+): error.*", said, re.M)]
-    own = next((e for e in errors if "was not admitted" not in e.group(0)), None)
-    return own or re.search(r"^note: (\S+:\d+:\d+): .*", said, re.M) or next(iter(errors), None)
+def first_error(output):
+    """The line of the first error that does not follow from another one.
+
+    Where the prover answers a function by itself, that is the function's first note.
+    """
+    errors = list(re.finditer(r"^(\S+:\d+:\d+): error.*", output, re.M))
+    own = next((error for error in errors if "was not admitted" not in error.group(0)), None)
+    return own or re.search(r"^note: (\S+:\d+:\d+): .*", output, re.M) or next(iter(errors), None)
 
 
-def unrefused(edit, said):
-    """What is wrong with the claims that a `rule_` edit names: each theorem has to be among those that the prover did not admit."""
+def unrefused(edit, output):
+    """Why a `rule_` edit is not refused by each claim that it names, or ''."""
     if not edit.stem.startswith("rule_"):
         return ""
     claims = claims_of(edit)
-    passed = [claim for claim in claims if f": error: `{claim}`: " not in said]
-    return "it names no claim" if not claims else passed and f"the claim {passed[0]} does not refuse it" or ""
+    if not claims:
+        return "it names no claim"
+    admitted = [claim for claim in claims if f": error: `{claim}`: " not in output]
+    return f"the claim {admitted[0]} does not refuse it" if admitted else ""
 
 
-def is_misfit(edit, said, error):
-    """Whether a proof text only does not fit the edited code. Some `rule_` edits need another one, and there the claims tell."""
+def is_misfit(edit, output, error):
+    """Whether a proof's text only does not fit the edited code.
+
+    Some `rule_` edits need another proof for a function, whose error may come first: the claims decide there.
+    """
     if edit.stem.startswith("rule_"):
         return any(misfit in error.group(0) for misfit in MISFITS)
-    # A message may go on in lines that are set in.
-    message = re.match(r".*(?:\n +.*)*", said[error.start():]).group(0)
+    # A message may continue in indented lines.
+    message = re.match(r".*(?:\n +.*)*", output[error.start():]).group(0)
     return any(misfit in message for misfit in (*MISFITS, "has no field"))
 
 
-def wrong_with(room, name, edit):
-    """Why an edit does not show what it is to show, or '', and a line on it."""
-    crate = room / "crates" / name
-    began = time.monotonic()
-    try:
-        texts = edited(crate, edit)
-    except (OSError, ValueError) as error:
-        return str(error), ""
-    kept = {file: (crate / file).read_text(encoding="utf-8") for file in texts}
-    write(crate, texts)
-    said, verdict = prove(room, name)
-    write(crate, kept)
+def judged(crate, edit, output, verdict):
+    """Why a check does not show what its edit has to show, or '', and the place of the first error."""
     if verdict != "refused":
-        return f"it is {verdict}, and must be refused: {said[-300:]}", ""
-    error = first_error(said)
+        return f"it is {verdict}, and must be refused: {output[-300:]}", ""
+    error = first_error(output)
     if not error:
-        return f"refused without a place: {said[-300:]}", ""
-    if is_misfit(edit, said, error):
+        return f"refused without a place: {output[-300:]}", ""
+    if is_misfit(edit, output, error):
         return f"refused only because a proof file does not fit the code: {error.group(0)[:300]}", ""
-    place = error.group(1).removeprefix(str(crate) + "/")
-    wrong = unrefused(edit, said)
-    return wrong and f"{wrong}; first at {place}", f"refused, first at {place} ({time.monotonic() - began:.0f} s)"
+    place = error.group(1).removeprefix(f"{crate}/")
+    wrong = unrefused(edit, output)
+    return wrong and f"{wrong}; first at {place}", place
 
 
-def lend(source, room):
-    """A file that is only read: linked, or copied where the room is on another disk."""
+def link_or_copy(source, target):
+    """A file that nobody writes in place: linked, or copied where the target is on another disk."""
     try:
-        os.link(source, room)
+        os.link(source, target)
     except OSError:
-        shutil.copy2(source, room)
+        shutil.copy2(source, target)
 
 
-def furnish(room, source):
-    """A room with the crates of another and what was proved there."""
-    shutil.copytree(source / "crates", room / "crates")
-    shutil.copy(source / "crates.txt", room)
-    for part, copy in (("rlib", lend), ("stamp", lend), ("inc", shutil.copy2)):
-        if (source / "target" / part).is_dir():
-            shutil.copytree(source / "target" / part, room / "target" / part, copy_function=copy)
+def furnish(room):
+    """A room of its own to try edits in: the crates, and the libraries that rt proved of them."""
+    shutil.copytree(ROOT / "crates", room / "crates")
+    shutil.copy(ROOT / "crates.txt", room)
+    for part in ("rlib", "stamp"):
+        if (ROOT / "target" / part).is_dir():
+            shutil.copytree(ROOT / "target" / part, room / "target" / part, copy_function=link_or_copy)
+
+
+def seed(room, name):
+    """Fills a crate's incremental folder with the modules that rt proved, which its library carries.
+
+    rt takes a module from there where it is up to date. Where it is not, or the kit keeps its modules elsewhere, rt
+    checks it now: that is slower, and shows the same.
+    """
+    library = room / "target" / "rlib" / f"{name}.rlib"
+    try:
+        build = re.search(r"^rattle-build (\S+)$", (library / "format").read_text(encoding="utf-8"), re.M).group(1)
+        shutil.copytree(library / "toolchain" / "checked", room / "target" / "inc" / name / build.replace("/", "_"))
+    except (OSError, AttributeError):
+        shutil.rmtree(room / "target" / "inc" / name, ignore_errors=True)
 
 
 class Rooms:
-    """For each crate a room in which it is proved, and a copy for each worker: an edit is tried over the incremental folder there."""
+    """A room for each worker, and for each crate its incremental folder as it is without an edit."""
 
-    def __init__(self, folder):
-        self.folder = pathlib.Path(folder)
+    def __init__(self, folder, scratch):
+        self.folder, self.scratch = pathlib.Path(folder), scratch
 
-    def proved(self, name):
-        """Proves a crate without an edit; what is wrong, or ''."""
-        room = self.folder / name / "proved"
-        furnish(room, ROOT)
-        shutil.rmtree(room / "target" / "inc", ignore_errors=True)
-        said, verdict = prove(room, name)
-        return "" if verdict == "proved" else f"it is {verdict}: {said[-300:]}"
-
-    def own(self, name):
+    def own(self):
         """The room of the worker that asks."""
-        room = self.folder / name / str(threading.get_ident())
+        room = self.folder / str(threading.get_ident())
         if not room.is_dir():
-            furnish(room, self.folder / name / "proved")
+            furnish(room)
         return room
 
+    def prove(self, name):
+        """Proves a crate without an edit and keeps its incremental folder; what is wrong, or '', and a line on it."""
+        room = self.own()
+        seed(room, name)
+        output, verdict = prove(room, name, self.scratch)
+        if verdict != "proved":
+            return f"it is {verdict}: {output[-300:]}", ""
+        (self.folder / "proved").mkdir(exist_ok=True)
+        (room / "target" / "inc" / name).rename(self.folder / "proved" / name)
+        modules = re.search(rf"^crate {name}: (.*)", output, re.M)
+        return "", f"proved ({modules.group(1) if modules else 'modules not counted'})"
+
     def try_edit(self, name, edit):
-        return wrong_with(self.own(name), name, edit)
+        """Tries an edit; why it does not show what it has to show, or '', and a line on it."""
+        began = time.monotonic()
+        room = self.own()
+        crate = room / "crates" / name
+        try:
+            texts = edited(crate, edit)
+        except (OSError, ValueError) as error:
+            return str(error), ""
+        kept = {file: (crate / file).read_text(encoding="utf-8") for file in texts}
+        shutil.copytree(self.folder / "proved" / name, room / "target" / "inc" / name, copy_function=link_or_copy)
+        write(crate, texts)
+        output, verdict = prove(room, name, self.scratch)
+        write(crate, kept)
+        shutil.rmtree(room / "target" / "inc" / name)
+        wrong, place = judged(crate, edit, output, verdict)
+        return wrong, f"refused, first at {place} ({time.monotonic() - began:.0f} s)"
 
 
-def rt_said(edit, name):
-    """What rt ci's own run of an edit said, if that run is newer than all that it is about; else None."""
+def output_in_rt_ci(edit, name):
+    """The output of rt ci's own run of an edit, if that run is newer than all that it is about; else None."""
     log = ROOT / "target" / "must-fail" / name / edit.stem / ".log"
-    sources = [edit, *(path for part in ("src", "specs", "proofs") for path in (ROOT / "crates" / name / part).rglob("*") if path.is_file())]
+    parts = [ROOT / "crates" / name / part for part in ("src", "specs", "proofs")]
+    sources = [edit, *(path for part in parts for path in part.rglob("*") if path.is_file())]
     if not log.is_file() or any(path.stat().st_mtime > log.stat().st_mtime for path in sources):
         return None
     return log.read_text(encoding="utf-8")
 
 
 def rules_of_rt():
-    """The `rule_` edits that rt ci tries from nothing, with their crates."""
+    """(crate, edit) of the `rule_` edits that rt ci tries from nothing."""
     return [(edit.parents[1].name, edit) for edit in sorted((ROOT / "crates").glob("*/must-fail/rule_*.edit"))]
 
 
-def tests(rooms, pool):
+def all_edits():
+    """(crate, edit) of every edit; crates that take longest come first, so that both cores are busy to the end."""
+    found = [(edit.parent.name, edit) for edit in sorted(HERE.glob("*/*.edit"))] + rules_of_rt()
+    size = {name: len(list((ROOT / "crates" / name / "proofs").rglob("*.antt"))) for name, _ in found}
+    return sorted(found, key=lambda job: (-size[job[0]], job[0]))
+
+
+def is_wanted(job, words):
+    """Whether words, each CRATE or CRATE/EDIT, ask for an edit; none ask for all."""
+    name, edit = job
+    return not words or name in words or f"{name}/{edit.stem}" in words
+
+
+def tests(rooms, pool, words):
     """(what, why it is wrong or '', a line) of everything that is tried."""
-    # The crates that take longest come first, so that both cores are busy to the end.
-    names = sorted((d.name for d in HERE.iterdir() if any(d.glob("*.edit"))), key=lambda n: -len(list((ROOT / "crates" / n / "proofs").rglob("*.antt"))))
-    stands = dict(zip(names, pool.map(rooms.proved, names)))
-    for name in names:
-        yield f"{name} without an edit", stands[name], "proved"
-    said = {edit: rt_said(edit, name) for name, edit in rules_of_rt()}
-    jobs = [(name, edit) for name in names for edit in sorted((HERE / name).glob("*.edit"))]
-    jobs += [(name, edit) for name, edit in rules_of_rt() if said[edit] is None]
-    jobs = [(name, edit) for name, edit in jobs if not stands[name]]
-    for (name, edit), (wrong, line) in zip(jobs, pool.map(lambda job: rooms.try_edit(*job), jobs)):
+    jobs = [job for job in all_edits() if is_wanted(job, words)]
+    crates = list(dict.fromkeys(name for name, _ in jobs))
+    proofs = dict(zip(crates, pool.map(rooms.prove, crates)))
+    for name, (wrong, line) in proofs.items():
+        yield f"{name} without an edit", wrong, line
+    outputs = {edit: output_in_rt_ci(edit, name) for name, edit in rules_of_rt()}
+    tried = [(name, edit) for name, edit in jobs if outputs.get(edit) is None and not proofs[name][0]]
+    for (name, edit), (wrong, line) in zip(tried, pool.map(lambda job: rooms.try_edit(*job), tried)):
         yield f"{name}/{edit.stem}", wrong, line
-    for name, edit in rules_of_rt():
-        if said[edit] is not None:
-            yield f"{name}/{edit.stem}", unrefused(edit, said[edit]), f"refused in rt ci by {', '.join(claims_of(edit))}"
-    yield "there are edits to try", "" if jobs else "there is none", ""
+    for name, edit in jobs:
+        if outputs.get(edit) is not None:
+            line = f"refused in rt ci by {', '.join(claims_of(edit))}"
+            yield f"{name}/{edit.stem}", unrefused(edit, outputs[edit]), line
+    lost = [word for word in words if not any(is_wanted(job, [word]) for job in jobs)]
+    yield "there are edits to try", "" if jobs and not lost else f"there is none {', '.join(lost)}".strip(), ""
+
+
+@contextlib.contextmanager
+def folders():
+    """The folder of the rooms, on the disk of the libraries that they link, and one for what rt copies at each check.
+
+    The second is in memory where that has room: rt makes and removes up to three thousand small files there each time.
+    """
+    disk = ROOT / "target"
+    disk.mkdir(exist_ok=True)
+    roomy = os.access(MEMORY, os.W_OK) and shutil.disk_usage(MEMORY).free >= MEMORY_NEEDED
+    with tempfile.TemporaryDirectory(dir=disk, prefix="mutants.") as rooms, \
+            tempfile.TemporaryDirectory(dir=MEMORY if roomy else None) as scratch:
+        yield rooms, scratch
 
 
 def main():
-    checks = Checks("edits")
-    with tempfile.TemporaryDirectory() as folder, concurrent.futures.ThreadPoolExecutor(2) as pool:
-        for what, wrong, line in tests(Rooms(folder), pool):
+    checks = Checks("mutants")
+    with folders() as found, concurrent.futures.ThreadPoolExecutor(2) as pool:
+        for what, wrong, line in tests(Rooms(*found), pool, sys.argv[1:]):
             checks.test(what, not wrong, wrong)
             if not wrong and line:
                 checks.say(f"{what}: {line}")
