@@ -167,11 +167,11 @@ def passes_over(test, fresh):
     with at_terminal(fresh) as (screen, live):
         feed(live)
         say(fresh, *(f"rt: {name} proved (unchanged since it was last proved)" for name in NAMES[:-1]))
-        test("proved crates are passed over", screen.shows(NOTICE, proving(NAMES[-1], 4)), str(screen))
+        test("proved crates are skipped", screen.shows(NOTICE, proving(NAMES[-1], 4)), str(screen))
         say(fresh, f"rt: {NAMES[-1]} proved (2 s)", "build")
         found = live.ended()
         right = (found.status, found.out) == (0, LISTING) and screen.last() == [NOTICE, ""]
-        test("proved crates are passed over, the listing", right, f"{found}, {screen}")
+        test("proved crates are skipped, the listing", right, f"{found}, {screen}")
 
 
 def needed(crates, name):

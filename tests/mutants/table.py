@@ -9,6 +9,12 @@ import textwrap
 
 ROOT = pathlib.Path(__file__).resolve().parents[2]
 WIDTH = 120
+KINDS = {
+    "rule_": "Definition and code, refused by claims",
+    "code_": "Code alone, refused by contracts",
+    "promise_": "A wrong contract, refused by the code's proof",
+    "example_": "A wrong entry in the list of worked examples",
+}
 HEAD = """\
 # Wrong programs
 
@@ -62,10 +68,9 @@ def page():
     entries = edits()
     for crate in dict.fromkeys(crate for crate, _ in entries):
         own = [path for name, path in entries if name == crate]
-        rules = [path for path in own if path.stem.startswith("rule_")]
-        others = [path for path in own if path not in rules]
         blocks.append(f"## `{crate}`\n")
-        for title, paths in (("Definition and code, refused by claims", rules), ("The rest", others)):
+        for kind, title in KINDS.items():
+            paths = [path for path in own if path.stem.startswith(kind)]
             if paths:
                 blocks.append(f"{title}:\n\n" + "\n".join(item(crate, path) for path in paths) + "\n")
     return "\n".join(blocks)
