@@ -7,7 +7,8 @@ for a test.
 import re
 
 from rules import protocol, rules_of
-from tree import ROOT, SPAN, crates, edit_names, files, spec_files, tables, text_of, theorems
+from specs import claims_in
+from tree import ROOT, SPAN, crates, edit_names, files, spec_files, tables, text_of
 
 # A definition of a specification, and a field of its record or a case of its datatype; what code declares.
 OPENING = re.compile(r"(?:(?:abbrev|unfoldable) pub|pub (?:record|data)) ([^\s(:]+)")
@@ -33,12 +34,17 @@ def definitions_of(crate):
     return found
 
 
+def claims_of(crate):
+    """The claims of a crate; specs.py holds each to a theorem."""
+    return {name for path in spec_files(crate) for name in claims_in(text_of(path))}
+
+
 class Tree:
     """What a row can name."""
 
     def __init__(self):
         self.definitions = {crate: definitions_of(crate) for crate in crates()}
-        self.claims = {crate: theorems(crate) for crate in crates()}
+        self.claims = {crate: claims_of(crate) for crate in crates()}
         self.edits = edit_names()
 
     def defines(self, span):
@@ -108,6 +114,13 @@ def unheld(rows, tree):
     return faults
 
 
+def unused(rows, tree):
+    """Claims that no row names."""
+    named = {span for _, _, claim, _ in rows for span in SPAN.findall(claim)}
+    claims = {f"{crate}::{name}" for crate, names in tree.claims.items() for name in names}
+    return sorted(claims - named)
+
+
 def check_rows(checks, good, tree):
     """That each fault of a row is found: `good` has none."""
     checks.test("two rows for two rules", unmatched(["9.8", "9.9"], [["9.8"], good]) == [])
@@ -156,6 +169,8 @@ def check(checks):
     checks.none("TRACE.md: rules and rows", unmatched(rules_of(protocol()), rows))
     checks.none("TRACE.md: names that do not exist", unknown(rows, tree))
     checks.none("TRACE.md: rules that nothing holds", unheld(rows, tree))
+    checks.none("TRACE.md: claims that hold no rule", unused(rows, tree))
+    checks.test("a claim that no row names is found", "frame::stuffing" in unused([], tree))
     mutant = min(tree.edits)
     good = ["9.9", "`frame::Good.sum-holds`, `frame::feed`", "`frame::stuffing`", f"`tests/lib`, `mutant {mutant}`"]
     check_rows(checks, good, tree)
