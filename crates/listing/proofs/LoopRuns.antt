@@ -81,7 +81,7 @@ refused-kept limit r bs =
     (λ a f. refl)
 
 -- a feed of a reader in range is refused for USED alone, and only past 2^62
-pub refused-late : (limit : ℕ) (s : State) (bs : List ℕ) (n : ℕ) → inRangeOf limit (s .scan) ≡ true → refuses n ≡ true
+refused-late : (limit : ℕ) (s : State) (bs : List ℕ) (n : ℕ) → inRangeOf limit (s .scan) ≡ true → refuses n ≡ true
     → feedOf limit s bs .row .number ≡ n → (n ≢ 17) × (2 ^ 62 < s .scan .consumed + length bs)
 refused-late limit s bs n i f =
     rw i (either-way (leb (s .scan .consumed + length bs) (2 ^ 62))

@@ -1,36 +1,31 @@
 -- Several calls of the loop. Assumes nothing.
-use Prim.Native.Nat.{ℕ, _+_, _^_, _≤_, _<_}
+use Prim.Native.Nat.{ℕ, _+_, _≤_}
 use mathlib.Core.Path.{_≡_, refl, sym, ap, subst, _∙_}
-use mathlib.Core.Bool.{true, true≢false}
-use mathlib.Core.Logic.{_≢_}
+use mathlib.Core.Bool.{true≢false}
 use mathlib.Core.List.{List, [], _∷_, _++_, append-assoc, append-nil}
-use native.Mathlib.Nat.{zero-add}
+use native.Mathlib.Nat.{zero-add, add-zero}
 use native.Mathlib.Omega.{arith}
-use borrow.Author.Tests.{leb-false}
 use lib.ListN.{length, take, drop, take-append-drop, length-append, length-drop}
 use lib.Seq.{take-append-le, length-take-le}
-use lib.Dec.{leb}
 use Rattle.base.specs.Rows.{Row}
 use Rattle.base.specs.Outcomes.{Outcome}
+use Rattle.base.specs.Keys.{among}
 use Rattle.frame.specs.Wire.{widest}
-use Rattle.frame.specs.Rules.{inRangeOf}
 use Rattle.frame.specs.State.{State}
 use Rattle.frame.specs.Calls.{freshOf, feedOf}
-use Rattle.frame.specs.Logs.{Call, feed, finish, consumedIn, stream}
-use Rattle.frame.specs.LogsComputed.{entryOf, logOf, stateAfter, offer}
-use Rattle.frame.proofs.Moves.{Inv}
-use Rattle.frame.proofs.Logged.{in-range, reached}
-use Rattle.frame.proofs.StreamCorrect.{fresh-holds}
-use Rattle.base.proofs.Tests.{either-way}
+use Rattle.frame.specs.Logs.{Call, feed, finish, offered, consumedIn, stream}
+use Rattle.frame.specs.LogsComputed.{callOf, entryOf, logOf, stateAfter, offer}
+use Rattle.frame.specs.Accounts.{feedNumbers, Account, Accounts}
+use Rattle.frame.proofs.StreamCorrect.{stream-correct}
 use Rattle.base.proofs.Lists.{no-bytes}
 use Rattle.listing.specs.Lines.{headingText}
 use Rattle.listing.specs.CallTexts.{feedTextIn, feedText, listingOf, OnlyFeed}
 use Rattle.listing.specs.Listing.{IsListing}
 use Rattle.listing.specs.Turns.{Turn, Turned, turned, turnsOf, writtenBy, OfferedFront}
-use Rattle.listing.specs.Feeding.{Run, refuses, listOf}
+use Rattle.listing.specs.Feeding.{Run, listOf}
 use Rattle.listing.specs.LoopRuns.{RunOfFeeds}
 use Rattle.listing.specs.TurnListings.{TurnsListing, TurnStops, TurnsStop, TurnsFront, SentTurns, AnyTurns}
-use Rattle.listing.proofs.LoopRuns.{loop-lists, refused-late}
+use Rattle.listing.proofs.LoopRuns.{loop-lists}
 use Rattle.listing.proofs.WholeListing.{only-offered, texts, whole-listing, one-listing}
 
 -- ---- calls that make what turns leave
@@ -113,56 +108,65 @@ turns-listing prefix limit small turns =
 
 -- ---- turns-stop
 
-module _ (limit : ℕ) (small : limit ≤ widest) where
-  -- a state of a reader that began fresh and consumed n bytes
-  record Comes (s : State) (n : ℕ) : Type 0 where
-    holds : Inv limit s
-    most : s .scan .consumed ≤ 2 ^ 62
-    place : s .scan .consumed ≡ n
+-- what a call after others owes, where all counts before it add up to the stream's length
+last-account : (limit : ℕ) (calls : List Call) (c : Call) (r : State) (n : ℕ)
+    → Accounts n (logOf limit r (calls ++ c ∷ []))
+    → Account (n + length (stream (logOf limit r calls)))
+    (entryOf (stateAfter limit r calls) c (callOf limit (stateAfter limit r calls) c))
+unfolding logOf stateAfter stream Accounts
+last-account limit [] c r n o = rw add-zero (o .0)
+last-account limit (d ∷ ds) c r n o =
+    let y : Outcome State = callOf limit r d in
+    let count : ℕ = consumedIn (entryOf r d y) in
+    let later : List ℕ = stream (logOf limit (y .state) ds) in
+    let sum : n + count + length later ≡ n + length (take count (offered d) ++ later) =
+    omega (arith, length-append (take count (offered d)) later, length-take-le count (offered d) (o .0 .within)) in
+    rw sum at (last-account limit ds c (y .state) (n + count) (o .1))
 
-  comes-by : (calls : List Call) (r s : State) (n : ℕ) (consumed : List ℕ) → Comes r n → stateAfter limit r calls ≡ s
-      → stream (logOf limit r calls) ≡ consumed → Comes s (n + length consumed)
-  comes-by calls r s n consumed c e f =
-      let q = reached limit small calls r (c .holds) (c .most) in
-      let there : Comes (stateAfter limit r calls) (n + length (stream (logOf limit r calls))) =
-      record { holds = q .holds; most = q .longest; place = omega (arith, q .place, c .place) } in
-      rw (e, f) at there
+-- what a feed after the calls of turns owes
+feed-account : (limit : ℕ) → limit ≤ widest → (prefix : List ℕ) (t : Turned) (calls : List Call) (bytes : List ℕ)
+    → Makes limit prefix (freshOf limit) calls t
+    → Account (length (t .consumed)) (entryOf (t .state) (feed bytes) (feedOf limit (t .state) bytes))
+feed-account limit small prefix t calls bytes m =
+    rw (m .state-is, m .consumed-is, zero-add) at (last-account limit calls (feed bytes) (freshOf limit) 0
+    (stream-correct limit small (calls ++ feed bytes ∷ []) .accounts))
 
-  fresh-comes : Comes (freshOf limit) 0
-  fresh-comes = record { holds = fresh-holds limit; most = omega arith; place = refl }
-
-  -- a run of a reader in such a state
-  run-stops : (prefix consumed : List ℕ) (s : State) (bytes : List ℕ) (room : ℕ) (run : Run) → Comes s (length consumed)
-      → RunOfFeeds limit prefix s bytes room run → TurnStops consumed bytes run
-  run-stops prefix consumed s bytes room run c l =
-      let there : Comes (run .state) (length consumed + length (take (run .used) bytes)) =
-      comes-by (offer limit (l .calls) s bytes) s (run .state) (length consumed) (take (run .used) bytes)
-      c (sym (l .state-is)) (l .consumed-is) in
-      let late : (n : ℕ) → refuses n ≡ true → feedOf limit (run .state) (drop (run .used) bytes) .row .number ≡ n
-      → (n ≢ 17) × (2 ^ 62 < run .state .scan .consumed + length (drop (run .used) bytes)) =
-      λ n. refused-late limit (run .state) (drop (run .used) bytes) n
-      (in-range limit small (run .state) (there .holds) (there .most)) in
-      record {
-        never-state = λ e. late 17 refl (ap (λ (a : Row). a .number) (l .at-state e)) .0 refl;
-        used-late = λ e. omega (
-          arith,
-          late 18 refl (ap (λ (a : Row). a .number) (l .at-used e)) .1,
-          there .place,
-          length-take-le (run .used) bytes (l .within),
-          length-drop (run .used) bytes,
-          l .within,
-        );
-      }
+-- the feed that a turn stops at
+run-stops : (limit : ℕ) → limit ≤ widest → (prefix : List ℕ) (t : Turned) (bytes : List ℕ) (room : ℕ) (run : Run)
+    → Called limit prefix (freshOf limit) t → RunOfFeeds limit prefix (t .state) bytes room run
+    → TurnStops (t .consumed) bytes run
+unfolding among
+run-stops limit small prefix t bytes room run c l =
+    let cs : List Call = offer limit (l .calls) (t .state) bytes in
+    let m = c .makes in
+    let last : Turned = record { state = run .state; consumed = take (run .used) bytes; text = run .text } in
+    let run-makes : Makes limit prefix (stateAfter limit (freshOf limit) (c .calls)) cs last =
+    rw (m .state-is) (record {
+      only = only-offered limit (l .calls) (t .state) bytes;
+      state-is = sym (l .state-is);
+      consumed-is = l .consumed-is;
+      text-is = sym (l .text-is);
+    }) in
+    let owes = rw (m .consumed-is) at (feed-account limit small prefix _ (c .calls ++ cs) (drop (run .used) bytes)
+    (joined limit prefix (c .calls) cs (freshOf limit) last (m .only) run-makes)) in
+    record {
+      never-state = λ e. true≢false
+          (sym (owes .feed-row (drop (run .used) bytes) refl)
+          ∙ ap (λ (a : Row). among (a .number) feedNumbers) (l .at-state e));
+      used-late = λ e. omega (
+        arith,
+        owes .used (ap (λ (a : Row). a .number) (l .at-used e)),
+        length-append (t .consumed) (take (run .used) bytes),
+        length-take-le (run .used) bytes (l .within),
+        length-drop (run .used) bytes,
+        l .within,
+      );
+    }
 
 pub turns-stop : TurnsStop
 turns-stop prefix limit small turns t =
-    let c = called limit prefix turns (freshOf limit) in
-    let m = c .makes in
-    run-stops limit small prefix (turnsOf limit prefix (freshOf limit) turns .consumed)
-    (turnsOf limit prefix (freshOf limit) turns .state) (t .bytes) (t .room) _
-    (rw zero-add at (comes-by limit small (c .calls) (freshOf limit) _ 0 _ (fresh-comes limit small)
-    (m .state-is) (m .consumed-is)))
-    (loop-lists limit prefix _ (t .bytes) (t .room))
+    run-stops limit small prefix (turnsOf limit prefix (freshOf limit) turns) (t .bytes) (t .room) _
+    (called limit prefix turns (freshOf limit)) (loop-lists limit prefix _ (t .bytes) (t .room))
 
 -- ---- turns-front
 
