@@ -9,7 +9,7 @@ from specs import claims_in
 from tree import files, name_of, spec_files, text_of
 
 CALL = re.compile(r"^ *pub (?:extern \"C\" )?fn (\w+)(.*?)\{$", re.M | re.S)  # up to the brace that opens its body
-LAYERS = ("message", "link", "firmware")
+LAYERS = ("message", "link", "firmware", "listing")
 CITED = re.compile(r"^use Rattle·(\w+)\.proofs\.(\w+(?:\.\w+)*)(?:\.\{([^}]*)\})?", re.M)
 
 
