@@ -1,4 +1,4 @@
--- Claims: the definitions answer what the worked examples state.
+-- Claims: the definitions answer what the worked examples state. PROTOCOL 11.
 use mathlib.Core.Path.{_≡_}
 use mathlib.Core.List.{[], _∷_, map, List·Memᴰ}
 use Rattle.examples.specs.Questions.{answerTo}

@@ -1,5 +1,5 @@
 -- Model: what feed, finish and write answer and leave, held to `Logs` and `Wire` by stream-correct and writer-exact.
--- The contracts equate the code with these. PROTOCOL 3.3, 4.1 to 4.18, 6.1 to 6.6.
+-- The contracts equate the code with these. PROTOCOL 3.1, 3.3, 4.1 to 4.18, 6.1 to 6.5.
 use Prim.Native.Nat.{ℕ, _+_, _%_, _^_}
 use mathlib.Core.Bool.{cond}
 use mathlib.Core.List.{List, [], _∷_, _++_}

@@ -1,4 +1,5 @@
--- Claims: what holds of one call of any reader. PROTOCOL 4.10, 4.16, 4.17, 5.2, 5.3, 5.11.
+-- Claims: what holds of one call of any reader, and that no call of a reader that began fresh is answered STATE.
+-- PROTOCOL 4.10, 4.16, 4.17, 5.2, 5.3, 5.11.
 use Prim.Native.Nat.{ℕ, _+_, _^_, _≤_}
 use mathlib.Core.Bool.{true, false}
 use mathlib.Core.List.{List, [], _∷_, _++_, List·Memᴰ}

@@ -1,4 +1,4 @@
--- Claims: the stuffed form. PROTOCOL 2.6 to 2.8, 2.10.
+-- Claims: the stuffed form. PROTOCOL 2.1, 2.6 to 2.8, 2.10.
 use Prim.Native.Nat.{ℕ, _*_, _≤_}
 use mathlib.Core.Bool.{false}
 use mathlib.Core.List.{List, [], _∷_, _++_}

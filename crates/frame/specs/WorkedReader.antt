@@ -1,4 +1,4 @@
--- Claims: the reader worked out: literal bytes that a fresh reader is fed, and its answer. PROTOCOL 3.4 to 3.18.
+-- Claims: the reader worked out: literal bytes for a fresh reader, and its answer. PROTOCOL 3.4 to 3.18, 4.3, 4.9.
 -- MORE is 0, FRAME 1, SHORT 11, LONG 12, STUFF 13, CUT 14, SUM 15; their values are count, start and end.
 use Prim.Native.Nat.{ℕ}
 use mathlib.Core.List.{List, [], _∷_}

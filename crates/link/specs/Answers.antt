@@ -1,4 +1,5 @@
 -- Claims: each answer of the code has its number and values, no two the same, and contracts fix answer and link.
+-- PROTOCOL 4.10, 9.10 to 9.13, 12.2, 12.4.
 use Prim.Native.Nat.{ℕ}
 use mathlib.Core.Path.{_≡_}
 use mathlib.Core.List.{[], _∷_, map}

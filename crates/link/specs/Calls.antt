@@ -1,6 +1,6 @@
 -- Model: what each call answers and leaves, held to the statements by link-ranges, calls-exact and link-history.
 -- `first` is the first sequence number, and `max` bounds the repeats; the contracts state `firstNumber` and
--- `maxRepeats`.
+-- `maxRepeats`. PROTOCOL 9.2, 9.5 to 9.13, 9.15.
 use Prim.Native.Nat.{ℕ, _+_}
 use mathlib.Core.Bool.{Bool, true, cond, _&&_}
 use lib.Dec.{eqb, ltb, leb}

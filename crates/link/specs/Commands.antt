@@ -1,4 +1,4 @@
--- Claims: the commands that wait and their replies, compared with the senders of the messages.
+-- Claims: the commands that wait and their replies, compared with the senders of the messages. PROTOCOL 7.3, 8.10, 9.1.
 use Prim.Native.Nat.{ℕ, _+_}
 use mathlib.Core.Path.{_≡_}
 use mathlib.Core.Bool.{true, false, _&&_, _||_}

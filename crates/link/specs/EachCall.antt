@@ -1,4 +1,4 @@
--- Claims: each call of a link in range, case by case, in literal numbers.
+-- Claims: each call of a link in range, case by case, in literal numbers. PROTOCOL 9.2 to 9.12.
 use Prim.Native.Nat.{ℕ, _+_, _≤_, _<_}
 use mathlib.Core.Path.{_≡_}
 use mathlib.Core.Bool.{true, false, cond, _&&_}

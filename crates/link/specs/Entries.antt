@@ -1,4 +1,4 @@
--- Claims: the entries of a log are its calls, one by one.
+-- Claims: the entries of a log are its calls, one by one. PROTOCOL 9.13, 12.2.
 use Prim.Native.Nat.{ℕ}
 use mathlib.Core.Path.{_≡_}
 use mathlib.Core.List.{List, [], _∷_, map, List·Memᴰ}

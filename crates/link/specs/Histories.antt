@@ -1,4 +1,5 @@
 -- Claims: the history of every list of calls, and that its two cases, idle and waiting, leave out no entry.
+-- PROTOCOL 9.1 to 9.13, 9.15.
 use Prim.Native.Nat.{ℕ, _≤_}
 use mathlib.Core.Path.{_≡_}
 use mathlib.Core.Bool.{true, false}

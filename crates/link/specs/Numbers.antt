@@ -1,4 +1,4 @@
--- Claims: the sequence numbers rise to 255 and begin again.
+-- Claims: the sequence numbers rise to 255 and begin again. PROTOCOL 9.2.
 use Prim.Native.Nat.{ℕ, _+_, _-_, _≤_}
 use mathlib.Core.Path.{_≡_}
 use Rattle.link.specs.Sending.{numberAt}

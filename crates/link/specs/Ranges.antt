@@ -1,4 +1,4 @@
--- Claims: the ranges of a link, in the literal numbers of docs/STATES.md.
+-- Claims: the ranges of a link, in the literal numbers of docs/STATES.md. PROTOCOL 9.15.
 use Prim.Native.Nat.{ℕ, _≤_}
 use mathlib.Core.Path.{_≡_}
 use mathlib.Core.Logic.{_≢_}

@@ -1,4 +1,5 @@
 -- Claims: a refused call leaves the link as it was, and STATE is given exactly where a field is out of range.
+-- PROTOCOL 9.10 to 9.12, 9.15, 12.3.
 use Prim.Native.Nat.{ℕ}
 use mathlib.Core.Path.{_≡_}
 use mathlib.Core.Logic.{_≢_}

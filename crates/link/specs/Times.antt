@@ -1,4 +1,5 @@
 -- Claims: what the time elapsed means, and when a tick is due, over a wrap and for a clock that is set back.
+-- PROTOCOL 9.3, 9.4.
 use Prim.Native.Nat.{ℕ, _+_, _-_, _%_, _^_, _≤_, _<_}
 use mathlib.Core.Path.{_≡_}
 use mathlib.Core.Bool.{false, _&&_}

@@ -1,4 +1,4 @@
--- Claims: worked runs of a link, by computation.
+-- Claims: worked runs of a link, by computation. PROTOCOL 9.1 to 9.13, example 11 of section 11.
 use Prim.Native.Nat.{ℕ}
 use mathlib.Core.Path.{_≡_}
 use mathlib.Core.Bool.{true, false}

@@ -1,4 +1,4 @@
--- Claims: the digits computed are the decimal text of a number, and the only one.
+-- Claims: the digits computed are the decimal text of a number, and the only one. PROTOCOL 10.3.
 use Prim.Native.Nat.{ℕ}
 use mathlib.Core.Path.{_≡_}
 use mathlib.Core.List.{List}

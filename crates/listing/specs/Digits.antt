@@ -1,4 +1,4 @@
--- Model: the digits of a number, computed, held to DecimalText by decimal-text and one-decimal.
+-- Model: the digits of a number, computed, held to DecimalText by decimal-text and one-decimal. PROTOCOL 10.3.
 use Prim.Native.Nat.{ℕ, zero, suc, _+_, _/_, _%_}
 use mathlib.Core.Bool.{cond}
 use mathlib.Core.List.{List, [], _∷_, _++_}

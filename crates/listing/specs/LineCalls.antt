@@ -1,4 +1,4 @@
--- Claims: what a call that makes one line answers, and what it leaves in the buffer.
+-- Claims: what a call that makes one line answers, and what it leaves in the buffer. PROTOCOL 6.7, 10.8.
 use Prim.Native.Nat.{ℕ, _≤_, _<_}
 use mathlib.Core.Path.{_≡_}
 use mathlib.Core.List.{List, [], _∷_, _++_}

@@ -1,4 +1,4 @@
--- Claims: the text of every line, piece by piece, and how long it can be.
+-- Claims: the text of every line, piece by piece, and how long it can be. PROTOCOL 10.1 to 10.6, 10.9.
 use Prim.Native.Nat.{ℕ, _+_, _*_, _-_, _^_, _≤_, _<_}
 use mathlib.Core.Path.{_≡_}
 use mathlib.Core.List.{List, [], _∷_, _++_}

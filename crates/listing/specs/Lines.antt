@@ -66,7 +66,7 @@ answerText prefix r body =
 abbrev pub lineRoom : ℕ
 lineRoom = 132
 
--- the last line; STATE has none: PROTOCOL 10.6
+-- the last line: PROTOCOL 10.6; STATE has none: PROTOCOL 10.1
 abbrev pub lastOf : List ℕ → Row → List ℕ
 lastOf prefix r =
     cond (eqb (r .number) 2) (textOf prefix (ascii "clean") (getD (r .values) 0 0 ∷ []) (ascii "\n"))

@@ -1,4 +1,4 @@
--- Claims: one call of the loop: what it returns and leaves, why it stops, and that it moves on.
+-- Claims: one call of the loop: what it returns and leaves, why it stops, and that it moves on. PROTOCOL 10.8 to 10.10.
 use Prim.Native.Nat.{ℕ, _+_, _≤_, _<_}
 use mathlib.Core.Path.{_≡_}
 use mathlib.Core.Logic.{_≢_}

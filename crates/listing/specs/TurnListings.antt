@@ -1,4 +1,4 @@
--- Claims: several calls of the loop write the listing of the bytes that they used.
+-- Claims: several calls of the loop write the listing of the bytes that they used. PROTOCOL 10.7, 10.10.
 use Prim.Native.Nat.{ℕ, _+_, _^_, _≤_, _<_}
 use mathlib.Core.Path.{_≡_}
 use mathlib.Core.Logic.{_≢_}

@@ -1,4 +1,4 @@
--- Claims: the stream alone decides the listing, however calls cut it.
+-- Claims: the stream alone decides the listing, however calls cut it. PROTOCOL 10.1, 10.7.
 use Prim.Native.Nat.{ℕ, _^_, _≤_}
 use mathlib.Core.Path.{_≡_}
 use mathlib.Core.List.{List, [], _∷_, _++_}

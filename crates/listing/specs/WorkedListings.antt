@@ -1,4 +1,4 @@
--- Claims: worked listings, by computation.
+-- Claims: worked listings, by computation. PROTOCOL 10.1 to 10.10, 11.2.
 use Prim.Native.Nat.{ℕ}
 use mathlib.Core.Path.{_≡_}
 use mathlib.Core.List.{List, [], _∷_, _++_}

@@ -1,4 +1,4 @@
--- Claims: rows of answers: each name has its number and values, and a row fixes its answer. PROTOCOL 12.4.
+-- Claims: rows of answers: each name has its number and values, and a row fixes its answer. PROTOCOL 12.2, 12.4.
 use Prim.Native.Nat.{ℕ}
 use mathlib.Core.Path.{_≡_}
 use mathlib.Core.List.{List, [], _∷_, map}
