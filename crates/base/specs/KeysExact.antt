@@ -1,4 +1,4 @@
--- Claims: a number is looked up exactly when it is in the list.
+-- Claims: `among` finds a number exactly when it is in the list.
 use Prim.Native.Nat.{ℕ}
 use mathlib.Core.Path.{_≡_}
 use mathlib.Core.Bool.{true}

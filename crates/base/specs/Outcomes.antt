@@ -11,7 +11,7 @@ pub record Outcome (S : Type 0) : Type 0 where
   pub row : Row
   pub state : S
 
--- an outcome of these two
+-- shorthand for an outcome, as the models of calls write it
 abbrev pub outcome : {S : Type 0} → Row → S → Outcome S
 outcome a s = record { row = a; state = s }
 
@@ -20,7 +20,7 @@ pub record Output : Type 0 where
   pub row : Row
   pub out : List ℕ
 
--- an output of these two
+-- shorthand for an output, as the models of calls that write have it
 abbrev pub output : Row → List ℕ → Output
 output a o = record { row = a; out = o }
 

@@ -7,6 +7,6 @@ pub record Row : Type 0 where
   pub number : ℕ
   pub values : List ℕ
 
--- a row of these two
+-- shorthand for a row, as the tables of answers write it
 abbrev pub row : ℕ → List ℕ → Row
 row n v = record { number = n; values = v }

@@ -17,7 +17,7 @@ pub record Example : Type 0 where
   pub question : Question
   pub stated : Answer
 
--- an example of these three
+-- shorthand for an example, one line of the list
 abbrev pub entry : ℕ → Question → Answer → Example
 entry number question stated = record { number = number; question = question; stated = stated }
 

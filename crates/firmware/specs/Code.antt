@@ -29,7 +29,7 @@ pub record Returned : Type 0 where
   pub code : ℕ
   pub out : List ℕ
 
--- a result of these two
+-- shorthand for a result
 abbrev pub returned : ℕ → List ℕ → Returned
 returned c o = record { code = c; out = o }
 

@@ -18,7 +18,7 @@ feedNumbers = 0 ∷ 1 ∷ 11 ∷ 12 ∷ 13 ∷ 14 ∷ 15 ∷ 18 ∷ []
 abbrev pub finishNumbers : List ℕ
 finishNumbers = 2 ∷ 16 ∷ []
 
--- what one call owes, where all earlier counts add up to n
+-- what one call promises, where all earlier counts add up to n
 pub record Account (n : ℕ) (e : Entry) : Type 0 where
   pub feed-row : (bytes : List ℕ) → e .call ≡ feed bytes → among (e .row .number) feedNumbers ≡ true
   pub finish-row : e .call ≡ finish → among (e .row .number) finishNumbers ≡ true

@@ -12,7 +12,7 @@ pub record Found : Type 0 where
   pub end : ℕ
   pub body : List ℕ
 
--- a stretch of these three
+-- shorthand for a stretch
 abbrev pub found : ℕ → ℕ → List ℕ → Found
 found start end body = record { start = start; end = end; body = body }
 

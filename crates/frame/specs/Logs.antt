@@ -23,7 +23,7 @@ pub record Entry : Type 0 where
   pub before : State
   pub after : State
 
--- an entry of these four
+-- shorthand for an entry, for lists of calls that are written out
 abbrev pub entry : Call → Row → State → State → Entry
 entry c a before after = record { call = c; row = a; before = before; after = after }
 

@@ -18,7 +18,7 @@ use Rattle.frame.specs.Offers.{OffersFront, Front}
 use Rattle.frame.specs.State.{State}
 use Rattle.frame.specs.Wire.{widest}
 
--- ---- stream-correct: the delivered frames are the frames of the stream, and each call owes its account.
+-- ---- stream-correct: the delivered frames are the frames of the stream, and each call keeps its promises.
 -- `wrong-logs` shows lists of calls that it refuses
 pub record StreamCorrect (limit : ℕ) (log : List Entry) : Type 0 where
   pub frames : delivered log ≡ framesOf limit (stream log)

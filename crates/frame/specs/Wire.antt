@@ -23,7 +23,7 @@ stuff (x ∷ xs) = x ∷ stuffAfter (eqb x 255) (stuff xs)
 abbrev pub wire : List ℕ → List ℕ
 wire b = 255 ∷ 255 ∷ stuff b
 
--- the length L, at place 0: PROTOCOL 2.2, 2.3. This and each other field reads any bytes: PROTOCOL 2.11
+-- the length L, at place 0: PROTOCOL 2.2, 2.3. Every field can be read from any bytes: PROTOCOL 2.11
 abbrev pub lengthOf : List ℕ → ℕ
 lengthOf b = twoAt b 0
 

@@ -105,7 +105,7 @@ unfoldable pub profileIn : List TableEntry → ℕ → Profile
 profileIn [] c = unlisted
 profileIn (e ∷ es) c = cond (eqb c (e .command)) (e .profile) (profileIn es c)
 
--- .. in the table
+-- the profile of a command in the whole table
 abbrev pub profileOf : ℕ → Profile
 profileOf c = profileIn table c
 

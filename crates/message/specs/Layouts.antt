@@ -95,12 +95,12 @@ timeValues p more = twoAt p 0 ∷ getD p 2 0 ∷ getD p 3 0 ∷ getD p 4 0 ∷ g
 
 -- what a payload of a kind must be, and what it says
 pub record Layout : Type 0 where
-  -- 31 COMMAND, where not
+  -- whether it is listed; if not, COMMAND (31)
   pub listed : Bool
-  -- 32 SIZE, where not: its sizes, and the sizes of the whole payload that its first byte chooses
+  -- its sizes, and the sizes of the whole payload that its first byte chooses; any other size is SIZE (32)
   pub sizes : Sizes
   pub chosen : ℕ → Sizes
-  -- 33 FIELD, where not, of a payload whose size fits
+  -- whether its values are allowed, of a payload whose size fits; if not, FIELD (33)
   pub allowed : List ℕ → Bool
   -- its values; texts, key, secret, check code and data are not values
   pub values : List ℕ → List ℕ
@@ -161,7 +161,7 @@ layoutOf Piece =
 
 -- ---- the layouts looked up
 
--- 31 COMMAND, where not: PROTOCOL 7.4
+-- whether it is listed; if not, COMMAND (31): PROTOCOL 7.4
 abbrev pub isListed : Kind → Bool
 isListed k = layoutOf k .listed
 
@@ -173,7 +173,7 @@ sizesOf k = layoutOf k .sizes
 abbrev pub chosenOf : Kind → ℕ → Sizes
 chosenOf k first = layoutOf k .chosen first
 
--- 33 FIELD, where not, of a payload whose size fits: PROTOCOL 7.6
+-- whether the values are allowed, of a payload whose size fits; if not, FIELD (33): PROTOCOL 7.6
 abbrev pub allowed : Kind → List ℕ → Bool
 allowed k p = layoutOf k .allowed p
 
@@ -191,6 +191,6 @@ fits (exactly sizes) p = among (length p) sizes
 fits (from min) p = leb min (length p)
 fits (counted before after) p = eqb (length p) (before + 2 + twoAt p before + after)
 
--- 32 SIZE, where not: the size fits the kind and the layout that the first byte chooses: PROTOCOL 7.5
+-- whether the size fits the kind and the layout that the first byte chooses; if not, SIZE (32): PROTOCOL 7.5
 unfoldable pub sizeFits : Kind → List ℕ → Bool
 sizeFits k p = fits (sizesOf k) p && fits (chosenOf k (getD p 0 0)) p

@@ -88,9 +88,9 @@ pub record Form : Type 0 where
   -- its values after the command, and the values that its reader finds
   pub values : List ℕ
   pub read : List ℕ
-  -- 32 SIZE, where not: the sizes of the caller's data
+  -- whether the caller's data may have a size; if not, SIZE (32)
   pub takes : ℕ → Bool
-  -- 33 FIELD, where not: only a strength can have more bits than its field
+  -- whether each value may be written; if not, FIELD (33). Only a strength can have more bits than its field
   pub allows : Bool
   -- its payload, with the caller's data
   pub payload : List ℕ → List ℕ
@@ -112,7 +112,7 @@ bareRead command values read allows payload =
       payload = λ opaque. payload;
     }
 
--- .. and nothing that a reader ignores
+-- without the caller's data, and with no value that a reader ignores
 abbrev pub bare : ℕ → List ℕ → Bool → List ℕ → Form
 bare command values allows payload = bareRead command values values allows payload
 
@@ -153,11 +153,11 @@ messageIn m = formOf m .command ∷ formOf m .values
 abbrev pub readIn : Message → List ℕ
 readIn m = formOf m .command ∷ formOf m .read
 
--- 32 SIZE, where not: whether the caller's data has the size that the message needs
+-- whether the caller's data has the size that the message needs; if not, SIZE (32)
 abbrev pub opaqueFits : Message → ℕ → Bool
 opaqueFits m n = formOf m .takes n
 
--- 33 FIELD, where not: whether each value may be written
+-- whether each value may be written; if not, FIELD (33)
 abbrev pub allowedIn : Message → Bool
 allowedIn m = formOf m .allows
 

@@ -48,7 +48,7 @@ sizesAmong command p [] = []
 sizesAmong command p (n ∷ ns) =
     cond (eqb (readOf command (take n p) .number) 32) (sizesAmong command p ns) (n ∷ sizesAmong command p ns)
 
--- .. of the sizes below 120, with zeros after p
+-- the sizes below 120 that reading does not refuse, of p with zeros after it
 abbrev pub sizesRead : ℕ → List ℕ → List ℕ
 sizesRead command p = sizesAmong command (p ++ replicate 120 0) (numbersFrom 0 120)
 
