@@ -1,4 +1,5 @@
 -- Statement: the twelve worked examples, as one list. PROTOCOL 11.
+-- It uses frame's `zeros` of the model, held by fresh-reader.
 use Prim.Native.Nat.{ℕ}
 use mathlib.Core.Bool.{true, false}
 use mathlib.Core.List.{List, [], _∷_, _++_}

@@ -1,5 +1,6 @@
 -- Statement: what an example asks of the definitions of the three layers, and what they answer. PROTOCOL 11.
 -- Each definition is one that the contract of a public call states, at the limit of 1,024 (`readOf` is the row of one).
+-- They are of the models, held by stream-correct, writer-exact, reads-exactly and send-exactly.
 use Prim.Native.Nat.{ℕ}
 use mathlib.Core.Bool.{Bool, cond, _||_}
 use mathlib.Core.List.{List}

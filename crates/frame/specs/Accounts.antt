@@ -1,5 +1,6 @@
 -- Statement: what each call of a list promises: its answer's number, its count, its end.
 -- It reads no field of the reader. PROTOCOL 4.1, 4.11, 4.16, 4.18, 5.2, 5.3, 5.8, 5.9, 5.11.
+-- It uses base's `among` of the model, held by looked-up.
 use Prim.Native.Nat.{ℕ, _+_, _^_, _≤_, _<_}
 use mathlib.Core.Bool.{true}
 use mathlib.Core.List.{List, [], _∷_}

@@ -1,4 +1,5 @@
 -- Statement: what a list of calls of one reader gave: its stream, delivered frames and decisions. PROTOCOL 5.1 to 5.10.
+-- It uses `State` of the model, held by states-injective and named-states.
 use Prim.Native.Nat.{ℕ}
 use mathlib.Core.Bool.{Bool, cond, _&&_, _||_}
 use mathlib.Core.List.{List, [], _∷_, _++_}

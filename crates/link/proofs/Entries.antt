@@ -3,7 +3,8 @@ use Prim.Native.Nat.{ℕ}
 use mathlib.Core.Path.{_≡_, refl, ap}
 use mathlib.Core.List.{List, [], _∷_, map, List·Memᴰ, List·Memᴰ·not-nil, List·Memᴰ·cases-cons}
 use mathlib.Core.Logic.{_⊎_, inl, inr}
-use Rattle.link.specs.Logs.{Call, offering, ticking, receiving, callOf, Entry, logOf}
+use Rattle.link.specs.Logs.{Call, offering, ticking, receiving, Entry}
+use Rattle.link.specs.LogsComputed.{callOf, logOf}
 use Rattle.link.specs.Entries.{callIn, Answered, Chains, LogsExact}
 use Rattle.link.specs.declared.state.Link.{Link}
 use Rattle.link.proofs.Moves.{entryOf}

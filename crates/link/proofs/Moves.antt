@@ -13,7 +13,8 @@ use Rattle.base.proofs.Tests.{by-test, both}
 use Rattle.link.specs.Sending.{mayWait, numberAt, fitsOf}
 use Rattle.link.specs.Clock.{isDue}
 use Rattle.link.specs.Calls.{linkOf, inRange, dueTickOf}
-use Rattle.link.specs.Logs.{Call, offering, ticking, receiving, callOf, Entry, acceptedIn, repeatedIn, endedIn}
+use Rattle.link.specs.Logs.{Call, offering, ticking, receiving, Entry, acceptedIn, repeatedIn, endedIn}
+use Rattle.link.specs.LogsComputed.{callOf}
 use Rattle.link.specs.Logs.{commandIn, clockIn, dueIn, accepted, repeated, ended, numberIn}
 use Rattle.link.specs.History.{idleRow, waitingRow}
 use Rattle.link.specs.declared.state.Link.{Link}

@@ -12,7 +12,8 @@ use Rattle.link.specs.Sending.{mayWait, fitsOf}
 use Rattle.link.specs.Clock.{isDue}
 use Rattle.link.specs.Table.{stateRow, unsentRow}
 use Rattle.link.specs.Calls.{inRange, offerIn, dueTickOf, tickIn, receiveIn}
-use Rattle.link.specs.Logs.{Call, offering, ticking, receiving, callOf}
+use Rattle.link.specs.Logs.{Call, offering, ticking, receiving}
+use Rattle.link.specs.LogsComputed.{callOf}
 use Rattle.link.specs.Refusals.{RefusedUnchanged}
 use Rattle.link.specs.declared.state.Link.{Link}
 use Rattle.link.specs.declared.state.Wait.{Wait}

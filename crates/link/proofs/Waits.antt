@@ -11,7 +11,8 @@ use lib.ListN.{length}
 use Rattle.base.proofs.Tests.{by-test}
 use Rattle.link.specs.Sending.{numberAt}
 use Rattle.link.specs.Calls.{linkOf}
-use Rattle.link.specs.Logs.{Call, Entry, logOf, accepted, repeated, ended, numberIn, numbersUsed, numbersFrom}
+use Rattle.link.specs.Logs.{Call, Entry, accepted, repeated, ended, numberIn, numbersUsed, numbersFrom}
+use Rattle.link.specs.LogsComputed.{logOf}
 use Rattle.link.specs.Logs.{waitsAfter, noneEnds, repeatsIn, lastSent, dueTicks}
 use Rattle.link.specs.declared.state.Link.{Link}
 use Rattle.link.specs.declared.state.Wait.{Wait}

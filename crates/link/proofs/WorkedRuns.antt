@@ -1,7 +1,8 @@
 -- Worked runs of a link, by computation. Assumes nothing.
 use mathlib.Core.Path.{refl}
 use Rattle.base.specs.Keys.{among}
-use Rattle.link.specs.Logs.{logOf, rowsIn, noneEnds, repeatsIn, lastSent, dueTicks}
+use Rattle.link.specs.Logs.{rowsIn, noneEnds, repeatsIn, lastSent, dueTicks}
+use Rattle.link.specs.LogsComputed.{logOf}
 use Rattle.link.specs.WorkedRuns.{WorkedRun, WorkedWait, Example11}
 
 pub worked-run : WorkedRun

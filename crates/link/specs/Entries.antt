@@ -4,7 +4,8 @@ use mathlib.Core.Path.{_≡_}
 use mathlib.Core.List.{List, [], _∷_, map, List·Memᴰ}
 use Rattle.base.specs.Outcomes.{outcome}
 use Rattle.link.specs.Calls.{offerOf, tickOf, receiveOf}
-use Rattle.link.specs.Logs.{Call, offering, ticking, receiving, Entry, logOf}
+use Rattle.link.specs.Logs.{Call, offering, ticking, receiving, Entry}
+use Rattle.link.specs.LogsComputed.{logOf}
 use Rattle.link.specs.declared.state.Link.{Link}
 
 -- the call of an entry

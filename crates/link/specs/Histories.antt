@@ -5,7 +5,8 @@ use mathlib.Core.Path.{_≡_}
 use mathlib.Core.Bool.{true, false}
 use mathlib.Core.List.{List}
 use Rattle.link.specs.Calls.{freshOf}
-use Rattle.link.specs.Logs.{Call, Entry, logOf, waitsAfter}
+use Rattle.link.specs.Logs.{Call, Entry, waitsAfter}
+use Rattle.link.specs.LogsComputed.{logOf}
 use Rattle.link.specs.History.{OpenWait, History}
 
 -- ---- link-history: every list of calls of a link that began fresh, for every first number up to 255 and any bound

@@ -8,6 +8,7 @@ pub mod Logs
 pub mod History
 -- Model: what the contracts equate, held to the statements by claims
 pub mod Calls
+pub mod LogsComputed
 -- Claims: what is proved
 pub mod Answers
 pub mod Commands

@@ -5,10 +5,8 @@ use mathlib.Core.List.{List, [], _∷_}
 use lib.ListN.{getD}
 use lib.Dec.{eqb}
 use Rattle.base.specs.Rows.{Row}
-use Rattle.base.specs.Outcomes.{Outcome}
 use Rattle.link.specs.Sending.{numberAt}
 use Rattle.link.specs.Clock.{isDue}
-use Rattle.link.specs.Calls.{offerOf, tickOf, receiveOf}
 use Rattle.link.specs.declared.state.Link.{Link}
 
 -- ---- the log of a list of calls
@@ -19,25 +17,12 @@ pub data Call : Type 0 where
   ticking : ℕ → Call  -- at a clock
   receiving : ℕ → ℕ → Call  -- the command and number of a received frame
 
--- what a call answers and leaves, by the definition that its contract states
-abbrev pub callOf : ℕ → ℕ → Link → Call → Outcome Link
-callOf first max l (offering command clock) = offerOf first max l command clock
-callOf first max l (ticking clock) = tickOf first max l clock
-callOf first max l (receiving command number) = receiveOf first max l command number
-
 -- a call, its row, and the link before and after it
 pub record Entry : Type 0 where
   pub call : Call
   pub row : Row
   pub before : Link
   pub after : Link
-
--- all calls, refused ones included, each of the link that the previous one left
-unfoldable pub logOf : ℕ → ℕ → Link → List Call → List Entry
-logOf first max l [] = []
-logOf first max l (c ∷ cs) =
-    record { call = c; row = callOf first max l c .row; before = l; after = callOf first max l c .state }
-    ∷ logOf first max (callOf first max l c .state) cs
 
 -- the answers, as rows
 unfoldable pub rowsIn : List Entry → List Row

@@ -9,7 +9,8 @@ use Rattle.base.specs.Outcomes.{Outcome, outcome}
 use Rattle.base.specs.Keys.{among}
 use Rattle.link.specs.Sending.{firstNumber, maxRepeats}
 use Rattle.link.specs.Calls.{linkOf, freshOf}
-use Rattle.link.specs.Logs.{Call, callOf}
+use Rattle.link.specs.Logs.{Call}
+use Rattle.link.specs.LogsComputed.{callOf}
 use Rattle.link.specs.declared.state.Link.{Link}
 use Rattle.link.specs.declared.state.Wait.{Wait}
 use Rattle.link.specs.declared.state.Wait.the-variants.{Idle, Waiting}

@@ -7,7 +7,8 @@ use mathlib.Core.Bool.{false}
 use mathlib.Core.List.{[], _∷_}
 use Rattle.base.specs.Rows.{row}
 use Rattle.link.specs.Calls.{inRange}
-use Rattle.link.specs.Logs.{Call, callOf}
+use Rattle.link.specs.Logs.{Call}
+use Rattle.link.specs.LogsComputed.{callOf}
 use Rattle.link.specs.declared.state.Link.{Link}
 
 -- ---- refused-unchanged: of every link, in range or not, and every call: PROTOCOL 9.10 to 9.12, 9.15, 12.3

@@ -1,4 +1,5 @@
 -- Statement: which commands wait, under which numbers, and which received frame fits. PROTOCOL 9.1, 9.2, 9.6, 9.9.
+-- It uses base's `among` of the model, held by looked-up.
 use Prim.Native.Nat.{ℕ, _+_, _-_, _%_}
 use mathlib.Core.Bool.{Bool, _&&_}
 use mathlib.Core.List.{List, [], _∷_}

@@ -8,7 +8,8 @@ use Rattle.link.specs.Sending.{firstNumber, maxRepeats, numberAt}
 use Rattle.link.specs.Clock.{elapsedOf, isDue}
 use Rattle.link.specs.Table.{nothingRow, againRow}
 use Rattle.link.specs.Calls.{freshOf, offerOf, tickOf}
-use Rattle.link.specs.Logs.{Call, offering, ticking, receiving, Entry, logOf, rowsIn, noneEnds, repeatsIn}
+use Rattle.link.specs.Logs.{Call, offering, ticking, receiving, Entry, rowsIn, noneEnds, repeatsIn}
+use Rattle.link.specs.LogsComputed.{logOf}
 use Rattle.link.specs.Logs.{lastSent, dueTicks}
 use Rattle.link.specs.declared.state.Link.{Link}
 

@@ -1,4 +1,5 @@
 -- Statement: the text of a list of calls: the line of each answer, and the listing of all. PROTOCOL 10.1.
+-- It uses frame's `logOf` and `freshOf` of the model, held by log-exact, log-chains and fresh-reader.
 use Prim.Native.Nat.{ℕ}
 use mathlib.Core.List.{List, [], _∷_, _++_}
 use Rattle.frame.specs.Calls.{freshOf}

@@ -1,4 +1,5 @@
 -- Statement: the heading, the line of each answer, and the last line. PROTOCOL 10.1 to 10.6, 10.8, 10.9.
+-- It uses `decimalOf` of the model, held by decimal-text and one-decimal.
 use Prim.Native.Nat.{ℕ}
 use Prim.Native.Char.{code}
 use Prim.Native.String.{String, [] as []ˢ, _∷_ as _∷ˢ_}

@@ -1,4 +1,5 @@
 -- Statement: what several calls of the loop, the turns, use and write in all. PROTOCOL 10.7, 10.10.
+-- It uses `listOf` of the model, held by loop-lists, and frame's `finishOf`, held by finish-correct.
 use Prim.Native.Nat.{ℕ}
 use mathlib.Core.Path.{_≡_}
 use mathlib.Core.List.{List, [], _∷_, _++_}

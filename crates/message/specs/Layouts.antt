@@ -1,4 +1,5 @@
 -- Statement: the layout of each kind of payload: sizes, allowed values, fields and parts. PROTOCOL 7.4 to 7.17, 7.21.
+-- It uses base's `among` of the model, held by looked-up.
 use Prim.Native.Nat.{ℕ, _+_, _-_}
 use mathlib.Core.Bool.{Bool, true, false, cond, _&&_, _||_}
 use mathlib.Core.List.{List, [], _∷_}
