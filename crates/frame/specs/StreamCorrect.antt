@@ -1,5 +1,6 @@
 -- Claims: stream-correct, the buyer's third demand, about a whole list of calls. PROTOCOL 5.1 to 5.11.
--- The record `StreamCorrect` states it. Other claims: which decisions the calls give, and that the lists are unique.
+-- The record `StreamCorrect` is the statement to be judged; it stands here, next to its claim.
+-- Other claims: which decisions the calls give, and that the lists are unique.
 use Prim.Native.Nat.{ℕ, _≤_}
 use mathlib.Core.List.{List, [], _∷_, _++_, List·Memᴰ}
 use mathlib.Core.Logic.{_≢_, _⊎_}
@@ -21,6 +22,7 @@ use Rattle.frame.specs.Wire.{widest}
 -- ---- stream-correct: the delivered frames are the frames of the stream, and each call keeps its promises.
 -- `wrong-logs` shows lists of calls that it refuses
 pub record StreamCorrect (limit : ℕ) (log : List Entry) : Type 0 where
+  -- `frames` follows from `lists` by one-list; judge `lists`
   pub frames : delivered log ≡ framesOf limit (stream log)
   pub lists : Lists limit (stream log) (delivered log)
   pub accounts : Accounts 0 log

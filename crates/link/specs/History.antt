@@ -1,4 +1,5 @@
 -- Statement: what holds of every list of calls of a link that began fresh. PROTOCOL 9.1 to 9.13, 9.15.
+-- The record `History` is the statement to be judged; link-history, in `Histories`, is its claim.
 use Prim.Native.Nat.{ℕ, _+_, _≤_, _<_}
 use mathlib.Core.Path.{_≡_}
 use mathlib.Core.Logic.{_≢_}
