@@ -40,10 +40,10 @@ closedOf consumed = record { phase = Idle; consumed = consumed; start = 0; fille
 abbrev pub halfOf : ℕ → Scan
 halfOf consumed = record { phase = Half; consumed = consumed; start = 0; filled = 0; length = 0; sum = 0 }
 
--- a header was made, whose second byte is at the place `last`: PROTOCOL 3.4
+-- a header was made, whose second byte is at the place `at`: PROTOCOL 3.4
 abbrev pub headerOf : ℕ → ℕ → Scan
-headerOf last consumed =
-    record { phase = Header; consumed = consumed; start = last - 1; filled = 0; length = 0; sum = 0 }
+headerOf at consumed =
+    record { phase = Header; consumed = consumed; start = at - 1; filled = 0; length = 0; sum = 0 }
 
 -- an FF that is not the header's waits for the next byte: PROTOCOL 3.8
 abbrev pub escapeOf : Scan → ℕ → Scan
@@ -65,7 +65,7 @@ silentOf s e = record { scan = s; put = false; byte = 0; event = e }
 
 -- CUT: the header that refuses an open frame opens the next one. PROTOCOL 3.10
 abbrev pub cutOf : ℕ → ℕ → Step
-cutOf last consumed = silentOf (headerOf last consumed) (Decided Cut)
+cutOf at consumed = silentOf (headerOf at consumed) (Decided Cut)
 
 -- the byte v goes to the body
 abbrev pub storedOf : Scan → ℕ → Event → Step
@@ -120,7 +120,7 @@ onFFOf s = onFFIn (s .phase) s
 
 -- a byte that belongs to no body, and after which no frame is open
 abbrev pub outsideOf : ℕ → Event → Step
-outsideOf last e = silentOf (closedOf (last + 1)) e
+outsideOf at e = silentOf (closedOf (at + 1)) e
 
 -- a byte that follows an FF that waits: PROTOCOL 3.9, 3.11
 abbrev pub onEscapedOf : ℕ → Scan → ℕ → Step

@@ -86,14 +86,14 @@ fn half(consumed: WirePlace) -> Scan
     }
 }
 
-// A header was made, whose second byte is at the place `last`: PROTOCOL 3.4.
-fn header(last: WirePlace, consumed: WirePlace) -> Scan
-    ensures { λ r. ⌜ scanOf r ≡ headerOf (last .0) (consumed .0) ⌝ }
+// A header was made, whose second byte is at the place `at`: PROTOCOL 3.4.
+fn header(at: WirePlace, consumed: WirePlace) -> Scan
+    ensures { λ r. ⌜ scanOf r ≡ headerOf (at .0) (consumed .0) ⌝ }
 {
     Scan {
         phase: Phase::Header,
         consumed,
-        start: previous_place(last),
+        start: previous_place(at),
         filled: BodyPlace(0),
         length: 0,
         sum: 0,
@@ -129,11 +129,11 @@ fn silent(scan: Scan, event: Event) -> Step
 }
 
 // A header in an open frame refuses that frame and opens the next one: PROTOCOL 3.10.
-fn cut(last: WirePlace, consumed: WirePlace) -> Step
-    ensures { λ r. ⌜ stepOf r ≡ cutOf (last .0) (consumed .0) ⌝ }
+fn cut(at: WirePlace, consumed: WirePlace) -> Step
+    ensures { λ r. ⌜ stepOf r ≡ cutOf (at .0) (consumed .0) ⌝ }
 {
     let verdict = Verdict::Cut;
-    silent(header(last, consumed), Event::Decided { verdict })
+    silent(header(at, consumed), Event::Decided { verdict })
 }
 
 // The byte v goes to the body.
@@ -154,11 +154,11 @@ fn grown(scan: Scan, length: u16, v: u8) -> Step
     requires { ⌜ scan .filled .0 < 2 ^ 62 ⌝ }
     ensures { λ r. ⌜ stepOf r ≡ grownOf (scanOf scan) length v ⌝ }
 {
-    let last = scan.consumed;
+    let at = scan.consumed;
     let start = scan.start;
     let next = Scan {
         phase: Phase::Open,
-        consumed: next_place(last),
+        consumed: next_place(at),
         start,
         filled: BodyPlace(scan.filled.0 + 1),
         length,
@@ -172,8 +172,8 @@ fn ended(scan: Scan, v: u8, verdict: Verdict) -> Step
     requires { ⌜ scan .consumed .0 < 2 ^ 62 ⌝ }
     ensures { λ r. ⌜ stepOf r ≡ endedOf (scanOf scan) v verdict ⌝ }
 {
-    let last = scan.consumed;
-    stored(closed(next_place(last)), v, Event::Decided { verdict })
+    let at = scan.consumed;
+    stored(closed(next_place(at)), v, Event::Decided { verdict })
 }
 
 // The body is complete with its sum v: PROTOCOL 3.13, 3.14.
@@ -223,23 +223,23 @@ fn on_ff(scan: Scan) -> Step
     ensures { λ r. ⌜ stepOf r ≡ onFFOf (scanOf scan) ⌝ }
 {
     let phase = scan.phase;
-    let last = scan.consumed;
-    let consumed = next_place(last);
+    let at = scan.consumed;
+    let consumed = next_place(at);
     match phase {
         Phase::Idle => silent(half(consumed), Event::Quiet),
-        Phase::Half => silent(header(last, consumed), Event::Quiet),
-        Phase::Header => silent(header(last, consumed), Event::Quiet),
+        Phase::Half => silent(header(at, consumed), Event::Quiet),
+        Phase::Header => silent(header(at, consumed), Event::Quiet),
         Phase::Open => silent(escape(scan, consumed), Event::Quiet),
-        Phase::Escape => cut(last, consumed),
+        Phase::Escape => cut(at, consumed),
     }
 }
 
 // A byte that belongs to no body, and after which no frame is open.
-fn outside(last: WirePlace, event: Event) -> Step
-    requires { ⌜ last .0 < 2 ^ 62 ⌝ }
-    ensures { λ r. ⌜ stepOf r ≡ outsideOf (last .0) event ⌝ }
+fn outside(at: WirePlace, event: Event) -> Step
+    requires { ⌜ at .0 < 2 ^ 62 ⌝ }
+    ensures { λ r. ⌜ stepOf r ≡ outsideOf (at .0) event ⌝ }
 {
-    silent(closed(next_place(last)), event)
+    silent(closed(next_place(at)), event)
 }
 
 // A byte other than FF that follows an FF of the body: PROTOCOL 3.9, 3.11.
@@ -247,12 +247,12 @@ fn on_escaped(limit: usize, scan: Scan, byte: u8) -> Step
     requires { ⌜ Ready limit (scanOf scan) 1 ⌝ }
     ensures { λ r. ⌜ stepOf r ≡ onEscapedOf limit (scanOf scan) byte ⌝ }
 {
-    let last = scan.consumed;
+    let at = scan.consumed;
     if byte == 85 {
         return body_byte(limit, scan, 255);
     }
     let verdict = Verdict::Stuff;
-    outside(last, Event::Decided { verdict })
+    outside(at, Event::Decided { verdict })
 }
 
 // A byte other than FF: PROTOCOL 3.6, 3.7, 3.15.
@@ -261,10 +261,10 @@ fn on_other(limit: usize, scan: Scan, byte: u8) -> Step
     ensures { λ r. ⌜ stepOf r ≡ onOtherOf limit (scanOf scan) byte ⌝ }
 {
     let phase = scan.phase;
-    let last = scan.consumed;
+    let at = scan.consumed;
     match phase {
-        Phase::Idle => outside(last, Event::Quiet),
-        Phase::Half => outside(last, Event::Quiet),
+        Phase::Idle => outside(at, Event::Quiet),
+        Phase::Half => outside(at, Event::Quiet),
         Phase::Header => body_byte(limit, scan, byte),
         Phase::Open => body_byte(limit, scan, byte),
         Phase::Escape => on_escaped(limit, scan, byte),

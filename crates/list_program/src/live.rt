@@ -1,5 +1,5 @@
 // The bytes as they come: the lines of each read are written before the next read. PROTOCOL 10.7.
-use super::failure::keep_going;
+use super::failure::may_repeat;
 use super::output::close;
 use super::output::write_first;
 use frame::Reader;
@@ -76,24 +76,24 @@ fn end(reader: Reader, out: &mut [u8]) -> Turn {
 }
 
 // A read that failed. A terminal that is hung up fails with EIO, and this counts as its end: PROTOCOL 10.7.
-fn broken(reader: Reader, is_line: bool, out: &mut [u8]) -> Turn {
-    if is_line {
+fn broken(reader: Reader, is_terminal: bool, out: &mut [u8]) -> Turn {
+    if is_terminal {
         if os::errno() == EIO {
             return end(reader, out);
         }
     }
     Turn {
         reader,
-        keep_going: keep_going(b"standard input"),
+        keep_going: may_repeat(b"standard input"),
         is_whole: false,
     }
 }
 
 // One read, and the lines of what it returns.
-fn one_read(reader: Reader, is_line: bool, input: &mut [u8], out: &mut [u8]) -> Turn {
+fn one_read(reader: Reader, is_terminal: bool, input: &mut [u8], out: &mut [u8]) -> Turn {
     let got = libc::read(STDIN_FILENO, input);
     if got < 0 {
-        return broken(reader, is_line, out);
+        return broken(reader, is_terminal, out);
     }
     let n = io::count(got, input);
     if n == 0 {
@@ -108,11 +108,11 @@ pub(crate) fn list(input: &mut [u8], out: &mut [u8]) -> bool {
     if !heading(out) {
         return false;
     }
-    let is_line = libc::isatty(STDIN_FILENO) == 1;
+    let is_terminal = libc::isatty(STDIN_FILENO) == 1;
     let mut reader = Reader::new();
     let mut turns = u64::MAX;
     while turns > 0 {
-        let t = one_read(reader, is_line, input, out);
+        let t = one_read(reader, is_terminal, input, out);
         if !t.keep_going {
             return t.is_whole;
         }

@@ -1,5 +1,5 @@
 // Standard output: all of some bytes, or one line on standard error that says why not.
-use super::failure::keep_going;
+use super::failure::may_repeat;
 use libc::STDERR_FILENO;
 use libc::STDOUT_FILENO;
 ghost use Prim.Native.Nat.{_≤_};
@@ -24,7 +24,7 @@ fn write_some(bytes: &[u8]) -> Step
     if got < 0 {
         return Step {
             count: 0,
-            keep_going: keep_going(b"standard output"),
+            keep_going: may_repeat(b"standard output"),
         };
     }
     if got == 0 {

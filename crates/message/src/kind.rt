@@ -48,7 +48,7 @@ pub struct Profile {
     pub owed: Owed,
 }
 
-// The number of the answer that is the cause. No answer refuses a command of the box: 0. PROTOCOL 8.13.
+// The number of the answer that caused the rejection; 0 for a command that only the box sends. PROTOCOL 8.13.
 pub fn cause_number(cause: Cause) -> u8
     ensures { λ r. ⌜ r ≡ causeNumber cause ⌝ }
 {

@@ -245,6 +245,7 @@ fn write_network(
         ≡ sendOf frameLimit (message.Network network) number flags (now (opaque .entry)) (now (out .entry)) ⌝ }
 {
     if 8 <= network.strength {
+        // Refused, so the payload does not matter.
         return write_bare(0x0D, opaque, false, opaque, number, flags, out);
     }
     let bytes = network_bytes(network);

@@ -7,11 +7,11 @@ use Rattle.list_program.proofs.live.list.Statement.{statement}
 use Rattle.list_program.proofs.live.list.Tie as tie
 
 abbrev Inv-loop : tie.InvT-loop
-Inv-loop input₀ out₀ is-line reader₀ turns₀ input out reader turns =
+Inv-loop input₀ out₀ is-terminal reader₀ turns₀ input out reader turns =
     (length input ≡ length input₀) × (length out ≡ length out₀)
 
 abbrev μ-loop : tie.MeasureT-loop
-μ-loop input₀ out₀ is-line reader₀ turns₀ input out reader turns = turns
+μ-loop input₀ out₀ is-terminal reader₀ turns₀ input out reader turns = turns
 
 pub list-spec : {M : Type 1} → statement M
 list-spec =
