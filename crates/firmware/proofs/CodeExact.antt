@@ -12,8 +12,8 @@ use Rattle.base.specs.Outcomes.{Output, output, onto}
 use Rattle.base.proofs.Tests.{by-test}
 use Rattle.frame.proofs.Stuffing.{stuffed-form}
 use Rattle.frame.proofs.RoundTrip.{made-good}
-use Rattle.firmware.specs.Code.{refused, countIn, codeOf, rowFrom, Returned, returned, returnedOf}
-use Rattle.firmware.specs.CodeExact.{Arguments, outputOf, codeFor, wireFor, CodeWhen, CodesWhen, CountsBelow}
+use Rattle.firmware.specs.Code.{refused, countIn, returnedNumber, rowFrom, Returned, returned, returnedOf}
+use Rattle.firmware.specs.CodeExact.{Arguments, outputOf, numberFor, wireFor, CodeWhen, CodesWhen, CountsBelow}
 use Rattle.firmware.specs.CodeExact.{RoomSuffices, CodesInjective, RefusalUnchanged, CGetsAlways}
 
 module _ (limit : ℕ) (g : Arguments) where
@@ -45,9 +45,9 @@ pub counts-below : CountsBelow
 counts-below = record { any = below; ours = below frameLimit }
 
 decoded : (limit : ℕ) → 2 + 2 * (limit + 2) < 65536 → (g : Arguments)
-    → rowFrom (codeFor limit g) ≡ outputOf limit g .row
+    → rowFrom (numberFor limit g) ≡ outputOf limit g .row
 decoded limit small g =
-    each limit g (λ (w : Output). rowFrom (codeOf (w .row)) ≡ w .row) refl refl
+    each limit g (λ (w : Output). rowFrom (returnedNumber (w .row)) ≡ w .row) refl refl
     (λ h. rw (lt-ltb (length (wireFor g)) refused (omega arith)))
 
 pub code-injective : CodesInjective
@@ -59,7 +59,7 @@ code-injective limit small =
 
 pub refusal-unchanged : RefusalUnchanged
 refusal-unchanged limit small g =
-    each limit g (λ (w : Output). refused ≤ codeOf (w .row) → w .out ≡ g .out) (λ _. refl) (λ _. refl)
+    each limit g (λ (w : Output). refused ≤ returnedNumber (w .row) → w .out ≡ g .out) (λ _. refl) (λ _. refl)
     (λ h r. absurd (omega arith))
 
 when : (limit : ℕ) (g : Arguments) → CodeWhen limit g
@@ -84,7 +84,7 @@ room-suffices g h r = code-when .written g h (omega (arith, longest frameLimit g
 
 -- the two sides of the contract's equation
 gets : (code : ℕ) (after : List ℕ) (w : Output) → returned code after ≡ returnedOf w
-    → (code ≡ codeOf (w .row)) × (after ≡ w .out)
+    → (code ≡ returnedNumber (w .row)) × (after ≡ w .out)
 gets code after w e = (ap (λ (r : Returned). r .code) e, ap (λ (r : Returned). r .out) e)
 
 pub c-gets : CGetsAlways

@@ -17,8 +17,8 @@ abbrev pub countIn : Row → ℕ
 countIn r = getD (r .values) 0 0
 
 -- the number that C gets for a row; the row of a count has number 0 (PROTOCOL 6.7)
-abbrev pub codeOf : Row → ℕ
-codeOf r = cond (eqb (r .number) 0) (countIn r) (refused + r .number)
+abbrev pub returnedNumber : Row → ℕ
+returnedNumber r = cond (eqb (r .number) 0) (countIn r) (refused + r .number)
 
 -- the row that a C caller reads out of the number
 abbrev pub rowFrom : ℕ → Row
@@ -35,4 +35,4 @@ returned c o = record { code = c; out = o }
 
 -- the result for what the writer answers and leaves
 abbrev pub returnedOf : Output → Returned
-returnedOf w = returned (codeOf (w .row)) (w .out)
+returnedOf w = returned (returnedNumber (w .row)) (w .out)

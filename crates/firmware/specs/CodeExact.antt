@@ -6,7 +6,7 @@ use lib.ListN.{length, drop}
 use Rattle.frame.specs.Wire.{wire, bodyOf, frameLimit}
 use Rattle.base.specs.Outcomes.{Output}
 use Rattle.frame.specs.Calls.{writeOf}
-use Rattle.firmware.specs.Code.{refused, countIn, codeOf, rowFrom, returned, returnedOf}
+use Rattle.firmware.specs.Code.{refused, countIn, returnedNumber, rowFrom, returned, returnedOf}
 
 -- the arguments of one call
 pub record Arguments : Type 0 where
@@ -21,8 +21,8 @@ abbrev pub outputOf : ℕ → Arguments → Output
 outputOf limit g = writeOf limit (g .command) (g .number) (g .flags) (g .payload) (g .out)
 
 -- the number that C gets
-abbrev pub codeFor : ℕ → Arguments → ℕ
-codeFor limit g = codeOf (outputOf limit g .row)
+abbrev pub numberFor : ℕ → Arguments → ℕ
+numberFor limit g = returnedNumber (outputOf limit g .row)
 
 -- the frame on the wire that the arguments make
 abbrev pub wireFor : Arguments → List ℕ
@@ -37,8 +37,9 @@ pub record CountsBelow : Type 0 where
 -- ---- code-injective: where no count reaches 65,536, a caller reads the answer back from the number, and two answers
 -- with the same number are equal
 pub record CodeInjective (limit : ℕ) : Type 0 where
-  pub decoded : (g : Arguments) → rowFrom (codeFor limit g) ≡ outputOf limit g .row
-  pub injective : (g h : Arguments) → codeFor limit g ≡ codeFor limit h → outputOf limit g .row ≡ outputOf limit h .row
+  pub decoded : (g : Arguments) → rowFrom (numberFor limit g) ≡ outputOf limit g .row
+  pub injective : (g h : Arguments)
+      → numberFor limit g ≡ numberFor limit h → outputOf limit g .row ≡ outputOf limit h .row
 
 -- of each limit whose counts stay below
 abbrev pub CodesInjective : Type 0
@@ -47,30 +48,30 @@ CodesInjective = (limit : ℕ) → 2 + 2 * (limit + 2) < 65536 → CodeInjective
 -- ---- refusal-unchanged: every number from 65,536 on leaves the caller's buffer unchanged
 abbrev pub RefusalUnchanged : Type 0
 RefusalUnchanged =
-    (limit : ℕ) → 2 + 2 * (limit + 2) < 65536 → (g : Arguments) → refused ≤ codeFor limit g
+    (limit : ℕ) → 2 + 2 * (limit + 2) < 65536 → (g : Arguments) → refused ≤ numberFor limit g
     → outputOf limit g .out ≡ g .out
 
 -- ---- code-when: when PAYLOAD, ROOM and a count come, in the numbers that C gets: PROTOCOL 6.3, 6.4. There is no other
 -- case. Where no count reaches 65,536, as under C's limit, the three numbers differ, so each comes only then
 pub record CodeWhen (limit : ℕ) (g : Arguments) : Type 0 where
-  pub payload : limit < length (g .payload) + 5 → codeFor limit g ≡ 65557
-  pub room : length (g .payload) + 5 ≤ limit → length (g .out) < length (wireFor g) → codeFor limit g ≡ 65558
+  pub payload : limit < length (g .payload) + 5 → numberFor limit g ≡ 65557
+  pub room : length (g .payload) + 5 ≤ limit → length (g .out) < length (wireFor g) → numberFor limit g ≡ 65558
   pub written : length (g .payload) + 5 ≤ limit → length (wireFor g) ≤ length (g .out)
-      → codeFor limit g ≡ length (wireFor g)
+      → numberFor limit g ≡ length (wireFor g)
 
 -- of every call; for C's limit in literal numbers
 pub record CodesWhen : Type 0 where
   pub any : (limit : ℕ) (g : Arguments) → CodeWhen limit g
-  pub payload : (g : Arguments) → 1019 < length (g .payload) → codeFor frameLimit g ≡ 65557
+  pub payload : (g : Arguments) → 1019 < length (g .payload) → numberFor frameLimit g ≡ 65557
   pub room : (g : Arguments) → length (g .payload) ≤ 1019 → length (g .out) < length (wireFor g)
-      → codeFor frameLimit g ≡ 65558
+      → numberFor frameLimit g ≡ 65558
   pub written : (g : Arguments)
-      → length (g .payload) ≤ 1019 → length (wireFor g) ≤ length (g .out) → codeFor frameLimit g ≡ length (wireFor g)
+      → length (g .payload) ≤ 1019 → length (wireFor g) ≤ length (g .out) → numberFor frameLimit g ≡ length (wireFor g)
 
 -- ---- room-suffices: a buffer of 2,054 bytes holds the frame of every payload that is not too long: PROTOCOL 6.5
 abbrev pub RoomSuffices : Type 0
 RoomSuffices =
-    (g : Arguments) → length (g .payload) ≤ 1019 → 2054 ≤ length (g .out) → codeFor frameLimit g ≡ length (wireFor g)
+    (g : Arguments) → length (g .payload) ≤ 1019 → 2054 ≤ length (g .out) → numberFor frameLimit g ≡ length (wireFor g)
 
 -- ---- c-gets: the number and the buffer that a call leaves, by its contract's equation, in literal numbers
 pub record CGets (g : Arguments) (code : ℕ) (after : List ℕ) : Type 0 where

@@ -16,7 +16,7 @@ use Rattle.frame.specs.Frames.{frontBody}
 use Rattle.frame.specs.Decisions.{Decides, is-frame, is-short, is-long, is-stuff, is-cut, is-sum, Decision}
 use Rattle.frame.specs.Decisions.{IsDecision, DecisionsFrom}
 use Rattle.frame.specs.Logs.{bodyHeld}
-use Rattle.frame.specs.Table.{codeOf}
+use Rattle.frame.specs.Table.{verdictNumber}
 use Rattle.frame.specs.Rules.{bodyByteOf, onFFIn, onOtherIn, advanceOf, decidesOf, putOf}
 use Rattle.frame.specs.Calls.{nextOf}
 use Rattle.frame.specs.State.{Phase, Idle, Half, Header, Open, Escape, Scan, Step, State}
@@ -51,7 +51,7 @@ quiet q gone e = record { gone = gone; bytes = e; decision = λ d. absurd (true�
 
 body-decides : (limit : ℕ) (b held : List ℕ) {raw : List ℕ} (e : Verdict)
     → Ends limit b e → raw ≡ wire b → (length b ≡ lengthOf b + 2 → frontBody held ≡ b)
-    → Decides limit raw (codeOf e) (bodyHeld (codeOf e) held)
+    → Decides limit raw (verdictNumber e) (bodyHeld (verdictNumber e) held)
 body-decides limit b held Frame p q w = is-frame b refl (w (p .true-length)) q p
 body-decides limit b held Short p q w = is-short b refl refl q (p .0) (p .1)
 body-decides limit b held Long p q w = is-long b refl refl q (p .0) (p .1) (p .2) (p .3)

@@ -9,7 +9,7 @@ use lib.ListN.{length}
 use lib.Dec.{leb}
 use borrow.Author.Tests.{le-leb, leb-true}
 use Rattle.base.specs.Keys.{among}
-use Rattle.frame.specs.Table.{codeOf, countOf, eventRow}
+use Rattle.frame.specs.Table.{verdictNumber, countOf, eventRow}
 use Rattle.frame.specs.Accounts.{feedNumbers}
 use Rattle.frame.specs.Rules.{advanceOf, decidesOf, inRangeOf, maxConsumed}
 use Rattle.base.specs.Outcomes.{Outcome}
@@ -32,7 +32,7 @@ pub record Numbered (d : ℕ) : Type 0 where
   pub low : 1 ≤ d
   pub high : d < 17
 
-pub numbered : (v : Verdict) → Numbered (codeOf v)
+pub numbered : (v : Verdict) → Numbered (verdictNumber v)
 unfolding among
 numbered Frame = record { is-feed = refl; low = omega arith; high = omega arith }
 numbered Short = record { is-feed = refl; low = omega arith; high = omega arith }

@@ -8,7 +8,7 @@ use native.Mathlib.Omega.{arith}
 use lib.ListN.{length, take}
 use lib.Dec.{leb}
 use Rattle.base.specs.Rows.{Row}
-use Rattle.frame.specs.Table.{codeOf, eventRow}
+use Rattle.frame.specs.Table.{verdictNumber, eventRow}
 use Rattle.frame.specs.Rules.{advanceOf, decidesOf, inRangeOf}
 use Rattle.base.specs.Outcomes.{Outcome, outcome}
 use Rattle.frame.specs.Calls.{nextOf, finishRowIn, runOf}
@@ -79,7 +79,7 @@ module _ (limit : ℕ) where
     decisions : (ls : List Decision) → addDecision (entryOf r c y) ls ≡ decidedAll limit r (take k bs) ++ ls
 
   -- a verdict is a decision
-  decided-decision : (v : Verdict) → decided (codeOf v) ≡ true
+  decided-decision : (v : Verdict) → decided (verdictNumber v) ≡ true
   decided-decision Frame = refl
   decided-decision Short = refl
   decided-decision Long = refl

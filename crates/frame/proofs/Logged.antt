@@ -15,7 +15,7 @@ use Rattle.frame.specs.Frames.{Found, frontBody}
 use Rattle.frame.specs.FramesComputed.{framesFrom}
 use Rattle.base.specs.Rows.{Row, row}
 use Rattle.base.specs.Keys.{among}
-use Rattle.frame.specs.Table.{codeOf, eventRow}
+use Rattle.frame.specs.Table.{verdictNumber, eventRow}
 use Rattle.frame.specs.Rules.{advanceOf, decidesOf, inRangeOf, maxConsumed, maxFilled}
 use Rattle.base.specs.Outcomes.{Outcome, outcome}
 use Rattle.frame.specs.Calls.{nextOf, finishRowIn, runOf, feedOf, finishOf}
@@ -179,7 +179,7 @@ module _ (limit : ℕ) (r q : State) (bs : List ℕ) (k s : ℕ)
       → Called limit r (feed bs) (outcome (eventRow e k s (consumed r + k)) q)
   event-called Quiet all some f = more-called (all refl) f
   event-called (Decided v) all some f =
-      let n : Numbered (codeOf v) = numbered v in
+      let n : Numbered (verdictNumber v) = numbered v in
       record {
         holds = holds;
         longest = omega arith;

@@ -16,7 +16,7 @@ use borrow.Author.Tests.{eqb-true, eqb-false, eq-eqb, ne-eqb, le-leb}
 use Rattle.frame.specs.Wire.{stuff, wire, lengthOf, Good}
 use Rattle.frame.specs.Frames.{Found, frontBody}
 use Rattle.frame.specs.FramesComputed.{isGood, sumHolds, framesFrom, here}
-use Rattle.frame.specs.Table.{codeOf}
+use Rattle.frame.specs.Table.{verdictNumber}
 use Rattle.frame.specs.Rules.{putOf, grownOf, endedOf, bodyByteOf, onFFIn, onOtherIn, advanceOf}
 use Rattle.frame.specs.State.{Phase, Idle, Half, Header, Open, Escape, Scan, Step, State}
 use Rattle.frame.specs.declared.scan.Event.{Event}
@@ -80,7 +80,7 @@ pub record Inv (limit : ℕ) (r : State) : Type 0 where
 -- the frame that an event delivers, followed by others
 abbrev pub deliveredBy : Event → Found → List Found → List Found
 deliveredBy Quiet f l = l
-deliveredBy (Decided v) f l = cond (eqb (codeOf v) 1) (f ∷ l) l
+deliveredBy (Decided v) f l = cond (eqb (verdictNumber v) 1) (f ∷ l) l
 
 -- the reader after a step, and the frame that the step completes
 abbrev pub after : State → Step → State
@@ -178,7 +178,8 @@ module _ (limit : ℕ) (r : State) (room : length (r .body) ≡ limit + 2) (insi
 
   -- a refused frame is not a frame of the stream
   refused : (e : Verdict)
-      → eqb (codeOf e) 1 ≡ false → ((t : List ℕ) → here limit (wire grown ++ t) ≡ none) → Moves (endedOf (r .scan) v e)
+      → eqb (verdictNumber e) 1 ≡ false → ((t : List ℕ) → here limit (wire grown ++ t) ≡ none)
+      → Moves (endedOf (r .scan) v e)
   refused e other none-here =
       ended e (λ t. pass-wire limit grown t st some first (none-here t)
       ∙ at-place limit t {n = r .scan .consumed + 1} (omega arith) ∙ rw other)

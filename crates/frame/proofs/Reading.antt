@@ -26,7 +26,7 @@ use Rattle.frame.proofs.Moves.{held, Inv, InvIn, after}
 use Rattle.frame.proofs.Bodies.{Partial, partial-none, Ends, never-both, same-end, unfinished-of}
 use Rattle.frame.proofs.Puts.{stored}
 use Rattle.frame.proofs.Bodies.{body-cases}
-use Rattle.frame.specs.Table.{codeOf}
+use Rattle.frame.specs.Table.{verdictNumber}
 use Rattle.frame.proofs.Fold.{eventCode, decisionAt, afterAll, decidedAll, after-append, decided-append, kept}
 
 -- ---- fronts of bodies
@@ -354,7 +354,7 @@ module _ (limit : ℕ) (small : limit ≤ 65279) where
     Shown raw n = (b : List ℕ)
         × List·Memᴰ (record { number = n; start = st; end = st + length raw; body = b }) (decidedAll limit r raw)
 
-    shows : {raw : List ℕ} {n : ℕ} (e : Verdict) → n ≡ codeOf e → Ready limit r raw st e → Shown raw n
+    shows : {raw : List ℕ} {n : ℕ} (e : Verdict) → n ≡ verdictNumber e → Ready limit r raw st e → Shown raw n
     unfolding decidedAll afterAll
     shows {raw} {n} e code w =
         let q : State = afterAll limit r (w .pre) in

@@ -15,17 +15,17 @@ use Rattle.frame.specs.declared.scan.Verdict.the-variants as verdict
 use Rattle.frame.specs.declared.writer.WriteResult.the-variants as written
 
 -- the numbers of the verdicts: PROTOCOL 4.2, 4.4 to 4.8
-abbrev pub codeOf : Verdict → ℕ
-codeOf verdict.Frame = 1
-codeOf verdict.Short = 11
-codeOf verdict.Long = 12
-codeOf verdict.Stuff = 13
-codeOf verdict.Cut = 14
-codeOf verdict.Sum = 15
+abbrev pub verdictNumber : Verdict → ℕ
+verdictNumber verdict.Frame = 1
+verdictNumber verdict.Short = 11
+verdictNumber verdict.Long = 12
+verdictNumber verdict.Stuff = 13
+verdictNumber verdict.Cut = 14
+verdictNumber verdict.Sum = 15
 
 -- the answer to a feed that decides a frame: count, start and end
 abbrev pub decidedRow : Verdict → ℕ → ℕ → ℕ → Row
-decidedRow v count start end = row (codeOf v) (count ∷ start ∷ end ∷ [])
+decidedRow v count start end = row (verdictNumber v) (count ∷ start ∷ end ∷ [])
 
 -- the same for what one byte decides; a byte that decides nothing is MORE
 abbrev pub eventRow : Event → ℕ → ℕ → ℕ → Row

@@ -14,7 +14,7 @@ use Rattle.base.specs.Outcomes.{Outcome}
 use Rattle.base.specs.Stores.{PutAt}
 use Rattle.frame.specs.Rules.{inRangeOf}
 use Rattle.frame.specs.State.{State}
-use Rattle.frame.specs.Table.{codeOf, countOf}
+use Rattle.frame.specs.Table.{verdictNumber, countOf}
 use Rattle.frame.specs.Calls.{feedOf}
 use Rattle.frame.specs.declared.scan.Verdict.{Verdict}
 use Rattle.frame.specs.declared.scan.Verdict.the-variants.{Frame, Short, Long, Stuff, Cut, Sum}
@@ -26,7 +26,7 @@ use Rattle.listing.specs.Lines.{lineRoom}
 use Rattle.listing.specs.Feeding.{Run, stopped, full, onward, refuses, lineAfter, listIn, loopOf, listOf, leftBy}
 
 -- no verdict on a frame refuses the call
-pub verdict-continues : (v : Verdict) → refuses (codeOf v) ≡ false
+pub verdict-continues : (v : Verdict) → refuses (verdictNumber v) ≡ false
 verdict-continues Frame = refl
 verdict-continues Short = refl
 verdict-continues Long = refl
