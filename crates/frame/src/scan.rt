@@ -100,7 +100,7 @@ fn header(at: WirePlace, consumed: WirePlace) -> Scan
     }
 }
 
-// An FF of the body waits for the next byte: PROTOCOL 3.8.
+// In an open frame an FF waits for the next byte: PROTOCOL 3.8.
 fn escape(scan: Scan, consumed: WirePlace) -> Scan
     ensures { λ r. ⌜ scanOf r ≡ escapeOf (scanOf scan) (consumed .0) ⌝ }
 {
@@ -242,7 +242,7 @@ fn outside(at: WirePlace, event: Event) -> Step
     silent(closed(next_place(at)), event)
 }
 
-// A byte other than FF that follows an FF of the body: PROTOCOL 3.9, 3.11.
+// A byte other than FF that follows a waiting FF: PROTOCOL 3.9, 3.11.
 fn on_escaped(limit: usize, scan: Scan, byte: u8) -> Step
     requires { ⌜ Ready limit (scanOf scan) 1 ⌝ }
     ensures { λ r. ⌜ stepOf r ≡ onEscapedOf limit (scanOf scan) byte ⌝ }

@@ -50,8 +50,8 @@ sendRowOf sent.Field = row 33 []
 
 -- ---- a reply of the box
 
--- the cause of a rejection: the number of the answer. A command of the box is listed and can be read, so no answer
--- refuses it: its number is 0
+-- the cause of a rejection: the number of the answer. A command of the box is rejected whatever its reading answers, so
+-- its number is 0: PROTOCOL 8.7, 8.13
 abbrev pub causeNumber : Cause → ℕ
 causeNumber cause.Sum = 15
 causeNumber cause.Command = 31
