@@ -120,7 +120,7 @@ def is_misfit(edit, output, error):
     return any(misfit in message for misfit in (*MISFITS, "has no field"))
 
 
-def judged(crate, edit, output, verdict):
+def fault_of(crate, edit, output, verdict):
     """Why a check does not show what its edit has to show, or '', and the place of the first error."""
     if verdict != "refused":
         return f"it is {verdict}, and must be refused: {output[-300:]}", ""
@@ -205,7 +205,7 @@ class Rooms:
         output, verdict = prove(room, name, self.scratch)
         write(crate, kept)
         shutil.rmtree(room / "target" / "inc" / name)
-        wrong, place = judged(crate, edit, output, verdict)
+        wrong, place = fault_of(crate, edit, output, verdict)
         return wrong, f"refused, first at {place} ({time.monotonic() - began:.0f} s)"
 
 
