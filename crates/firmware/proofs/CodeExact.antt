@@ -8,11 +8,11 @@ use lib.Dec.{ltb}
 use lib.ListN.{length}
 use Rattle.frame.specs.Wire.{bodyOf, frameLimit}
 use Rattle.base.specs.Rows.{row}
-use Rattle.base.specs.Outcomes.{Output, output, onto}
+use Rattle.base.specs.Outcomes.{Output, output, onto, writtenIn}
 use Rattle.base.proofs.Tests.{by-test}
 use Rattle.frame.proofs.Stuffing.{stuffed-form}
 use Rattle.frame.proofs.RoundTrip.{made-good}
-use Rattle.firmware.specs.Code.{refused, countIn, returnedNumber, rowFrom, Returned, returned, returnedOf}
+use Rattle.firmware.specs.Code.{refused, returnedNumber, rowFrom, Returned, returned, returnedOf}
 use Rattle.firmware.specs.CodeExact.{Arguments, outputOf, numberFor, wireFor, CodeWhen, CodesWhen, CountsBelow}
 use Rattle.firmware.specs.CodeExact.{RoomSuffices, CodesInjective, RefusalUnchanged, CGetsAlways}
 
@@ -37,9 +37,9 @@ module _ (limit : ℕ) (g : Arguments) where
       by-test P (ltb (length (g .out)) (length (wireFor g))) (λ _. no-room)
       λ _. written (longest (ltb-false limit (length (g .payload) + 5) t))
 
-below : (limit : ℕ) (g : Arguments) → countIn (outputOf limit g .row) ≤ 2 + 2 * (limit + 2)
+below : (limit : ℕ) (g : Arguments) → writtenIn (outputOf limit g .row) ≤ 2 + 2 * (limit + 2)
 below limit g =
-    each limit g (λ (w : Output). countIn (w .row) ≤ 2 + 2 * (limit + 2)) (omega arith) (omega arith) (λ h. h)
+    each limit g (λ (w : Output). writtenIn (w .row) ≤ 2 + 2 * (limit + 2)) (omega arith) (omega arith) (λ h. h)
 
 pub counts-below : CountsBelow
 counts-below = record { any = below; ours = below frameLimit }

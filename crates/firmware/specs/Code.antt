@@ -3,22 +3,17 @@
 use Prim.Native.Nat.{ℕ, _+_, _-_}
 use mathlib.Core.Bool.{cond}
 use mathlib.Core.List.{List, [], _∷_}
-use lib.ListN.{getD}
 use lib.Dec.{eqb, ltb}
 use Rattle.base.specs.Rows.{Row, row}
-use Rattle.base.specs.Outcomes.{Output}
+use Rattle.base.specs.Outcomes.{Output, writtenIn}
 
 -- what a refusal's number is added to
 abbrev pub refused : ℕ
 refused = 65536
 
--- the count written; a refusal has 0 there
-abbrev pub countIn : Row → ℕ
-countIn r = getD (r .values) 0 0
-
 -- the number that C gets for a row; the row of a count has number 0 (PROTOCOL 6.7)
 abbrev pub returnedNumber : Row → ℕ
-returnedNumber r = cond (eqb (r .number) 0) (countIn r) (refused + r .number)
+returnedNumber r = cond (eqb (r .number) 0) (writtenIn r) (refused + r .number)
 
 -- the row that a C caller reads out of the number
 abbrev pub rowFrom : ℕ → Row

@@ -4,9 +4,9 @@ use mathlib.Core.Path.{_≡_}
 use mathlib.Core.List.{List, _++_}
 use lib.ListN.{length, drop}
 use Rattle.frame.specs.Wire.{wire, bodyOf, frameLimit}
-use Rattle.base.specs.Outcomes.{Output}
+use Rattle.base.specs.Outcomes.{Output, writtenIn}
 use Rattle.frame.specs.Calls.{writeOf}
-use Rattle.firmware.specs.Code.{refused, countIn, returnedNumber, rowFrom, returned, returnedOf}
+use Rattle.firmware.specs.Code.{refused, returnedNumber, rowFrom, returned, returnedOf}
 
 -- the arguments of one call
 pub record Arguments : Type 0 where
@@ -31,8 +31,8 @@ wireFor g = wire (bodyOf (g .command) (g .number) (g .flags) (g .payload))
 -- ---- counts-below: no count is above 2 plus twice the size of the greatest body; for C's limit that is 2,054, so none
 -- reaches 65,536. PROTOCOL 2.8
 pub record CountsBelow : Type 0 where
-  pub any : (limit : ℕ) (g : Arguments) → countIn (outputOf limit g .row) ≤ 2 + 2 * (limit + 2)
-  pub ours : (g : Arguments) → countIn (outputOf frameLimit g .row) ≤ 2054
+  pub any : (limit : ℕ) (g : Arguments) → writtenIn (outputOf limit g .row) ≤ 2 + 2 * (limit + 2)
+  pub ours : (g : Arguments) → writtenIn (outputOf frameLimit g .row) ≤ 2054
 
 -- ---- code-injective: where no count reaches 65,536, a caller reads the answer back from the number, and two answers
 -- with the same number are equal

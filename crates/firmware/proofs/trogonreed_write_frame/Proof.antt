@@ -2,9 +2,9 @@
 use mathlib.Core.Path.{ap}
 use native.Mathlib.Omega.{arith}
 use borrow.Author.Needs.{needs}
-use Rattle.base.specs.Outcomes.{Output}
+use Rattle.base.specs.Outcomes.{Output, writtenIn}
 use Rattle.frame.specs.Wire.{frameLimit}
-use Rattle.firmware.specs.Code.{countIn, returnedOf}
+use Rattle.firmware.specs.Code.{returnedOf}
 use Rattle.firmware.specs.CodeExact.{Arguments, outputOf}
 use Rattle.firmware.proofs.CodeExact.{counts-below}
 use Rattle.firmware.proofs.trogonreed_write_frame.Statement.{statement}
@@ -32,7 +32,7 @@ cast-result c =
       payload = args .payload .now;
       out = args .out .now;
     } in
-    let count = ap (λ (a : Output). countIn (a .row)) {y =
+    let count = ap (λ (a : Output). writtenIn (a .row)) {y =
     outputOf frameLimit arguments} (rw (c .before .written .given .1) at (w .write .ensures)) in
     record { fits = omega (arith, counts-below .ours arguments, count) }
 
