@@ -5,8 +5,8 @@ cite only theorems that are claims there. base has laws for all crates and is no
 """
 import re
 
-from specs import claims_in
-from tree import files, name_of, spec_files, text_of
+from specs import claims_of
+from tree import files, name_of, text_of
 
 CALL = re.compile(r"^ *pub (?:extern \"C\" )?fn (\w+)(.*?)\{$", re.M | re.S)  # up to the brace that opens its body
 LAYERS = ("message", "link", "firmware", "listing")
@@ -33,10 +33,6 @@ def cited_inside(text, claims):
 
 def cited_crates(texts):
     return {crate for text in texts for crate, _, _ in CITED.findall(text)}
-
-
-def claims_of(crate):
-    return {name for path in spec_files(crate) for name in claims_in(text_of(path))}
 
 
 def check_calls(checks):

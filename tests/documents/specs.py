@@ -46,6 +46,11 @@ def claims_in(text):
     return [name for name, mark in HEADING.findall(text) if mark == ":" or is_claims]
 
 
+def claims_of(crate):
+    """The claims of a crate."""
+    return {name for path in spec_files(crate) for name in claims_in(text_of(path))}
+
+
 def unproved(text, proved):
     """Headings without their theorem, and a file of claims that has none."""
     claims = claims_in(text)

@@ -7,7 +7,7 @@ for a test.
 import re
 
 from rules import protocol, rules_of
-from specs import claims_in
+from specs import claims_of
 from tree import ROOT, SPAN, crates, edit_names, files, spec_files, tables, text_of
 
 # A definition of a specification, and a field of its record or a case of its datatype; what code declares.
@@ -32,11 +32,6 @@ def definitions_of(crate):
     for path in files(f"crates/{crate}/src/**/*.rt"):
         found.update((name, set()) for name in CODE.findall(text_of(path)) if name not in found)
     return found
-
-
-def claims_of(crate):
-    """The claims of a crate; specs.py holds each to a theorem."""
-    return {name for path in spec_files(crate) for name in claims_in(text_of(path))}
 
 
 class Tree:
