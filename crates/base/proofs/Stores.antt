@@ -1,12 +1,14 @@
 -- Stores, one after another. Assumes nothing.
-use Prim.Native.Nat.{ℕ, suc, _+_, _≤_}
-use mathlib.Core.Path.{_≡_}
+use Prim.Native.Nat.{ℕ, suc, _+_, _≤_, _<_}
+use mathlib.Core.Path.{_≡_, refl}
 use mathlib.Core.List.{List, [], _∷_, _++_}
 use native.Mathlib.Nat.{zero-add, add-zero}
+use native.Mathlib.Numerals.{add-one}
 use native.Mathlib.Omega.{arith}
-use lib.ListN.{length, drop, set, length-append}
-use lib.Seq.{sets, sets-eq}
-use Rattle.base.specs.Stores.{PutAt}
+use lib.ListN.{length, getD, drop, set, length-append, drop-of-length-le}
+use lib.Seq.{sets, sets-eq, drop-cons}
+use borrow.Author.Tests.{lt-ltb, le-ltb}
+use Rattle.base.specs.Stores.{PutAt, fitting}
 
 pub sets-append : (vs ws l : List ℕ) (i : ℕ) → sets l i (vs ++ ws) ≡ sets (sets l i vs) (i + length vs) ws
 sets-append [] ws l i = rw add-zero
@@ -21,3 +23,31 @@ sets-front vs l h = rw zero-add at (sets-eq vs l 0 (rw zero-add h))
 pub put-join : (out xs ys : List ℕ) (at : ℕ) {a b : List ℕ} {p q : ℕ}
     → PutAt out at xs p a → PutAt a p ys q b → PutAt out at (xs ++ ys) q b
 put-join out xs ys at e f = (rw length-append (omega arith), rw sets-append (cc))
+
+-- ---- from the front: bytes from the i-th on, put at their places from `at` on
+
+module _ (bytes out : List ℕ) (at : ℕ) where
+  pub put-first : sets out (at + 0) (drop 0 bytes) ≡ sets out at bytes
+  put-first = rw add-zero
+
+  pub put-next : (i : ℕ) → i < length bytes
+      → sets (set out (at + i) (getD bytes i 0)) (at + (i + 1)) (drop (i + 1) bytes) ≡ sets out (at + i) (drop i bytes)
+  put-next i h =
+      let e : at + suc i ≡ suc (at + i) = omega arith in
+      rw (add-one, e, drop-cons bytes i 0)
+
+  pub put-none : (i : ℕ) → length bytes ≤ i → sets out (at + i) (drop i bytes) ≡ out
+  put-none i h = rw (drop-of-length-le bytes h)
+
+-- ---- all of the bytes, or none
+
+module _ (out : List ℕ) (at : ℕ) (bytes : List ℕ) where
+  pub put-nothing : length out < at + length bytes → PutAt out at (fitting out at bytes) at out
+  put-nothing h = rw (lt-ltb (length out) (at + length bytes) h) (omega arith, refl)
+
+  module _ (h : at + length bytes ≤ length out) {next : ℕ} {after : List ℕ} where
+    pub put-whole : PutAt out at bytes next after → PutAt out at (fitting out at bytes) next after
+    put-whole put = rw (le-ltb (length out) (at + length bytes) h) put
+
+    pub put-fitting : PutAt out at (fitting out at bytes) next after → PutAt out at bytes next after
+    put-fitting put = rw (le-ltb (length out) (at + length bytes) h) at put

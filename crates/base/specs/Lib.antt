@@ -9,8 +9,10 @@ pub mod Parts
 -- Model: what is computed
 pub mod Keys
 pub mod Stores
+pub mod Runs
 -- Claims: what is proved
 pub mod NumbersExact
 pub mod OutcomesExact
+pub mod RunsExact
 pub mod PartsExact
 pub mod KeysExact

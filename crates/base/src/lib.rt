@@ -1,5 +1,6 @@
 // What the layers share: bytes at a place, big-endian numbers, and slices of the caller's data.
 mod bytes;
+mod puts;
 mod slices;
 
 pub use bytes::byte_at;
@@ -7,5 +8,6 @@ pub use bytes::four_at;
 pub use bytes::four_bytes;
 pub use bytes::two_at;
 pub use bytes::two_bytes;
+pub use puts::put_bytes;
 pub use slices::min;
 pub use slices::part;

@@ -10,6 +10,7 @@ use borrow.Author.Tests.{eq-eqb, ne-eqb, lt-ltb, le-ltb, leb-true, eqb-false}
 use lib.ListN.{length, take, drop, length-append, length-drop}
 use lib.Seq.{sets, length-sets, drop-drop, take-all}
 use lib.Dec.{eqb, ltb, leb}
+use Rattle.base.specs.Runs.{Run, stopped, onward, leftBy}
 use Rattle.base.specs.Outcomes.{Outcome}
 use Rattle.base.specs.Stores.{PutAt}
 use Rattle.frame.specs.Rules.{inRangeOf}
@@ -21,9 +22,9 @@ use Rattle.frame.specs.declared.scan.Verdict.the-variants.{Frame, Short, Long, 
 use Rattle.frame.proofs.EachCall.{within as count-most}
 use Rattle.frame.proofs.EachCall.{progress}
 use Rattle.base.proofs.Tests.{either-way}
-use Rattle.base.proofs.Stores.{sets-append, sets-front}
+use Rattle.base.proofs.Runs.{Rest, rest-onward, rest-stopped}
 use Rattle.listing.specs.Lines.{lineRoom}
-use Rattle.listing.specs.Feeding.{Run, stopped, full, onward, refuses, lineAfter, listIn, loopOf, listOf, leftBy}
+use Rattle.listing.specs.Feeding.{full, refuses, lineAfter, listIn, loopOf, listOf}
 
 -- no verdict on a frame refuses the call
 pub verdict-continues : (v : Verdict) → refuses (verdictNumber v) ≡ false
@@ -53,7 +54,7 @@ module _ (limit : ℕ) (prefix : List ℕ) where
   -- ---- the steps of a loop, by what it meets
 
   -- the run of the next step, in at most n feeds
-  abbrev Next : ℕ → State → List ℕ → ℕ → Run
+  abbrev Next : ℕ → State → List ℕ → ℕ → Run State
   Next n r bs room =
       listIn limit prefix n (feedOf limit r bs .state) (drop (countOf (feedOf limit r bs .row)) bs)
       (room - length (lineAfter prefix (feedOf limit r bs)))
@@ -72,11 +73,11 @@ module _ (limit : ℕ) (prefix : List ℕ) where
       let some : 1 ≤ countOf (feedOf limit r bs .row) =
       consumes-one limit r bs f (nonzero (length bs) (eqb-false (length bs) 0 e)) in
       let fewer = length-drop (countOf (feedOf limit r bs .row)) bs in
-      ap (λ (w : Run). onward (countOf (feedOf limit r bs .row)) (lineAfter prefix (feedOf limit r bs)) w)
+      ap (λ (w : Run State). onward (countOf (feedOf limit r bs .row)) (lineAfter prefix (feedOf limit r bs)) w)
       (enough j k (feedOf limit r bs .state) (drop (countOf (feedOf limit r bs .row)) bs)
       (room - length (lineAfter prefix (feedOf limit r bs))) (omega arith) (omega arith)))))
     where
-      same : (t : Bool) {x y z w : Run} → (t ≡ true → x ≡ y) → (t ≡ false → z ≡ w) → cond t x z ≡ cond t y w
+      same : (t : Bool) {x y z w : Run State} → (t ≡ true → x ≡ y) → (t ≡ false → z ≡ w) → cond t x z ≡ cond t y w
       same true f g = f refl
       same false f g = g refl
 
@@ -114,45 +115,11 @@ module _ (limit : ℕ) (prefix : List ℕ) where
             omega (arith, length-drop (countOf (y .row)) bs) in
             one-more
             ∙ rw (ne-eqb (length bs) 0 (λ z. omega arith), le-ltb room (length prefix + lineRoom) h, ← e, f)
-            (ap (λ (w : Run). onward (countOf (y .row)) (lineAfter prefix y) w)
+            (ap (λ (w : Run State). onward (countOf (y .row)) (lineAfter prefix y) w)
             (enough (length bs) (length (drop (countOf (y .row)) bs)) (y .state) (drop (countOf (y .row)) bs)
             (room - length (lineAfter prefix y)) fewer (omega arith)))
 
 -- ---- how far a loop has come
-
--- a run's rest, after the bytes used and the text written so far, completes the whole
-pub record Rest (whole rest : Run) (used written : ℕ) (out₀ out : List ℕ) : Type 0 where
-  pub state-is : whole .state ≡ rest .state
-  pub used-is : whole .used ≡ used + rest .used
-  pub stop-is : whole .stop ≡ rest .stop
-  pub written-is : length (whole .text) ≡ written + length (rest .text)
-  pub out-is : sets out₀ 0 (whole .text) ≡ sets out written (rest .text)
-
--- a step more
-rest-onward : {whole rest : Run} {used written : ℕ} {out₀ out : List ℕ} (count : ℕ) (line : List ℕ)
-    → Rest whole (onward count line rest) used written out₀ out
-    → Rest whole rest (used + count) (written + length line) out₀ (sets out written line)
-rest-onward {whole} {rest} {used} {written} {out₀} {out} count line w =
-    record {
-      state-is = w .state-is;
-      used-is = omega (arith, w .used-is);
-      stop-is = w .stop-is;
-      written-is = omega (arith, w .written-is, length-append line (rest .text));
-      out-is = w .out-is ∙ sets-append line (rest .text) out written;
-    }
-
--- no step more: what the loop leaves is what the whole run leaves
-rest-stopped : {whole : Run} {used written : ℕ} {out₀ out : List ℕ} (r : State) (number : ℕ)
-    → Rest whole (stopped r number) used written out₀ out → written ≤ length out₀
-    → record { state = r; used = used; written = written; stop = number; out = out } ≡ leftBy whole out₀
-rest-stopped {whole} {used} {written} {out₀} {out} r number w h =
-    let count : written ≡ length (whole .text) = omega (arith, w .written-is) in
-    let front : out ≡ whole .text ++ drop (length (whole .text)) out₀ =
-    sym (w .out-is) ∙ sets-front (whole .text) out₀ (omega (arith, count)) in
-    let all : used ≡ whole .used = omega (arith, w .used-is) in
-    let state : r ≡ whole .state = sym (w .state-is) in
-    let stop : number ≡ whole .stop = sym (w .stop-is) in
-    cc
 
 module _ (limit : ℕ) (prefix bytes out₀ : List ℕ) (r₀ : State) where
   -- the loop's invariant
@@ -160,7 +127,7 @@ module _ (limit : ℕ) (prefix bytes out₀ : List ℕ) (r₀ : State) where
     pub within : used ≤ length bytes
     pub room : written ≤ length out
     pub same-length : length out ≡ length out₀
-    pub rest : Rest (loopOf limit prefix r₀ bytes (length out₀))
+    pub rest : Rest State (loopOf limit prefix r₀ bytes (length out₀))
         (loopOf limit prefix r (drop used bytes) (length out - written)) used written out₀ out
 
   pub at-start : At out₀ r₀ 0 0
@@ -235,7 +202,7 @@ module _ {limit : ℕ} {prefix bytes out₀ out : List ℕ} {r₀ r : State} {us
               let step = step-onward limit prefix r (drop used bytes) (length out - written) some-left h y e f in
               let left : length out - written - length (lineAfter prefix y) ≡ length after - next =
               omega (arith, long, put .0) in
-              let rest : Rest (loopOf limit prefix r₀ bytes (length out₀)) (loopOf limit prefix (y .state)
+              let rest : Rest State (loopOf limit prefix r₀ bytes (length out₀)) (loopOf limit prefix (y .state)
               (drop (countOf (y .row)) (drop used bytes)) (length out - written - length (lineAfter prefix y)))
               (used + countOf (y .row)) (written + length (lineAfter prefix y)) out₀
               (sets out written (lineAfter prefix y)) =

@@ -9,6 +9,7 @@ use borrow.Author.Tests.{eqb-true, eqb-false, ltb-true, leb-true, leb-false, le-
 use lib.ListN.{length, take, drop, length-append, length-drop}
 use lib.Seq.{take-add, drop-drop}
 use lib.Dec.{eqb, ltb, leb}
+use Rattle.base.specs.Runs.{Run, stopped, onward}
 use Rattle.base.specs.Rows.{row}
 use Rattle.base.specs.Outcomes.{Outcome, outcome}
 use Rattle.base.specs.Keys.{among}
@@ -21,12 +22,11 @@ use Rattle.frame.specs.Logs.{stream}
 use Rattle.frame.specs.declared.scan.Event.{Event}
 use Rattle.frame.specs.declared.scan.Event.the-variants.{Quiet, Decided}
 use Rattle.frame.proofs.EachCall.{within}
-use Rattle.base.proofs.OutcomesExact.{placed-whole-or-not}
 use Rattle.base.proofs.Tests.{by-test, either-way, both}
 use Rattle.listing.specs.Lines.{lineRoom}
 use Rattle.listing.specs.CallTexts.{feedText}
-use Rattle.listing.specs.Feeding.{Run, stopped, full, onward, refuses, lineAfter, listIn}
-use Rattle.listing.specs.LoopRuns.{StopNumbers, LeftFieldsAlways, LeftWholeAlways, RunOfFeeds, LoopLists}
+use Rattle.listing.specs.Feeding.{full, refuses, lineAfter, listIn}
+use Rattle.listing.specs.LoopRuns.{StopNumbers, LeftFieldsAlways, RunOfFeeds, LoopLists}
 use Rattle.listing.specs.LoopRuns.{StateFirst, LoopProgress}
 use Rattle.listing.proofs.LoopLaws.{verdict-continues, nonzero, consumes-one, step-refused, step-onward}
 
@@ -35,21 +35,6 @@ stop-numbers = record { done = refl; room = refl; state = refl; used = refl }
 
 pub left-fields : LeftFieldsAlways
 left-fields l after = record { state = refl; used = refl; written = refl; stop = refl; out = refl }
-
--- the buffer is as with one text that is placed
-pub left-whole : LeftWholeAlways
-left-whole run out =
-    let whole = placed-whole-or-not (run .text) out in
-    record {
-      counted = refl;
-      fits = λ h. let sum = length-append (run .text) (drop (length (run .text)) out) in omega (arith, h, sum);
-      front = λ h. rw (le-ltb (length out) (length (run .text)) h) at (whole .front h);
-      stays = λ h i g. rw (le-ltb (length out) (length (run .text)) h) at (whole .stays i g);
-      same-length = λ h. rw (le-ltb (length out) (length (run .text)) h) at (whole .same-length);
-      state = refl;
-      used = refl;
-      stop = refl;
-    }
 
 -- ---- what a refused feed leaves
 
@@ -168,7 +153,7 @@ module _ (limit : ℕ) (prefix : List ℕ) where
         }
 
     -- a feed more
-    one-more : (run : Run)
+    one-more : (run : Run State)
         → RunOfFeeds limit prefix (y .state) (drop (countOf (y .row)) bs) (room - length (lineAfter prefix y)) run
         → RunOfFeeds limit prefix r bs room (onward (countOf (y .row)) (lineAfter prefix y) run)
     unfolding feedText logOf stateAfter stream offer

@@ -74,21 +74,6 @@ module _ (text out : List ℕ) (at : ℕ) (fits : at + length text ≤ length ou
       let part : after ≡ text ++ drop (at + length text) out = ap (λ (w : Output). w .out) part-fits in
       rw (part, drop-of-length-le (drop at out) left, append-nil, sets-eq text out at fits, append-assoc)
 
--- ---- from the front: bytes from the i-th on, put at their places from `at` on
-
-module _ (bytes out : List ℕ) (at : ℕ) where
-  pub put-first : sets out (at + 0) (drop 0 bytes) ≡ sets out at bytes
-  put-first = rw add-zero
-
-  pub put-next : (i : ℕ) → i < length bytes
-      → sets (set out (at + i) (getD bytes i 0)) (at + (i + 1)) (drop (i + 1) bytes) ≡ sets out (at + i) (drop i bytes)
-  put-next i h =
-      let e : at + suc i ≡ suc (at + i) = omega arith in
-      rw (add-one, e, drop-cons bytes i 0)
-
-  pub put-none : (i : ℕ) → length bytes ≤ i → sets out (at + i) (drop i bytes) ≡ out
-  put-none i h = rw (drop-of-length-le bytes h)
-
 -- ---- columns from the i-th on
 
 module _ (l : List ℕ) (i : ℕ) (h : i < length l) where

@@ -7,6 +7,7 @@ use native.Mathlib.Nat.{zero-add, add-zero}
 use native.Mathlib.Omega.{arith}
 use lib.ListN.{length, take, drop, take-append-drop, length-append, length-drop}
 use lib.Seq.{take-append-le, length-take-le}
+use Rattle.base.specs.Runs.{Run}
 use Rattle.base.specs.Rows.{Row}
 use Rattle.base.specs.Outcomes.{Outcome}
 use Rattle.base.specs.Keys.{among}
@@ -22,7 +23,7 @@ use Rattle.listing.specs.Lines.{headingText}
 use Rattle.listing.specs.CallTexts.{feedTextIn, feedText, listingOf, OnlyFeed}
 use Rattle.listing.specs.Listing.{IsListing}
 use Rattle.listing.specs.Turns.{Turn, Turned, turned, turnsOf, writtenBy, OfferedFront}
-use Rattle.listing.specs.Feeding.{Run, listOf}
+use Rattle.listing.specs.Feeding.{listOf}
 use Rattle.listing.specs.LoopRuns.{RunOfFeeds}
 use Rattle.listing.specs.TurnListings.{TurnsListing, TurnStops, TurnsStop, TurnsFront, SentTurns, AnyTurns}
 use Rattle.listing.proofs.LoopRuns.{loop-lists}
@@ -67,7 +68,7 @@ record Called (limit : ℕ) (prefix : List ℕ) (r : State) (t : Turned) : Type 
   makes : Makes limit prefix r calls t
 
 -- a turn before others
-turn-before : (limit : ℕ) (prefix : List ℕ) (r : State) (bytes : List ℕ) (room : ℕ) (run : Run) (rest : Turned)
+turn-before : (limit : ℕ) (prefix : List ℕ) (r : State) (bytes : List ℕ) (room : ℕ) (run : Run State) (rest : Turned)
     → RunOfFeeds limit prefix r bytes room run → Called limit prefix (run .state) rest
     → Called limit prefix r (turned bytes run rest)
 turn-before limit prefix r bytes room run rest l c =
@@ -132,7 +133,7 @@ feed-account limit small prefix t calls bytes m =
     (stream-correct limit small (calls ++ feed bytes ∷ []) .accounts))
 
 -- the feed that a turn stops at
-run-stops : (limit : ℕ) → limit ≤ widest → (prefix : List ℕ) (t : Turned) (bytes : List ℕ) (room : ℕ) (run : Run)
+run-stops : (limit : ℕ) → limit ≤ widest → (prefix : List ℕ) (t : Turned) (bytes : List ℕ) (room : ℕ) (run : Run State)
     → Called limit prefix (freshOf limit) t → RunOfFeeds limit prefix (t .state) bytes room run
     → TurnStops (t .consumed) bytes run
 unfolding among
@@ -174,7 +175,7 @@ pub turns-front : TurnsFront
 unfolding turnsOf OfferedFront
 turns-front limit prefix r sent [] o = (sent, refl)
 turns-front limit prefix r sent (t ∷ ts) o =
-    let run : Run = listOf limit prefix r (t .bytes) (t .room) in
+    let run : Run State = listOf limit prefix r (t .bytes) (t .room) in
     let l = loop-lists limit prefix r (t .bytes) (t .room) in
     let later = turns-front limit prefix (run .state) (drop (run .used) sent) ts (o .1) in
     let front : take (run .used) sent ≡ take (run .used) (t .bytes) =

@@ -5,7 +5,8 @@ use mathlib.Core.Bool.{Bool, cond, _||_}
 use mathlib.Core.List.{List, [], _++_}
 use lib.ListN.{length, drop}
 use lib.Dec.{eqb, ltb}
-use Rattle.base.specs.Outcomes.{Outcome, onto}
+use Rattle.base.specs.Outcomes.{Outcome}
+use Rattle.base.specs.Runs.{Run, stopped, onward, Left}
 use Rattle.frame.specs.Table.{countOf}
 use Rattle.frame.specs.State.{State, stateOf}
 use Rattle.frame.specs.Calls.{feedOf}
@@ -13,25 +14,9 @@ use Rattle.listing.specs.Lines.{answerText, lineRoom}
 use Rattle.listing.specs.Table.{stopOf}
 use Rattle.listing.specs.declared.feeding.Listed.{Listed}
 
--- what a loop does: the state that it leaves, the bytes that it used, their lines, and the number of its stop
-pub record Run : Type 0 where
-  pub state : State
-  pub used : ℕ
-  pub text : List ℕ
-  pub stop : ℕ
-
--- it does nothing more
-abbrev pub stopped : State → ℕ → Run
-stopped r number = record { state = r; used = 0; text = []; stop = number }
-
 -- the buffer might lack room for the next line
-abbrev pub full : State → Run
+abbrev pub full : State → Run State
 full r = stopped r 22
-
--- an answer consumed bytes and has a line, and the loop continues
-abbrev pub onward : ℕ → List ℕ → Run → Run
-onward count line run =
-    record { state = run .state; used = count + run .used; text = line ++ run .text; stop = run .stop }
 
 -- STATE and USED consume nothing, and would be given again for ever
 abbrev pub refuses : ℕ → Bool
@@ -42,7 +27,7 @@ abbrev pub lineAfter : List ℕ → Outcome State → List ℕ
 lineAfter prefix y = answerText prefix (y .row) (y .state .body)
 
 -- at most n feeds, each of what is left, with so much room left
-unfoldable pub listIn : ℕ → List ℕ → ℕ → State → List ℕ → ℕ → Run
+unfoldable pub listIn : ℕ → List ℕ → ℕ → State → List ℕ → ℕ → Run State
 listIn limit prefix zero r bytes room = stopped r 0
 listIn limit prefix (suc n) r bytes room =
     cond (eqb (length bytes) 0) (stopped r 0)
@@ -54,25 +39,17 @@ listIn limit prefix (suc n) r bytes room =
     (room - length (lineAfter prefix (feedOf limit r bytes)))))))
 
 -- as many feeds as there are bytes are enough: each consumes one at least
-abbrev pub loopOf : ℕ → List ℕ → State → List ℕ → ℕ → Run
+abbrev pub loopOf : ℕ → List ℕ → State → List ℕ → ℕ → Run State
 loopOf limit prefix r bytes room = listIn limit prefix (length bytes) r bytes room
 
 -- a feed with no data comes first, so that a reader out of range stops it even with no room and no bytes
-abbrev pub listOf : ℕ → List ℕ → State → List ℕ → ℕ → Run
+abbrev pub listOf : ℕ → List ℕ → State → List ℕ → ℕ → Run State
 listOf limit prefix r bytes room =
     cond (refuses (feedOf limit r [] .row .number)) (stopped r (feedOf limit r [] .row .number))
     (loopOf limit prefix r bytes room)
 
--- what a call of the loop returns, and the buffer after it
-pub record Left : Type 0 where
-  pub state : State
-  pub used : ℕ
-  pub written : ℕ
-  pub stop : ℕ
-  pub out : List ℕ
-
--- by what the code returns
-abbrev pub leftOf : Listed → List ℕ → Left
+-- what the code's loop returns, and the buffer after it
+abbrev pub leftOf : Listed → List ℕ → Left State
 leftOf l after =
     record {
       state = stateOf (l .reader);
@@ -80,15 +57,4 @@ leftOf l after =
       written = l .written;
       stop = stopOf (l .stop);
       out = after;
-    }
-
--- by the run: the lines are at the front of the buffer, whose rest stays
-abbrev pub leftBy : Run → List ℕ → Left
-leftBy run out =
-    record {
-      state = run .state;
-      used = run .used;
-      written = length (run .text);
-      stop = run .stop;
-      out = onto (run .text) out;
     }

@@ -72,3 +72,7 @@ abbrev pub lastOf : List ℕ → Row → List ℕ
 lastOf prefix r =
     cond (eqb (r .number) 2) (textOf prefix (ascii "clean") (getD (r .values) 0 0 ∷ []) (ascii "\n"))
     (cond (eqb (r .number) 16) (textOf prefix (ascii "open") (getD (r .values) 1 0 ∷ []) (ascii "\n")) [])
+
+-- the line of a refusal that ends a text: PROTOCOL 10.11
+abbrev pub refusalText : ℕ → ℕ → List ℕ
+refusalText number place = textOf [] (ascii "refused") (number ∷ place ∷ []) (ascii "\n")

@@ -5,6 +5,7 @@ use mathlib.Core.Logic.{_≢_}
 use mathlib.Core.Bool.{true}
 use mathlib.Core.List.{List, [], _∷_}
 use lib.ListN.{length, getD, take, drop}
+use Rattle.base.specs.Runs.{Run}
 use Rattle.base.specs.Rows.{row}
 use Rattle.base.specs.Keys.{among}
 use Rattle.frame.specs.State.{State, stateOf}
@@ -13,7 +14,7 @@ use Rattle.frame.specs.LogsComputed.{logOf, stateAfter, offer}
 use Rattle.frame.specs.Logs.{stream}
 use Rattle.listing.specs.Table.{stopOf}
 use Rattle.listing.specs.CallTexts.{feedText}
-use Rattle.listing.specs.Feeding.{Run, listOf, leftOf, leftBy}
+use Rattle.listing.specs.Feeding.{listOf, leftOf}
 use Rattle.listing.specs.declared.feeding.Listed.{Listed}
 use Rattle.listing.specs.declared.feeding.Stop.the-variants as stop
 
@@ -36,28 +37,11 @@ pub record LeftFields (l : Listed) (after : List ℕ) : Type 0 where
 abbrev pub LeftFieldsAlways : Type 0
 LeftFieldsAlways = (l : Listed) (after : List ℕ) → LeftFields l after
 
--- ---- left-whole: a text that fits is at the front of the buffer and is counted, and each byte after it stays
-pub record LeftWhole (run : Run) (out : List ℕ) : Type 0 where
-  pub counted : leftBy run out .written ≡ length (run .text)
-  -- the code's buffer keeps its length, as every slice does: so its text fits
-  pub fits : length (leftBy run out .out) ≡ length out → length (run .text) ≤ length out
-  pub front : length (run .text) ≤ length out → take (length (run .text)) (leftBy run out .out) ≡ run .text
-  pub stays : length (run .text) ≤ length out → (i : ℕ) → length (run .text) ≤ i
-      → getD (leftBy run out .out) i 0 ≡ getD out i 0
-  pub same-length : length (run .text) ≤ length out → length (leftBy run out .out) ≡ length out
-  pub state : leftBy run out .state ≡ run .state
-  pub used : leftBy run out .used ≡ run .used
-  pub stop : leftBy run out .stop ≡ run .stop
-
--- of all runs and buffers
-abbrev pub LeftWholeAlways : Type 0
-LeftWholeAlways = (run : Run) (out : List ℕ) → LeftWhole run out
-
 -- ---- loop-lists: the loop's feeds are those of a sender that offers the bytes until they are consumed: the text is
 -- their lines, none lost, none twice, in order, and the bytes used are those that they consumed
 
 -- a run is made by some number of feeds; and why it stopped
-pub record RunOfFeeds (limit : ℕ) (prefix : List ℕ) (r : State) (bytes : List ℕ) (room : ℕ) (run : Run) : Type 0 where
+pub record RunOfFeeds (limit : ℕ) (prefix : List ℕ) (r : State) (bytes : List ℕ) (room : ℕ) (run : Run State) : Type 0 where
   pub calls : ℕ
   pub text-is : run .text ≡ feedText prefix (logOf limit r (offer limit calls r bytes))
   pub state-is : run .state ≡ stateAfter limit r (offer limit calls r bytes)

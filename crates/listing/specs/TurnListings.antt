@@ -4,10 +4,11 @@ use mathlib.Core.Path.{_≡_}
 use mathlib.Core.Logic.{_≢_}
 use mathlib.Core.List.{List, _++_}
 use lib.ListN.{length}
+use Rattle.base.specs.Runs.{Run}
 use Rattle.frame.specs.Wire.{widest}
 use Rattle.frame.specs.State.{State}
 use Rattle.frame.specs.Calls.{freshOf}
-use Rattle.listing.specs.Feeding.{Run, listOf}
+use Rattle.listing.specs.Feeding.{listOf}
 use Rattle.listing.specs.Listing.{IsListing}
 use Rattle.listing.specs.Turns.{Turn, turnsOf, writtenBy, OfferedFront}
 
@@ -19,7 +20,7 @@ TurnsListing =
     (writtenBy limit prefix (turnsOf limit prefix (freshOf limit) turns))
 
 -- ---- turns-stop: of a fresh reader no turn stops for STATE, and one stops for USED only past 2^62 bytes
-pub record TurnStops (consumed bytes : List ℕ) (run : Run) : Type 0 where
+pub record TurnStops (consumed bytes : List ℕ) (run : Run State) : Type 0 where
   pub never-state : run .stop ≢ 17
   pub used-late : run .stop ≡ 18 → 2 ^ 62 < length consumed + length bytes
 

@@ -4,10 +4,11 @@ use Prim.Native.Nat.{ℕ}
 use mathlib.Core.Path.{_≡_}
 use mathlib.Core.List.{List, [], _∷_, _++_}
 use lib.ListN.{take, drop}
+use Rattle.base.specs.Runs.{Run}
 use Rattle.frame.specs.State.{State}
 use Rattle.frame.specs.Calls.{finishOf}
 use Rattle.listing.specs.Lines.{headingText, lastOf}
-use Rattle.listing.specs.Feeding.{Run, listOf}
+use Rattle.listing.specs.Feeding.{listOf}
 
 -- a turn is one call of the loop: the bytes offered, and the buffer's room
 pub record Turn : Type 0 where
@@ -21,7 +22,7 @@ pub record Turned : Type 0 where
   pub text : List ℕ
 
 -- a run, and the turns that follow it
-abbrev pub turned : List ℕ → Run → Turned → Turned
+abbrev pub turned : List ℕ → Run State → Turned → Turned
 turned bytes run rest =
     record { state = rest .state; consumed = take (run .used) bytes ++ rest .consumed; text = run .text ++ rest .text }
 

@@ -3,13 +3,15 @@ use Prim.Native.Nat.{ℕ}
 use mathlib.Core.Path.{_≡_}
 use mathlib.Core.List.{List, [], _∷_, _++_}
 use lib.ListN.{drop}
+use Rattle.base.specs.Runs.{Run}
 use Rattle.frame.specs.Wire.{frameLimit}
+use Rattle.frame.specs.State.{State}
 use Rattle.frame.specs.Calls.{freshOf}
 use Rattle.frame.specs.Logs.{feed, finish}
 use Rattle.frame.specs.LogsComputed.{offer}
 use Rattle.listing.specs.Lines.{ascii, headingText}
 use Rattle.listing.specs.CallTexts.{listingOf}
-use Rattle.listing.specs.Feeding.{Run, listOf}
+use Rattle.listing.specs.Feeding.{listOf}
 use Rattle.listing.specs.Turns.{Turn, turnsOf, writtenBy, OfferedFront}
 
 -- the stream of PROTOCOL 11.2
@@ -58,13 +60,13 @@ pub record WorkedPrefix : Type 0 where
       ≡ ascii "in kind start end cmd sn flags payload\nin clean 1\n"
 
 -- ---- worked-loop: the example's stream with buffers of several sizes
-pub record Worked (run : Run) (used number : ℕ) (text : List ℕ) : Type 0 where
+pub record Worked (run : Run State) (used number : ℕ) (text : List ℕ) : Type 0 where
   pub used-is : run .used ≡ used
   pub stop-is : run .stop ≡ number
   pub text-is : run .text ≡ text
 
 -- the loop over the example's stream
-abbrev pub exampleRun : List ℕ → ℕ → Run
+abbrev pub exampleRun : List ℕ → ℕ → Run State
 exampleRun prefix room = listOf frameLimit prefix (freshOf frameLimit) exampleStream room
 
 -- all of it; no room for a line; room for a first line, but not for a second; the same with a text before each word

@@ -8,12 +8,13 @@ ghost use mathlib.Core.Bool.{true};
 ghost use Prim.Native.Nat.{_+_, _≤_};
 ghost use lib.ListN.{length};
 ghost use Rattle.base.specs.Stores.{PutAt};
+ghost use Rattle.base.specs.Runs.{leftBy};
 ghost use Rattle.frame.specs.Wire.{frameLimit};
 ghost use Rattle.frame.specs.State.{stateOf};
 ghost use Rattle.frame.specs.Table.{rowOf};
 ghost use Rattle.listing.specs.Lines.{answerText, lineRoom};
 ghost use Rattle.listing.specs.Table.{stopOf};
-ghost use Rattle.listing.specs.Feeding.{refuses, loopOf, listOf, leftOf, leftBy};
+ghost use Rattle.listing.specs.Feeding.{refuses, loopOf, listOf, leftOf};
 
 // No answer's line has more bytes from its word on: PROTOCOL 10.9.
 const LINE_ROOM: usize = 132;

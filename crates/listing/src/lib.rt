@@ -10,4 +10,5 @@ pub use feeding::list;
 pub use lines::heading;
 pub use lines::last;
 pub use lines::line;
+pub use lines::refusal;
 pub use text::LineResult;

@@ -11,7 +11,7 @@ ghost use Prim.Native.Nat.{_+_, _≤_};
 ghost use lib.ListN.{length};
 ghost use Rattle.frame.specs.Table.{rowOf, finishRowOf, decidedRow};
 ghost use Rattle.listing.specs.Lines.{ascii, textOf, headingText, placesAt, bodyColumns, dashes, answerText};
-ghost use Rattle.listing.specs.Lines.{lineRoom, lastOf};
+ghost use Rattle.listing.specs.Lines.{lineRoom, lastOf, refusalText};
 ghost use Rattle.listing.specs.Table.{Puts};
 
 // The heading.
@@ -140,4 +140,11 @@ pub fn last(answer: FinishResult, prefix: &[u8], out: &mut [u8]) -> LineResult
         ),
         FinishResult::State => LineResult::Wrote { count: 0 },
     }
+}
+
+// The line of a refusal that ends a text: its number, and the place where what is refused begins.
+pub fn refusal(number: u64, place: u64, out: &mut [u8]) -> LineResult
+    ensures { λ r. ⌜ Puts r (now (out .exit)) (refusalText number place) (now (out .entry)) ⌝ }
+{
+    put_line(b"", b"refused", &[number, place], b"\n", out)
 }

@@ -61,12 +61,7 @@ fn put_bytes(out: &mut [u8], at: usize, bytes: &[u8]) -> usize
     requires { ⌜ at + length (now bytes) ≤ length (now out) ⌝ }
     ensures { λ r. ⌜ PutAt (now (out .entry)) at (now (bytes .entry)) r (now (out .exit)) ⌝ }
 {
-    let mut i = 0;
-    while i < bytes.len() {
-        out[at + i] = bytes[i];
-        i += 1;
-    }
-    at + i
+    base::put_bytes(out, at, bytes)
 }
 
 // Puts a line at the front of the buffer, or refuses and leaves the buffer as it was.

@@ -5,9 +5,9 @@ use mathlib.Core.Path.{_≡_, ap}
 use mathlib.Core.List.{List, []}
 use native.Mathlib.Omega.{arith}
 use lib.ListN.{length, take, drop, length-take}
+use Rattle.base.specs.Runs.{Left}
 use Rattle.frame.specs.Wire.{frameLimit}
-use Rattle.frame.specs.State.{stateOf}
-use Rattle.listing.specs.Feeding.{Left}
+use Rattle.frame.specs.State.{State, stateOf}
 use Rattle.listing.proofs.LoopRuns.{loop-lists}
 use borrow.Author.Needs.{needs}
 use Rattle.list_program.proofs.live.list_all.Statement.{statement}
@@ -34,7 +34,7 @@ module _ (c : tie.Else2 Inv-loop μ-loop) where
   within =
       let loop = list .before .before .before .before .before .loop in
       let left = take (length bytes - at) (drop at bytes) in
-      let used = ap (λ (l : Left). l .used) (list .list .ensures) in
+      let used = ap (λ (l : Left State). l .used) (list .list .ensures) in
       omega (
         arith,
         used,

@@ -1,0 +1,116 @@
+-- Claims: what each call answers, and exactly when. PROTOCOL 13.4 to 13.12.
+use Prim.Native.Nat.{ℕ, _+_, _≤_, _<_}
+use mathlib.Core.Path.{_≡_}
+use mathlib.Core.Logic.{_≢_, _⊎_}
+use mathlib.Core.List.{List, [], _∷_, _++_}
+use lib.ListN.{length, getD, drop}
+use Rattle.base.specs.Rows.{row}
+use Rattle.base.specs.Outcomes.{outcome, output}
+use Rattle.capture.specs.Format.{head, directionOf, millisecondsOf, IsRecord, recordBytes}
+use Rattle.capture.specs.Format.{headWriteOf, recordWriteOf}
+use Rattle.capture.specs.Table.{nextRowOf, endRowOf}
+use Rattle.capture.specs.Captures.{Begins}
+use Rattle.capture.specs.Reading.{nextOf, endOf}
+use Rattle.capture.specs.Windows.{countOf}
+use Rattle.capture.specs.declared.reading.EndResult.{EndResult}
+use Rattle.capture.specs.declared.reading.NextResult.{NextResult}
+
+-- ---- rows-injective: two answers never have the same number and values
+pub record RowsInjective : Type 0 where
+  pub nexts : (a b : NextResult) → nextRowOf a ≡ nextRowOf b → a ≡ b
+  pub ends : (a b : EndResult) → endRowOf a ≡ endRowOf b → a ≡ b
+
+-- ---- cursor-ranges: STATE exactly when the place is 1 to 4 or beyond 2^62, before all others, in both calls; USED
+-- exactly when a cursor in range is offered bytes beyond 2^62; nothing is taken: PROTOCOL 13.9
+
+-- a place that no cursor has
+abbrev pub OutOfRange : ℕ → Type 0
+OutOfRange place = ((1 ≤ place) × (place ≤ 4)) ⊎ (4611686018427387904 < place)
+
+-- of a place and some bytes
+pub record CursorRange (place : ℕ) (b : List ℕ) : Type 0 where
+  pub state : OutOfRange place → nextOf place b ≡ outcome (row 17 (0 ∷ [])) place
+  pub state-only : nextOf place b .row .number ≡ 17 → OutOfRange place
+  pub used : (OutOfRange place → ⊥) → 4611686018427387904 < place + length b
+      → nextOf place b ≡ outcome (row 18 (0 ∷ [])) place
+  pub used-only : nextOf place b .row .number ≡ 18 → 4611686018427387904 < place + length b
+  pub end-state : OutOfRange place → endOf place b ≡ row 17 (0 ∷ [])
+  pub end-used : (OutOfRange place → ⊥) → 4611686018427387904 < place + length b → endOf place b ≡ row 18 (0 ∷ [])
+
+-- of all
+abbrev pub CursorRanges : Type 0
+CursorRanges = (place : ℕ) (b : List ℕ) → CursorRange place b
+
+-- ---- each-next: every other answer of `next`, by the bytes; these cases are all there are
+
+-- as far as the bytes go, they are those of a head
+abbrev pub HeadSoFar : List ℕ → Type 0
+HeadSoFar b = (i : ℕ) → i < length b → i < 5 → getD b i 0 ≡ getD head i 0
+
+-- no whole record is at their front
+abbrev pub NoRecord : List ℕ → Type 0
+NoRecord b = (r : List ℕ) → IsRecord r → Begins r b → ⊥
+
+-- before the head, and after it
+pub record EachNext (place : ℕ) (b : List ℕ) : Type 0 where
+  pub head-taken : place ≡ 0 → HeadSoFar b → 5 ≤ length b → nextOf place b ≡ outcome (row 0 (5 ∷ [])) 5
+  pub head-lacks : place ≡ 0 → HeadSoFar b → length b < 5 → nextOf place b ≡ outcome (row 0 (0 ∷ [])) 0
+  pub mark-refused : place ≡ 0 → (i : ℕ) → i < length b → i < 3 → getD b i 0 ≢ getD head i 0
+      → nextOf place b ≡ outcome (row 51 (0 ∷ [])) 0
+  pub version-refused : place ≡ 0 → ((i : ℕ) → i < 3 → getD b i 0 ≡ getD head i 0)
+      → (i : ℕ) → i < length b → 3 ≤ i → i < 5 → getD b i 0 ≢ getD head i 0
+      → nextOf place b ≡ outcome (row 52 (3 ∷ [])) 0
+  pub direction-refused : 5 ≤ place → 1 ≤ length b → 2 ≤ getD b 0 0
+      → nextOf place b ≡ outcome (row 53 (place ∷ [])) place
+  pub record-taken : 5 ≤ place → (r : List ℕ) → IsRecord r → Begins r b
+      → nextOf place b ≡ outcome (row 1 (length r ∷ directionOf r ∷ millisecondsOf r ∷ [])) (place + length r)
+  pub record-lacks : 5 ≤ place → getD b 0 0 ≤ 1 → NoRecord b → nextOf place b ≡ outcome (row 0 (0 ∷ [])) place
+
+-- of every cursor in range and all bytes up to 2^62
+abbrev pub EachNextAlways : Type 0
+EachNextAlways =
+    (place : ℕ) (b : List ℕ) → (OutOfRange place → ⊥) → place + length b ≤ 4611686018427387904 → EachNext place b
+
+-- ---- each-finish: every answer of `finish`, by the bytes and the answer of `next`
+pub record EachFinish (place : ℕ) (b : List ℕ) : Type 0 where
+  pub whole : 5 ≤ place → length b ≡ 0 → endOf place b ≡ row 2 (place ∷ [])
+  pub mark-lacks : place ≡ 0 → HeadSoFar b → length b < 3 → endOf place b ≡ row 51 (0 ∷ [])
+  pub version-lacks : place ≡ 0 → HeadSoFar b → 3 ≤ length b → length b < 5 → endOf place b ≡ row 52 (3 ∷ [])
+  pub ended : 5 ≤ place → 1 ≤ length b → getD b 0 0 ≤ 1 → NoRecord b → endOf place b ≡ row 54 (place ∷ [])
+  pub refused : 50 < nextOf place b .row .number → endOf place b ≡ nextOf place b .row
+  pub to-take : 1 ≤ countOf (nextOf place b .row) → endOf place b ≡ row 0 (0 ∷ [])
+
+-- of every cursor in range and all bytes up to 2^62
+abbrev pub EachFinishAlways : Type 0
+EachFinishAlways =
+    (place : ℕ) (b : List ℕ) → (OutOfRange place → ⊥) → place + length b ≤ 4611686018427387904 → EachFinish place b
+
+-- ---- more-later: what is taken or refused stays so with more bytes after it: PROTOCOL 13.10
+abbrev pub MoreLater : Type 0
+MoreLater =
+    (place : ℕ) (b more : List ℕ) → place + length (b ++ more) ≤ 4611686018427387904
+    → (nextOf place b .row ≡ row 0 (0 ∷ []) → ⊥) → nextOf place (b ++ more) ≡ nextOf place b
+
+-- ---- count-within: no call takes more than it is offered, and the place moves by what is taken
+pub record CountWithin (place : ℕ) (b : List ℕ) : Type 0 where
+  pub within : countOf (nextOf place b .row) ≤ length b
+  pub moves : nextOf place b .state ≡ place + countOf (nextOf place b .row)
+
+-- of every cursor and all bytes
+abbrev pub CountsWithin : Type 0
+CountsWithin = (place : ℕ) (b : List ℕ) → CountWithin place b
+
+-- ---- write-exactly: what the writing calls answer, and the buffer after them; PAYLOAD comes before ROOM:
+-- PROTOCOL 13.11, 13.12
+pub record WriteExactly (d t : ℕ) (p out : List ℕ) : Type 0 where
+  pub head-fits : 5 ≤ length out
+      → headWriteOf out ≡ output (row 0 (5 ∷ [])) (0x4C ∷ 0x46 ∷ 0x54 ∷ 0x00 ∷ 0x01 ∷ drop 5 out)
+  pub head-room : length out < 5 → headWriteOf out ≡ output (row 22 (0 ∷ [])) out
+  pub payload : 65535 < length p → recordWriteOf d t p out ≡ output (row 21 (0 ∷ [])) out
+  pub room : length p ≤ 65535 → length out < 7 + length p → recordWriteOf d t p out ≡ output (row 22 (0 ∷ [])) out
+  pub fits : length p ≤ 65535 → 7 + length p ≤ length out
+      → recordWriteOf d t p out ≡ output (row 0 ((7 + length p) ∷ [])) (recordBytes d t p ++ drop (7 + length p) out)
+
+-- of all values and buffers
+abbrev pub WritesExactly : Type 0
+WritesExactly = (d t : ℕ) (p out : List ℕ) → WriteExactly d t p out

@@ -1,0 +1,59 @@
+-- Claims: worked captures, by computation. PROTOCOL 13.1 to 13.12.
+use Prim.Native.Nat.{ℕ, _^_}
+use mathlib.Core.Path.{_≡_}
+use mathlib.Core.List.{List, [], _∷_, _++_}
+use lib.ListN.{replicate}
+use Rattle.base.specs.Rows.{Row, row}
+use Rattle.base.specs.Outcomes.{outcome}
+use Rattle.capture.specs.Format.{recordBytes}
+use Rattle.capture.specs.Reading.{nextOf, endOf}
+use Rattle.capture.specs.Windows.{recordsBy, placeBy}
+
+-- ---- worked-refusals: each refusal, with its place, at the end and as soon as a byte decides it
+pub record WorkedRefusals : Type 0 where
+  pub nothing : endOf 0 [] ≡ row 51 (0 ∷ [])
+  pub half-mark : endOf 0 (0x4C ∷ 0x46 ∷ []) ≡ row 51 (0 ∷ [])
+  pub wrong-mark : nextOf 0 (0x4C ∷ 0x46 ∷ 0x55 ∷ []) ≡ outcome (row 51 (0 ∷ [])) 0
+  pub first-wrong : nextOf 0 (0x58 ∷ []) ≡ outcome (row 51 (0 ∷ [])) 0
+  pub mark-alone : endOf 0 (0x4C ∷ 0x46 ∷ 0x54 ∷ []) ≡ row 52 (3 ∷ [])
+  pub half-version : endOf 0 (0x4C ∷ 0x46 ∷ 0x54 ∷ 0x00 ∷ []) ≡ row 52 (3 ∷ [])
+  pub wrong-version : nextOf 0 (0x4C ∷ 0x46 ∷ 0x54 ∷ 0x00 ∷ 0x02 ∷ []) ≡ outcome (row 52 (3 ∷ [])) 0
+  pub swapped-version : nextOf 0 (0x4C ∷ 0x46 ∷ 0x54 ∷ 0x01 ∷ []) ≡ outcome (row 52 (3 ∷ [])) 0
+  pub wrong-direction : nextOf 5 (0x02 ∷ []) ≡ outcome (row 53 (5 ∷ [])) 5
+  pub direction-first : endOf 5 (0x02 ∷ []) ≡ row 53 (5 ∷ [])
+  pub half-record : endOf 5 (0x00 ∷ []) ≡ row 54 (5 ∷ [])
+  pub half-payload : endOf 12 (0x01 ∷ 0x00 ∷ 0x00 ∷ 0x00 ∷ 0x00 ∷ 0x00 ∷ 0x02 ∷ 0xAA ∷ []) ≡ row 54 (12 ∷ [])
+  pub no-record : endOf 5 [] ≡ row 2 (5 ∷ [])
+  pub no-such-place : nextOf 3 [] ≡ outcome (row 17 (0 ∷ [])) 3
+  pub no-such-end : endOf 4 [] ≡ row 17 (0 ∷ [])
+  pub too-far : nextOf (2 ^ 62) (0x00 ∷ []) ≡ outcome (row 18 (0 ∷ [])) (2 ^ 62)
+
+-- ---- worked-capture: both directions, an empty record, and what is left; in one window, in small ones, and record by
+-- record
+
+-- its head
+abbrev pub workedHead : List ℕ
+workedHead = 0x4C ∷ 0x46 ∷ 0x54 ∷ 0x00 ∷ 0x01 ∷ []
+
+-- from the box, after 0x01020304 milliseconds, AA BB
+abbrev pub boxRecord : List ℕ
+boxRecord = 0x01 ∷ 0x01 ∷ 0x02 ∷ 0x03 ∷ 0x04 ∷ 0x00 ∷ 0x02 ∷ 0xAA ∷ 0xBB ∷ []
+
+-- from the module, nothing
+abbrev pub emptyRecord : List ℕ
+emptyRecord = 0x00 ∷ 0x01 ∷ 0x02 ∷ 0x03 ∷ 0x05 ∷ 0x00 ∷ 0x00 ∷ []
+
+-- calls, and their answers
+pub record WorkedCapture : Type 0 where
+  pub head-taken : nextOf 0 (workedHead ++ boxRecord) ≡ outcome (row 0 (5 ∷ [])) 5
+  pub box-taken : nextOf 5 (boxRecord ++ emptyRecord) ≡ outcome (row 1 (9 ∷ 1 ∷ 16909060 ∷ [])) 14
+  pub empty-taken : nextOf 14 emptyRecord ≡ outcome (row 1 (7 ∷ 0 ∷ 16909061 ∷ [])) 21
+  pub box-lacks : nextOf 5 (0x01 ∷ 0x01 ∷ 0x02 ∷ 0x03 ∷ 0x04 ∷ 0x00 ∷ 0x02 ∷ 0xAA ∷ []) ≡ outcome (row 0 (0 ∷ [])) 5
+  -- the count's high byte is first
+  pub long-taken : nextOf 5 (0x00 ∷ 0x00 ∷ 0x00 ∷ 0x00 ∷ 0x00 ∷ 0x01 ∷ 0x02 ∷ replicate 258 0xFF)
+      ≡ outcome (row 1 (265 ∷ 0 ∷ 0 ∷ [])) 270
+  pub records : recordsBy 0 (workedHead ∷ [] ∷ (boxRecord ++ 0x00 ∷ []) ∷ (0x00 ∷ []) ∷ emptyRecord ∷ [] ∷ [])
+      ≡ boxRecord ∷ emptyRecord ∷ []
+  pub place : placeBy 0 (workedHead ∷ [] ∷ (boxRecord ++ 0x00 ∷ []) ∷ (0x00 ∷ []) ∷ emptyRecord ∷ [] ∷ []) ≡ 21
+  pub end : endOf 21 [] ≡ row 2 (21 ∷ [])
+  pub written : recordBytes 1 16909060 (0xAA ∷ 0xBB ∷ []) ≡ boxRecord

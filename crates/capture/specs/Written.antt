@@ -1,0 +1,45 @@
+-- Claims: what the writing calls make is read back. PROTOCOL 13.13.
+use Prim.Native.Nat.{ℕ, _+_, _≤_}
+use mathlib.Core.Path.{_≡_}
+use mathlib.Core.List.{List, [], _∷_, _++_, map}
+use lib.ListN.{length}
+use Rattle.frame.specs.Offers.{joined}
+use Rattle.capture.specs.Format.{head, directionOf, millisecondsOf, payloadOf, recordBytes}
+use Rattle.capture.specs.Captures.{Reads}
+
+-- what is to be recorded
+pub record Item : Type 0 where
+  pub direction : ℕ
+  pub milliseconds : ℕ
+  pub payload : List ℕ
+
+-- the record of it
+abbrev pub bytesOf : Item → List ℕ
+bytesOf i = recordBytes (i .direction) (i .milliseconds) (i .payload)
+
+-- every item has one of the two directions
+abbrev pub Directed : List Item → Type 0
+Directed [] = Unit {0}
+Directed (i ∷ is) = (i .direction ≤ 1) × Directed is
+
+-- the head, and the records of items
+abbrev pub captureOf : List Item → List ℕ
+captureOf items = head ++ joined (map bytesOf items)
+
+-- ---- fields-back: each field of a record that was written
+pub record FieldsBack (i : Item) : Type 0 where
+  pub direction : directionOf (bytesOf i) ≡ i .direction
+  pub milliseconds : millisecondsOf (bytesOf i) ≡ i .milliseconds
+  pub payload : payloadOf (bytesOf i) ≡ i .payload
+  pub size : length (bytesOf i) ≡ 7 + length (i .payload)
+
+-- of every item
+abbrev pub FieldsBackAlways : Type 0
+FieldsBackAlways = (i : Item) → FieldsBack i
+
+-- ---- written-back: a capture that was written holds the records that were written, and has no refusal;
+-- `one-reading` says that it holds no others
+abbrev pub WrittenBack : Type 0
+WrittenBack =
+    (items : List Item) → Directed items
+    → Reads (captureOf items) (map bytesOf items) 2 (length (captureOf items))
