@@ -1,7 +1,7 @@
 -- Lists of numbers: empty, cut at their end, and number by number. Assumes nothing.
 use Prim.Native.Nat.{ℕ, min}
-use mathlib.Core.Path.{_≡_, refl, sym, _∙_}
-use mathlib.Core.List.{List, [], _∷_}
+use mathlib.Core.Path.{_≡_, refl, sym, ap, _∙_}
+use mathlib.Core.List.{List, [], _∷_, _++_}
 use native.Mathlib.Omega.{arith, min-cases}
 use lib.ListN.{length, take, drop, drop-of-length-le}
 use lib.Seq.{take-all, take-length, drop-length}
@@ -33,3 +33,12 @@ all-same (a ∷ l) (b ∷ r) h =
     let head : a ≡ b = h .0 in
     let tail : l ≡ r = all-same l r (h .1) in
     cc
+
+-- equal fronts leave equal rests
+pub append-cancel : {A : Type 0} (f a b : List A) → f ++ a ≡ f ++ b → a ≡ b
+append-cancel [] a b e = e
+append-cancel (x ∷ f) a b e = append-cancel f a b (ap tail-of e)
+  where
+    tail-of : {A : Type 0} → List A → List A
+    tail-of [] = []
+    tail-of (y ∷ l) = l

@@ -4,7 +4,7 @@ use super::record::size;
 ghost use mathlib.Core.Path.{_≡_};
 ghost use Prim.Native.Nat.{_+_, _^_, _≤_};
 ghost use lib.ListN.{length};
-ghost use Rattle.capture.specs.Table.{directionNumber, takenOf, endRowOf};
+ghost use Rattle.capture.specs.Table.{directionNumber, refusalNumber, takenOf, endRowOf};
 ghost use Rattle.capture.specs.Reading.{agrees, inRangeOf, headOf, recordIn, recordOf, nextOf, lackingOf, endOf};
 
 // No more bytes are read from one capture: PROTOCOL 13.9.
@@ -61,6 +61,20 @@ impl Cursor {
         ensures { λ r. ⌜ r .place ≡ 0 ⌝ }
     {
         Cursor { place: 0 }
+    }
+}
+
+impl Refusal {
+    // Its number, as it is printed.
+    pub fn number(self) -> u8
+        ensures { λ r. ⌜ r ≡ refusalNumber self ⌝ }
+    {
+        match self {
+            Refusal::Mark => 51,
+            Refusal::Version => 52,
+            Refusal::Direction => 53,
+            Refusal::Ended => 54,
+        }
     }
 }
 

@@ -1,5 +1,5 @@
 -- The laws; each file of claims in specs/ has its theorems in the file of its name here, and `each-listed` in
--- DecisionTexts.
+-- DecisionTexts, `run-adds` in RunAdds.
 pub mod Digits
 pub mod Decimals
 pub mod Puts
@@ -9,5 +9,6 @@ pub mod LoopLaws
 pub mod LoopRuns
 pub mod DecisionTexts
 pub mod WholeListing
+pub mod RunAdds
 pub mod TurnListings
 pub mod WorkedListings

@@ -81,7 +81,7 @@ one-listing prefix limit t a b p q =
 
 -- ---- a sender only feeds: calls after others, bytes until they are consumed, all pieces
 
-only-joined : (a b : List Call) → OnlyFeed a → OnlyFeed b → OnlyFeed (a ++ b)
+pub only-joined : (a b : List Call) → OnlyFeed a → OnlyFeed b → OnlyFeed (a ++ b)
 only-joined [] b p q = q
 only-joined (feed bytes ∷ a) b p q = only-joined a b p q
 only-joined (finish ∷ a) b p q = absurd p

@@ -3,17 +3,20 @@ use Prim.Native.Nat.{ℕ, _+_, _≤_, _<_}
 use mathlib.Core.Path.{_≡_}
 use mathlib.Core.Logic.{_≢_}
 use mathlib.Core.Bool.{true}
-use mathlib.Core.List.{List, [], _∷_}
+use mathlib.Core.List.{List, [], _∷_, _++_}
 use lib.ListN.{length, getD, take, drop}
 use Rattle.base.specs.Runs.{Run}
 use Rattle.base.specs.Rows.{row}
 use Rattle.base.specs.Keys.{among}
 use Rattle.frame.specs.State.{State, stateOf}
-use Rattle.frame.specs.Calls.{feedOf}
+use Rattle.frame.specs.Wire.{widest}
+use Rattle.frame.specs.Calls.{freshOf, feedOf}
+use Rattle.frame.specs.Decisions.{Decision}
 use Rattle.frame.specs.LogsComputed.{logOf, stateAfter, offer}
-use Rattle.frame.specs.Logs.{stream}
+use Rattle.frame.specs.Logs.{Call, stream, decisionsOf}
 use Rattle.listing.specs.Table.{stopOf}
-use Rattle.listing.specs.CallTexts.{feedText}
+use Rattle.listing.specs.CallTexts.{feedText, OnlyFeed}
+use Rattle.listing.specs.Listing.{decisionsText}
 use Rattle.listing.specs.Feeding.{listOf, leftOf}
 use Rattle.listing.specs.declared.feeding.Listed.{Listed}
 use Rattle.listing.specs.declared.feeding.Stop.the-variants as stop
@@ -72,3 +75,23 @@ LoopProgress =
     → 1 ≤ length bytes → length prefix + 132 ≤ room
     → listOf limit prefix r bytes room .stop ≢ 17 → listOf limit prefix r bytes room .stop ≢ 18
     → 1 ≤ listOf limit prefix r bytes room .used
+
+-- ---- run-adds: after any feeds of a fresh reader, a run makes the lines of the decisions that the bytes used add
+
+-- the feeds of the run, which follow others, and the decisions that they add to those before
+pub record RunAdds (prefix : List ℕ) (limit : ℕ) (calls : List Call) (bytes : List ℕ) (run : Run State) : Type 0 where
+  pub more : List Call
+  pub only-feed : OnlyFeed (calls ++ more)
+  pub new : List Decision
+  pub state-is : stateAfter limit (freshOf limit) (calls ++ more) ≡ run .state
+  pub stream-is : stream (logOf limit (freshOf limit) (calls ++ more))
+      ≡ stream (logOf limit (freshOf limit) calls) ++ take (run .used) bytes
+  pub decisions-are : decisionsOf (logOf limit (freshOf limit) (calls ++ more))
+      ≡ decisionsOf (logOf limit (freshOf limit) calls) ++ new
+  pub text-is : run .text ≡ decisionsText prefix new
+
+-- of any bytes and room
+abbrev pub RunsAdd : Type 0
+RunsAdd =
+    (prefix : List ℕ) (limit : ℕ) → limit ≤ widest → (calls : List Call) → OnlyFeed calls → (bytes : List ℕ) (room : ℕ)
+    → RunAdds prefix limit calls bytes (listOf limit prefix (stateAfter limit (freshOf limit) calls) bytes room)

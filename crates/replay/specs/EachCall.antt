@@ -1,0 +1,132 @@
+-- Claims: what each call answers and leaves, and exactly when. PROTOCOL 14.4 to 14.8.
+use Prim.Native.Nat.{ℕ, _+_, _≤_, _<_}
+use mathlib.Core.Path.{_≡_}
+use mathlib.Core.Logic.{_≢_, _⊎_}
+use mathlib.Core.Bool.{true}
+use mathlib.Core.List.{List, [], _∷_, _++_}
+use lib.ListN.{length, getD, take, drop}
+use Rattle.base.specs.Keys.{among}
+use Rattle.base.specs.Rows.{row}
+use Rattle.base.specs.Outcomes.{output}
+use Rattle.base.specs.Runs.{Run, stopped}
+use Rattle.frame.specs.Wire.{frameLimit}
+use Rattle.frame.specs.Ranges.{OutOfRange as ReaderOut}
+use Rattle.frame.specs.State.{stateOf as readerStateOf}
+use Rattle.listing.specs.Lines.{ascii, refusalText}
+use Rattle.capture.specs.EachCall.{OutOfRange as CursorOut}
+use Rattle.capture.specs.Reading.{nextOf, endOf}
+use Rattle.replay.specs.Lines.{replayHeading, prefixOf}
+use Rattle.replay.specs.State.{State, stateOf, freshOf}
+use Rattle.replay.specs.Table.{stopOf, closingRowOf}
+use Rattle.replay.specs.Playing.{playOf, leftOf}
+use Rattle.replay.specs.Closing.{endLines, closeOf}
+use Rattle.replay.specs.Window.{keptOf}
+use Rattle.replay.specs.declared.closing.ClosingResult.{ClosingResult}
+use Rattle.replay.specs.declared.playing.Played.{Played}
+use Rattle.replay.specs.declared.state.Replay.{Replay}
+use Rattle.replay.specs.declared.steps.Stop.the-variants as stop
+use Rattle.capture.specs.declared.reading.Refusal.the-variants as refusal
+
+-- ---- texts-spelled: the heading, and what stands before a line's word: PROTOCOL 14.2
+pub record TextsSpelled : Type 0 where
+  pub heading : replayHeading ≡ ascii "dir kind start end cmd sn flags payload\n"
+  pub from-module : prefixOf 0 ≡ ascii "0 "
+  pub from-box : prefixOf 1 ≡ ascii "1 "
+
+-- ---- states-injective: the specification's state says all of the code's record
+abbrev pub StatesInjective : Type 0
+StatesInjective = (a b : Replay) → stateOf a ≡ stateOf b → a ≡ b
+
+-- ---- rows-injective: two answers of finish never have the same number and values
+abbrev pub RowsInjective : Type 0
+RowsInjective = (a b : ClosingResult) → closingRowOf a ≡ closingRowOf b → a ≡ b
+
+-- ---- stop-numbers: the number of each stop: PROTOCOL 14.4
+pub record StopNumbers : Type 0 where
+  pub done : stopOf stop.Done ≡ 0
+  pub room : stopOf stop.Room ≡ 22
+  pub state : stopOf stop.State ≡ 17
+  pub used : stopOf stop.Used ≡ 18
+  pub mark : stopOf (stop.Refused refusal.Mark) ≡ 51
+  pub version : stopOf (stop.Refused refusal.Version) ≡ 52
+  pub direction : stopOf (stop.Refused refusal.Direction) ≡ 53
+  pub ended : stopOf (stop.Refused refusal.Ended) ≡ 54
+
+-- ---- left-fields: what the contract's equation says of each field that the code returns
+pub record LeftFields (l : Played) (after : List ℕ) : Type 0 where
+  pub state : leftOf l after .state ≡ stateOf (l .replay)
+  pub used : leftOf l after .used ≡ l .used
+  pub written : leftOf l after .written ≡ l .written
+  pub stop : leftOf l after .stop ≡ stopOf (l .stop)
+  pub out : leftOf l after .out ≡ after
+
+-- of everything that it may return
+abbrev pub LeftFieldsAlways : Type 0
+LeftFieldsAlways = (l : Played) (after : List ℕ) → LeftFields l after
+
+-- ---- replay-ranges: STATE exactly when the cursor or a reader is out of range, before all others, and nothing changes
+abbrev pub OutOfRange : State → Type 0
+OutOfRange s = CursorOut (s .place) ⊎ (ReaderOut (s .reader0) ⊎ ReaderOut (s .reader1))
+
+-- of both calls
+pub record ReplayRange (s : State) (b out : List ℕ) (room : ℕ) : Type 0 where
+  pub played : OutOfRange s → playOf frameLimit s b room ≡ stopped s 17
+  pub played-only : (OutOfRange s → ⊥) → playOf frameLimit s b room .stop ≢ 17
+  pub closed : OutOfRange s → closeOf frameLimit s b out ≡ output (row 17 (0 ∷ [])) out
+  pub closed-only : (OutOfRange s → ⊥) → closeOf frameLimit s b out .row .number ≢ 17
+
+-- of all states
+abbrev pub ReplayRanges : Type 0
+ReplayRanges = (s : State) (b out : List ℕ) (room : ℕ) → ReplayRange s b out room
+
+-- ---- play-stops: one call of `play`: how far it comes, and what each stop says
+pub record PlayStops (s : State) (b : List ℕ) (room : ℕ) (run : Run State) : Type 0 where
+  pub within : run .used ≤ length b
+  pub moves : run .state .place ≡ s .place + run .used
+  pub stops : among (run .stop) (0 ∷ 17 ∷ 18 ∷ 22 ∷ 51 ∷ 52 ∷ 53 ∷ []) ≡ true
+  -- nothing more can be taken from the window: every complete record in it is listed
+  pub done : run .stop ≡ 0 → nextOf (run .state .place) (drop (run .used) b) .row ≡ row 0 (0 ∷ [])
+  -- a record is there that is not listed to its end, and less room is left than a line may need
+  pub room-left : run .stop ≡ 22
+      → (nextOf (run .state .place) (drop (run .used) b) .row .number ≡ 1) × (room < length (run .text) + 134)
+  pub refused : 50 < run .stop → nextOf (run .state .place) (drop (run .used) b) .row ≡ row (run .stop)
+      (getD (nextOf (run .state .place) (drop (run .used) b) .row .values) 0 0 ∷ [])
+
+-- of all states, windows and rooms
+abbrev pub PlayStopsAlways : Type 0
+PlayStopsAlways =
+    (limit : ℕ) (s : State) (b : List ℕ) (room : ℕ) → PlayStops s b room (playOf limit s b room)
+
+-- ---- closes-exactly: what `finish` answers and leaves, by the capture's end: PROTOCOL 14.5
+pub record ClosesExactly (s : State) (b out : List ℕ) : Type 0 where
+  -- both end lines, at the front of the buffer, whose rest stays
+  pub whole : (place : ℕ) → endOf (s .place) b ≡ row 2 (place ∷ []) → length (endLines frameLimit s) ≤ length out
+      → closeOf frameLimit s b out ≡ output (row 2 (length (endLines frameLimit s) ∷ []))
+      (endLines frameLimit s ++ drop (length (endLines frameLimit s)) out)
+  pub whole-room : (place : ℕ) → endOf (s .place) b ≡ row 2 (place ∷ []) → length out < length (endLines frameLimit s)
+      → closeOf frameLimit s b out ≡ output (row 22 (0 ∷ [])) out
+  -- the line of the refusal
+  pub refused : (number place : ℕ) → endOf (s .place) b ≡ row number (place ∷ []) → 50 < number
+      → length (refusalText number place) ≤ length out
+      → closeOf frameLimit s b out ≡ output (row number (length (refusalText number place) ∷ place ∷ []))
+      (refusalText number place ++ drop (length (refusalText number place)) out)
+  pub refused-room : (number place : ℕ) → endOf (s .place) b ≡ row number (place ∷ []) → 50 < number
+      → length out < length (refusalText number place) → closeOf frameLimit s b out ≡ output (row 22 (0 ∷ [])) out
+  -- something is left to play, or more than 2^62 bytes came
+  pub more : endOf (s .place) b ≡ row 0 (0 ∷ []) → closeOf frameLimit s b out ≡ output (row 0 (0 ∷ [])) out
+  pub used : endOf (s .place) b ≡ row 18 (0 ∷ []) → closeOf frameLimit s b out ≡ output (row 18 (0 ∷ [])) out
+
+-- of every replay in range
+abbrev pub ClosesExactlyAlways : Type 0
+ClosesExactlyAlways = (s : State) (b out : List ℕ) → (OutOfRange s → ⊥) → ClosesExactly s b out
+
+-- ---- keeps-exactly: the bytes kept, one by one: PROTOCOL 14.7
+pub record KeepsExactly (start end : ℕ) (b : List ℕ) : Type 0 where
+  pub count : start ≤ end → end ≤ length b → length (keptOf start end b) + start ≡ end
+  pub none : end ≤ start → keptOf start end b ≡ []
+  pub each : (i : ℕ) → start + i < end → end ≤ length b → getD (keptOf start end b) i 0 ≡ getD b (start + i) 0
+  pub beyond : length b ≤ end → keptOf start end b ≡ drop start b
+
+-- of all places and buffers
+abbrev pub KeepsExactlyAlways : Type 0
+KeepsExactlyAlways = (start end : ℕ) (b : List ℕ) → KeepsExactly start end b

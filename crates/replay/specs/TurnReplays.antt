@@ -1,0 +1,46 @@
+-- Claims: the capture's bytes alone decide the text, however windows and rooms cut it. PROTOCOL 14.1 to 14.6.
+use Prim.Native.Nat.{ℕ, _+_, _≤_, _<_}
+use mathlib.Core.Path.{_≡_}
+use mathlib.Core.Logic.{_≢_}
+use mathlib.Core.List.{List, _++_}
+use lib.ListN.{length}
+use Rattle.frame.specs.Wire.{widest}
+use Rattle.replay.specs.State.{State, freshOf}
+use Rattle.replay.specs.Playing.{playOf}
+use Rattle.replay.specs.Replays.{IsReplay}
+use Rattle.replay.specs.Turns.{Turn, stateBy, leftBy, AreWindows, Finishes, writtenBy}
+
+-- ---- turns-replay: from a fresh replay, any turns on a capture of up to 2^62 bytes, and then finish, write its replay
+abbrev pub TurnsReplay : Type 0
+TurnsReplay =
+    (limit : ℕ) → limit ≤ widest → (capture : List ℕ) → length capture ≤ 4611686018427387904 → (turns : List Turn)
+    → AreWindows limit (freshOf limit) capture turns
+    → (w : List ℕ) → Finishes (stateBy limit (freshOf limit) turns) (leftBy limit (freshOf limit) capture turns) w
+    → IsReplay limit capture (writtenBy limit (freshOf limit) turns w)
+
+-- ---- one-replay: a capture has one replay
+abbrev pub OneReplay : Type 0
+OneReplay =
+    (limit : ℕ) (capture a b : List ℕ) → limit ≤ widest → IsReplay limit capture a → IsReplay limit capture b → a ≡ b
+
+-- ---- any-turns: the same capture has the same text, however it is cut
+abbrev pub AnyTurns : Type 0
+AnyTurns =
+    (limit : ℕ) → limit ≤ widest → (capture : List ℕ) → length capture ≤ 4611686018427387904 → (a b : List Turn)
+    → AreWindows limit (freshOf limit) capture a → AreWindows limit (freshOf limit) capture b
+    → (v w : List ℕ) → Finishes (stateBy limit (freshOf limit) a) (leftBy limit (freshOf limit) capture a) v
+    → Finishes (stateBy limit (freshOf limit) b) (leftBy limit (freshOf limit) capture b) w
+    → writtenBy limit (freshOf limit) a v ≡ writtenBy limit (freshOf limit) b w
+
+-- ---- turns-stop: from a fresh replay no turn stops for STATE, and none for USED in a capture of up to 2^62 bytes
+pub record TurnStops (number : ℕ) : Type 0 where
+  pub never-state : number ≢ 17
+  pub never-used : number ≢ 18
+
+-- a turn after others
+abbrev pub TurnsStop : Type 0
+TurnsStop =
+    (limit : ℕ) → limit ≤ widest → (capture : List ℕ) → length capture ≤ 4611686018427387904 → (turns : List Turn)
+    → AreWindows limit (freshOf limit) capture turns
+    → (w rest : List ℕ) → leftBy limit (freshOf limit) capture turns ≡ w ++ rest → (room : ℕ)
+    → TurnStops (playOf limit (stateBy limit (freshOf limit) turns) w room .stop)

@@ -1,0 +1,101 @@
+// The end of a replay: both end lines, or the line of the refusal. PROTOCOL 14.3, 14.5.
+use super::state::Replay;
+use super::state::in_range;
+use capture::EndResult;
+use capture::Refusal;
+use listing::LineResult;
+ghost use mathlib.Core.Path.{_≡_};
+ghost use mathlib.Core.List.{[], _∷_, _++_};
+ghost use Prim.Native.Nat.{_≤_};
+ghost use lib.ListN.{length, take};
+ghost use Rattle.base.specs.Rows.{row};
+ghost use Rattle.frame.specs.Wire.{frameLimit};
+ghost use Rattle.listing.specs.Lines.{refusalText};
+ghost use Rattle.capture.specs.Table.{refusalNumber};
+ghost use Rattle.replay.specs.State.{stateOf};
+ghost use Rattle.replay.specs.Closing.{endLines, closed, closeOf, Closes};
+
+// The answers to `finish`: PROTOCOL 14.5. MORE says that `play` has something to list.
+pub enum ClosingResult {
+    More,
+    Whole {
+        count: usize,
+    },
+    Refused {
+        count: usize,
+        refusal: Refusal,
+        place: u64,
+    },
+    Room,
+    State,
+    Used,
+}
+
+// Both texts at the front of the buffer, or none.
+fn put_lines(first: &[u8], second: &[u8], out: &mut [u8]) -> ClosingResult
+    requires { ⌜ (length (now first) ≤ 160) × (length (now second) ≤ 160) ⌝ }
+    ensures { λ r. ⌜ Closes r (now (out .exit))
+        (closed (row 2 (0 ∷ [])) (now (first .entry) ++ now (second .entry)) (now (out .entry))) ⌝ }
+{
+    if out.len() < first.len() + second.len() {
+        return ClosingResult::Room;
+    }
+    let at = base::put_bytes(out, 0, first);
+    ClosingResult::Whole {
+        count: base::put_bytes(out, at, second),
+    }
+}
+
+// The end lines, of the module's bytes and then of the box's.
+fn put_ends(replay: Replay, out: &mut [u8]) -> ClosingResult
+    ensures { λ r. ⌜ Closes r (now (out .exit))
+        (closed (row 2 (0 ∷ [])) (endLines frameLimit (stateOf replay)) (now (out .entry))) ⌝ }
+{
+    let from_module = replay.from_module;
+    let from_box = replay.from_box;
+    let first = frame::finish(from_module).answer;
+    let second = frame::finish(from_box).answer;
+    let mut line0 = [0; 160];
+    let mut line1 = [0; 160];
+    let count0 = listing::last(first, b"0 ", &mut line0).count();
+    let count1 = listing::last(second, b"1 ", &mut line1).count();
+    put_lines(
+        base::part(&line0, 0, count0),
+        base::part(&line1, 0, count1),
+        out,
+    )
+}
+
+// The line of a refusal.
+fn put_refusal(refusal: Refusal, place: u64, out: &mut [u8]) -> ClosingResult
+    ensures { λ r. ⌜ Closes r (now (out .exit)) (closed (row (refusalNumber refusal) (place ∷ []))
+        (refusalText (refusalNumber refusal) place) (now (out .entry))) ⌝ }
+{
+    match listing::refusal(refusal.number() as u64, place, out) {
+        LineResult::Wrote { count } => ClosingResult::Refused {
+            count,
+            refusal,
+            place,
+        },
+        LineResult::Room => ClosingResult::Room,
+    }
+}
+
+// Puts the text that ends the replay of a capture of which these bytes are all that is left; after a refusal, of which
+// they are the front.
+pub fn finish(replay: Replay, bytes: &[u8], out: &mut [u8]) -> ClosingResult
+    ensures { λ r. ⌜ Closes r (now (out .exit))
+        (closeOf frameLimit (stateOf replay) (now (bytes .entry)) (now (out .entry))) ⌝ }
+{
+    if !in_range(replay) {
+        return ClosingResult::State;
+    }
+    let end = capture::finish(replay.cursor, bytes);
+    match end {
+        EndResult::More => ClosingResult::More,
+        EndResult::Whole { place: _ } => put_ends(replay, out),
+        EndResult::Refused { refusal, place } => put_refusal(refusal, place, out),
+        EndResult::State => ClosingResult::State,
+        EndResult::Used => ClosingResult::Used,
+    }
+}
