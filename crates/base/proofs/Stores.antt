@@ -8,6 +8,8 @@ use native.Mathlib.Omega.{arith}
 use lib.ListN.{length, getD, drop, set, length-append, drop-of-length-le}
 use lib.Seq.{sets, sets-eq, drop-cons}
 use borrow.Author.Tests.{lt-ltb, le-ltb}
+use Rattle.base.specs.Rows.{row}
+use Rattle.base.specs.Outcomes.{output, placed}
 use Rattle.base.specs.Stores.{PutAt, fitting}
 
 pub sets-append : (vs ws l : List ℕ) (i : ℕ) → sets l i (vs ++ ws) ≡ sets (sets l i vs) (i + length vs) ws
@@ -51,3 +53,15 @@ module _ (out : List ℕ) (at : ℕ) (bytes : List ℕ) where
 
     pub put-fitting : PutAt out at (fitting out at bytes) next after → PutAt out at bytes next after
     put-fitting put = rw (le-ltb (length out) (at + length bytes) h) at put
+
+-- ---- bytes at the front of a buffer, or ROOM
+
+module _ (bytes out : List ℕ) where
+  pub not-placed : length out < length bytes → output (row 22 (0 ∷ [])) out ≡ placed bytes out
+  not-placed h = rw (lt-ltb (length out) (length bytes) h)
+
+  pub put-placed : length bytes ≤ length out → {next : ℕ} {after : List ℕ}
+      → PutAt out 0 bytes next after → output (row 0 (next ∷ [])) after ≡ placed bytes out
+  put-placed h {next} put =
+      let count : next ≡ length bytes = omega arith in
+      rw (le-ltb (length out) (length bytes) h, count, put .1, sets-front bytes out h)

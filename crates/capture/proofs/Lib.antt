@@ -1,1 +1,2 @@
 -- The laws; each file of claims in specs/ has its theorems in the file of its name here.
+pub mod ReadingLaws
