@@ -1,21 +1,24 @@
 -- Laws of the model of reading: bytes as wanted, records by their first byte, and rows at the end. Assumes nothing.
-use Prim.Native.Nat.{ℕ, _+_, _≤_, _<_, min}
+use Prim.Native.Nat.{ℕ, _+_, _^_, _≤_, _<_, min}
 use mathlib.Core.Bool.{true, false, _&&_}
-use mathlib.Core.Path.{_≡_, refl, _∙_}
+use mathlib.Core.Path.{_≡_, refl, sym, ap, _∙_}
 use mathlib.Core.List.{List, [], _∷_}
 use native.Mathlib.Numerals.{add-one}
 use native.Mathlib.Omega.{arith, min-cases}
 use lib.ListN.{length, getD, drop, drop-of-length-le}
-use lib.Dec.{eqb}
+use lib.Dec.{eqb, leb}
 use lib.Seq.{drop-cons}
-use borrow.Author.Tests.{eq-eqb, ne-eqb, le-ltb, lt-ltb}
+use borrow.Author.Tests.{eqb-true, leb-true, eq-eqb, ne-eqb, le-ltb, lt-ltb}
 use Rattle.base.specs.Rows.{row}
 use Rattle.base.specs.Outcomes.{Outcome, outcome}
+use Rattle.base.proofs.Tests.{either-way, both}
 use Rattle.capture.specs.Format.{directionOf}
-use Rattle.capture.specs.Reading.{agrees, recordIn, recordOf, endIn}
-use Rattle.capture.specs.Table.{refusalNumber}
+use Rattle.capture.specs.Reading.{agrees, inRangeOf, recordIn, recordOf, nextOf, endIn, endOf}
+use Rattle.capture.specs.Table.{refusalNumber, nextRowOf, takenOf}
+use Rattle.capture.specs.declared.reading.NextResult.{NextResult}
 use Rattle.capture.specs.declared.reading.Refusal.{Refusal}
 use Rattle.capture.specs.declared.reading.Refusal.the-variants as refusal
+use Rattle.capture.specs.declared.reading.Taken.{Taken}
 
 -- ---- bytes as wanted
 
@@ -51,6 +54,14 @@ module _ (w b : List ℕ) (i : ℕ) where
     pub agrees-not : (getD w i 0 ≡ getD b i 0 → ⊥) → agrees (drop i w) (drop i b) ≡ false
     agrees-not n = agrees-at ∙ rw (ne-eqb (getD w i 0) (getD b i 0) n)
 
+-- ---- the range of a place
+
+pub range-max : (place : ℕ) → inRangeOf place ≡ true → place ≤ 2 ^ 62
+range-max place e =
+    either-way (eqb place 0)
+    (λ t. omega (arith, eqb-true place 0 t))
+    (λ t. omega (arith, leb-true place (2 ^ 62) (both (leb 5 place) (rw t at e) .1)))
+
 -- ---- a record by its first byte
 
 module _ (place : ℕ) (b : List ℕ) where
@@ -69,3 +80,10 @@ end-refused refusal.Mark at place b = refl
 end-refused refusal.Version at place b = refl
 end-refused refusal.Direction at place b = refl
 end-refused refusal.Ended at place b = refl
+
+-- the answer of `finish` goes by that of `next`
+pub end-by : (place : ℕ) (b : List ℕ) (t : Taken) {n : NextResult}
+    → takenOf t ≡ nextOf place b → t .answer ≡ n → endIn (nextRowOf n) place b ≡ endOf place b
+end-by place b t next told =
+    ap (λ (n : NextResult). endIn (nextRowOf n) place b) (sym told)
+    ∙ ap (λ (o : Outcome ℕ). endIn (o .row) place b) next
