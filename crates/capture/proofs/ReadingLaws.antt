@@ -22,7 +22,7 @@ use Rattle.capture.specs.declared.reading.Taken.{Taken}
 
 -- ---- bytes as wanted
 
--- no bytes are as wanted
+-- where there are none, none is wrong
 pub agrees-none : (w : List ℕ) → agrees w [] ≡ true
 unfolding agrees
 agrees-none [] = refl

@@ -7,10 +7,10 @@ use native.Mathlib.Numerals.{add-one}
 use native.Mathlib.Omega.{arith}
 use lib.ListN.{length, getD, take, drop, set, length-append, length-drop, drop-of-length-le}
 use lib.Seq.{drop-cons, drop-drop, sets, sets-eq, set-comm, take-all}
-use borrow.Author.Tests.{lt-ltb, le-ltb}
+use borrow.Author.Tests.{le-ltb}
 use Rattle.base.specs.Rows.{Row, row}
 use Rattle.base.specs.Outcomes.{Output, output, placed, writtenIn}
-use Rattle.base.proofs.Stores.{sets-append, sets-front}
+use Rattle.base.proofs.Stores.{sets-append, put-placed}
 use Rattle.listing.specs.Digits.{digit, decimalOf}
 use Rattle.listing.specs.Lines.{columnsOf}
 use Rattle.listing.proofs.Digits.{decimal-last, decimal-more, count-last, count-more}
@@ -41,15 +41,8 @@ module _ (out : List ℕ) (at n i : ℕ) (e : i + 1 ≡ at + length (decimalOf n
 
 -- ---- a text at the front of a buffer
 
-module _ (text out : List ℕ) where
-  pub too-long : length out < length text → output (row 22 (0 ∷ [])) out ≡ placed text out
-  too-long h = rw (lt-ltb (length out) (length text) h)
-
-  pub fitting : length text ≤ length out → output (row 0 (length text ∷ [])) (sets out 0 text) ≡ placed text out
-  fitting h = rw (le-ltb (length out) (length text) h, sets-front text out h)
-
 pub nothing-put : (out : List ℕ) → output (row 0 (0 ∷ [])) out ≡ placed [] out
-nothing-put out = fitting [] out (omega arith)
+nothing-put out = put-placed [] out (omega arith) (refl, refl)
 
 -- ---- a text put in the part of a buffer that begins at a place: `after` is that part then
 

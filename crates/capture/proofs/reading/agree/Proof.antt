@@ -7,9 +7,6 @@ use Rattle.capture.specs.Reading.{agrees}
 use Rattle.capture.proofs.ReadingLaws.{agrees-end, agrees-next, agrees-not}
 use Rattle.capture.proofs.reading.agree.Statement.{statement}
 use Rattle.capture.proofs.reading.agree.Tie as tie
-use Rattle.capture.proofs.reading.agree.Reads as reads
-use Rattle.capture.proofs.reading.agree.Lts as lts
-use Rattle.base.proofs.min.Reads as min-reads
 
 abbrev Inv-loop : tie.InvT-loop
 Inv-loop wanted bytes count i₀ i = (i ≤ count) × (agrees wanted bytes ≡ agrees (drop i wanted) (drop i bytes))
@@ -48,7 +45,7 @@ loop-again c =
     let args = c .before .before .before .before .before .before .before .before .args in (
       omega arith,
       loop .inv .1
-      ∙ agrees-next (args .wanted .now) (args .bytes .now) (loop .i) (omega arith) (c .if1 .left),
+          ∙ agrees-next (args .wanted .now) (args .bytes .now) (loop .i) (omega arith) (c .if1 .left),
     )
 
 returns-2 : tie.Need-returns-2 Inv-loop μ-loop

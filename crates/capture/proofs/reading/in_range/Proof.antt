@@ -1,5 +1,4 @@
 -- `reading::in_range` tests the beginning, and the range after the head.
-use borrow.Author.Needs.{needs}
 use Rattle.base.proofs.Tests.{tests}
 use Rattle.capture.proofs.reading.in_range.Statement.{statement}
 use Rattle.capture.proofs.reading.in_range.Tie as tie

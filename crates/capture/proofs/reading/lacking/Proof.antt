@@ -1,5 +1,4 @@
 -- `reading::lacking` names what is lacking, by the place and the bytes that are there.
-use borrow.Author.Needs.{needs}
 use Rattle.base.proofs.Tests.{tests}
 use Rattle.capture.proofs.reading.lacking.Statement.{statement}
 use Rattle.capture.proofs.reading.lacking.Tie as tie

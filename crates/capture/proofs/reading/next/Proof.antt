@@ -1,5 +1,5 @@
 -- `reading::next` refuses the cursor or the length, and then takes the head or a record.
-use Prim.Native.Nat.{_+_, _^_, _<_, _≤_}
+use Prim.Native.Nat.{_+_, _^_, _≤_}
 use mathlib.Core.Bool.{true}
 use mathlib.Core.Path.{_≡_, _∙_}
 use native.Mathlib.Omega.{arith}
@@ -11,11 +11,6 @@ use Rattle.capture.specs.Reading.{inRangeOf}
 use Rattle.capture.proofs.ReadingLaws.{range-max}
 use Rattle.capture.proofs.reading.next.Statement.{statement}
 use Rattle.capture.proofs.reading.next.Tie as tie
-use Rattle.capture.proofs.reading.next.Reads as reads
-use Rattle.capture.proofs.reading.next.Lts as lts
-use Rattle.capture.proofs.reading.in_range.Reads as in-range-reads
-use Rattle.capture.proofs.reading.next_head.Reads as next-head-reads
-use Rattle.capture.proofs.reading.next_record.Reads as next-record-reads
 
 -- the cursor is in range
 module _ (c : tie.Else1) where

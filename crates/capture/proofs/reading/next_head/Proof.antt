@@ -1,17 +1,10 @@
 -- `reading::next_head` tests the mark, the whole head, and that all of it is there.
-use mathlib.Core.Path.{_≡_, sym}
-use mathlib.Core.Bool.{true}
 use borrow.Author.Needs.{needs}
 use borrow.Author.Tests.{lt-ltb, le-ltb}
 use lib.ListN.{length}
 use Rattle.base.proofs.Tests.{past, caught}
-use Rattle.capture.specs.Format.{mark, head}
-use Rattle.capture.specs.Reading.{agrees}
 use Rattle.capture.proofs.reading.next_head.Statement.{statement}
 use Rattle.capture.proofs.reading.next_head.Tie as tie
-use Rattle.capture.proofs.reading.next_head.Reads as reads
-use Rattle.capture.proofs.reading.next_head.Lts as lts
-use Rattle.capture.proofs.reading.agree.Reads as agree-reads
 
 returns : tie.Need-returns
 returns c = rw (caught (c .before .agree .ensures) (c .if1 .taken))

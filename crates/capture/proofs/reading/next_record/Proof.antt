@@ -1,5 +1,5 @@
 -- `reading::next_record` tests the first byte: each of the two directions, and no other.
-use mathlib.Core.Path.{_≡_, sym, _∙_}
+use mathlib.Core.Path.{sym, _∙_}
 use native.Mathlib.Omega.{arith}
 use borrow.Author.Needs.{needs}
 use Rattle.capture.proofs.ReadingLaws.{record-from, record-not}

@@ -1,5 +1,4 @@
 -- `reading::take_record` takes a record when as many bytes are there as its size.
-use mathlib.Core.Path.{_≡_}
 use native.Mathlib.Omega.{arith}
 use lib.ListN.{length}
 use borrow.Author.Needs.{needs}
@@ -7,10 +6,6 @@ use borrow.Author.Tests.{lt-ltb, le-ltb}
 use Rattle.capture.specs.Format.{sizeOf}
 use Rattle.capture.proofs.reading.take_record.Statement.{statement}
 use Rattle.capture.proofs.reading.take_record.Tie as tie
-use Rattle.capture.proofs.reading.take_record.Reads as reads
-use Rattle.capture.proofs.reading.take_record.Lts as lts
-use Rattle.base.proofs.four_at.Reads as four-at-reads
-use Rattle.capture.proofs.record.size.Reads as size-reads
 
 returns : tie.Need-returns
 returns c =

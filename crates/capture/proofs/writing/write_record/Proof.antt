@@ -1,19 +1,10 @@
 -- `writing::write_record` refuses what its count cannot say, and puts the seven bytes and the payload.
-use Prim.Native.Nat.{ℕ}
-use mathlib.Core.Path.{_≡_, _∙_}
-use mathlib.Core.List.{List}
-use native.Mathlib.Omega.{arith}
+use mathlib.Core.Path.{_∙_}
 use borrow.Author.Needs.{needs}
 use borrow.Author.Tests.{lt-ltb, le-ltb}
 use lib.ListN.{length}
 use Rattle.capture.proofs.writing.write_record.Statement.{statement}
 use Rattle.capture.proofs.writing.write_record.Tie as tie
-use Rattle.capture.proofs.writing.write_record.Reads as reads
-use Rattle.capture.proofs.writing.write_record.Lts as lts
-use Rattle.base.proofs.four_bytes.Reads as four-bytes-reads
-use Rattle.base.proofs.two_bytes.Reads as two-bytes-reads
-use Rattle.capture.proofs.record.direction_byte.Reads as direction-byte-reads
-use Rattle.capture.proofs.writing.put_both.Reads as put-both-reads
 
 returns : tie.Need-returns
 returns c = rw (lt-ltb 65535 (length (c .before .before .before .args .payload .now)) (c .if1 .taken))

@@ -7,9 +7,8 @@ use native.Mathlib.Omega.{arith}
 use borrow.Author.Needs.{needs}
 use lib.ListN.{length, length-append}
 use lib.Seq.{sets}
-use Rattle.base.proofs.Stores.{sets-append}
+use Rattle.base.proofs.Stores.{sets-append, not-placed, put-placed}
 use Rattle.listing.specs.Lines.{columnsOf, textOf}
-use Rattle.listing.proofs.Puts.{too-long, fitting}
 use Rattle.listing.proofs.text.put_line.Statement.{statement}
 use Rattle.listing.proofs.text.put_line.Tie as tie
 
@@ -24,7 +23,7 @@ module _ (c : tie.Start) where
 returns : tie.Need-returns
 returns c =
     let s = c .before .before .before .before .before .before .before in
-    (too-long (text s) (s .args .out .now) (omega (arith, text-length s)), omega (arith, text-length s))
+    (not-placed (text s) (s .args .out .now) (omega (arith, text-length s)), omega (arith, text-length s))
 
 returns-2 : tie.Need-returns-2
 returns-2 c =
@@ -35,7 +34,7 @@ returns-2 c =
     let first = second .before .before .before .before in
     let s = first .before .before .before .before .before .before .before .before .before in
     let fits : length (text s) ≤ length (s .args .out .now) = omega (arith, text-length s) in
-    let count : c .before .before .put-bytes3 .result ≡ length (text s) = omega (arith, text-length s) in
+    let count : c .before .before .put-bytes3 .result ≡ 0 + length (text s) = omega (arith, text-length s) in
     let whole : c .before .before .put-bytes3 .last .0 ≡ sets (s .args .out .now) 0 (text s) =
     rw (
       last .1,
@@ -46,7 +45,7 @@ returns-2 c =
       first .put-bytes .ensures .0,
       first .put-bytes .ensures .1,
     ) (simp sets-append) in
-    (rw (count, whole) (fitting (text s) (s .args .out .now) fits), omega (arith, text-length s))
+    (put-placed (text s) (s .args .out .now) fits (count, whole), omega (arith, text-length s))
 
 pub put-line-spec : {M : Type 1} → statement M
 put-line-spec =
