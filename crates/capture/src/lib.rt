@@ -1,4 +1,4 @@
-// Captures: a recording of a bench in both directions, read from bytes that come in any pieces, and written. PROTOCOL 13.
+// Captures: a bench recorded in both directions, read from bytes that come in any pieces, and written. PROTOCOL 13.
 mod reading;
 mod record;
 mod writing;

@@ -17,7 +17,8 @@ const MAX_PAYLOAD: usize = 65535;
 // Puts two pieces at the front of the buffer, one after the other, or refuses and leaves the buffer as it was.
 fn put_both(first: &[u8], second: &[u8], out: &mut [u8]) -> WriteResult
     requires { ⌜ (length (now first) ≤ 7) × (length (now second) ≤ 65535) ⌝ }
-    ensures { λ r. ⌜ Writes r (now (out .exit)) (placed (now (first .entry) ++ now (second .entry)) (now (out .entry))) ⌝ }
+    ensures { λ r. ⌜ Writes r (now (out .exit))
+        (placed (now (first .entry) ++ now (second .entry)) (now (out .entry))) ⌝ }
 {
     if out.len() < first.len() + second.len() {
         return WriteResult::Room;
