@@ -3,11 +3,11 @@ use Prim.Native.Nat.{ℕ}
 use mathlib.Core.Path.{_≡_, refl, sym, ap, _∙_}
 use mathlib.Core.Bool.{Bool, true, false, cond}
 use mathlib.Core.List.{List, [], _∷_, _++_, append-assoc}
-use Rattle.base.specs.Outcomes.{Outcome}
+use lib.ListN.{take}
 use Rattle.base.specs.Runs.{Run}
 use Rattle.frame.specs.Calls.{freshOf}
 use Rattle.frame.specs.Decisions.{Decision}
-use Rattle.frame.specs.Logs.{Call, Entry, stream, decided, decisionIn, decisionsOf}
+use Rattle.frame.specs.Logs.{Call, Entry, offered, consumedIn, stream, decided, decisionIn, decisionsOf}
 use Rattle.frame.specs.LogsComputed.{callOf, entryOf, logOf, stateAfter, offer}
 use Rattle.frame.specs.State.{State}
 use Rattle.base.proofs.Lists.{append-cancel}
@@ -39,17 +39,20 @@ module _ (limit : ℕ) where
 stream-both : (a b : List Entry) → stream (a ++ b) ≡ stream a ++ stream b
 unfolding stream
 stream-both [] b = refl
-stream-both (e ∷ a) b = rw (stream-both a b) (sym (append-assoc _ (stream a) (stream b)))
+stream-both (e ∷ a) b =
+    rw (stream-both a b)
+    (sym (append-assoc (take (consumedIn e) (offered (e .call))) (stream a) (stream b)))
 
 decisions-both : (a b : List Entry) → decisionsOf (a ++ b) ≡ decisionsOf a ++ decisionsOf b
 unfolding decisionsOf
 decisions-both [] b = refl
-decisions-both (e ∷ a) b = go (decided (e .row .number)) (decisions-both a b)
+decisions-both (e ∷ a) b =
+    go (decided (e .row .number)) (decisionsOf (a ++ b)) (decisionsOf a) (decisionsOf b) (decisions-both a b)
   where
-    go : (t : Bool) {x y z : List Decision} → x ≡ y ++ z
+    go : (t : Bool) (x y z : List Decision) → x ≡ y ++ z
         → cond t (decisionIn e ∷ x) x ≡ cond t (decisionIn e ∷ y) y ++ z
-    go true h = ap (λ (l : List Decision). decisionIn e ∷ l) h
-    go false h = h
+    go true x y z h = ap (λ (l : List Decision). decisionIn e ∷ l) h
+    go false x y z h = h
 
 feed-text-both : (prefix : List ℕ) (a b : List Entry) → feedText prefix (a ++ b) ≡ feedText prefix a ++ feedText prefix b
 unfolding feedText

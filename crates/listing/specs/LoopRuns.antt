@@ -44,7 +44,8 @@ LeftFieldsAlways = (l : Listed) (after : List ℕ) → LeftFields l after
 -- their lines, none lost, none twice, in order, and the bytes used are those that they consumed
 
 -- a run is made by some number of feeds; and why it stopped
-pub record RunOfFeeds (limit : ℕ) (prefix : List ℕ) (r : State) (bytes : List ℕ) (room : ℕ) (run : Run State) : Type 0 where
+pub record RunOfFeeds (limit : ℕ) (prefix : List ℕ) (r : State) (bytes : List ℕ) (room : ℕ)
+    (run : Run State) : Type 0 where
   pub calls : ℕ
   pub text-is : run .text ≡ feedText prefix (logOf limit r (offer limit calls r bytes))
   pub state-is : run .state ≡ stateAfter limit r (offer limit calls r bytes)

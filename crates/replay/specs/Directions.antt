@@ -72,6 +72,6 @@ AllFramesPrinted =
 -- direction depend on its own joined bytes alone
 abbrev pub OtherDirection : Type 0
 OtherDirection =
-    (limit direction : ℕ) → limit ≤ widest → (a b : List (List ℕ)) (as bs : List Printed)
-    → AreLines limit [] a as → AreLines limit [] b bs → heardOf direction a ≡ heardOf direction b
-    → decisionsIn direction as ≡ decisionsIn direction bs
+    (limit direction : ℕ) → limit ≤ widest → (a b : List (List ℕ)) (p q : List Printed)
+    → AreLines limit [] a p → AreLines limit [] b q → heardOf direction a ≡ heardOf direction b
+    → decisionsIn direction p ≡ decisionsIn direction q

@@ -2,7 +2,7 @@
 use super::state::Replay;
 use super::state::in_range;
 use super::steps::Stop;
-use super::steps::step;
+use super::steps::play_one;
 use listing::LineResult;
 ghost use mathlib.Core.Path.{_≡_};
 ghost use lib.ListN.{length};
@@ -37,7 +37,7 @@ fn play_all(replay: Replay, bytes: &[u8], out: &mut [u8]) -> Played
     let mut used = 0;
     let mut written = 0;
     let stop = loop {
-        let done = step(next, &bytes[used..], &mut out[written..]);
+        let done = play_one(next, &bytes[used..], &mut out[written..]);
         next = done.replay;
         used += done.used;
         written += done.written;

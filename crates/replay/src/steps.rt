@@ -184,7 +184,7 @@ fn play_head(replay: Replay, count: usize, next: Cursor) -> Step
 }
 
 // One step, by what is at the front.
-pub(crate) fn step(replay: Replay, bytes: &[u8], out: &mut [u8]) -> Step
+pub(crate) fn play_one(replay: Replay, bytes: &[u8], out: &mut [u8]) -> Step
     ensures { λ r. ⌜ stepLeft r (now (out .exit)) ≡ leftBy (stepOf frameLimit (stateOf replay) (now (bytes .entry))
         (length (now (out .entry)))) (now (out .entry)) ⌝ }
 {
