@@ -3,10 +3,10 @@ use Prim.Native.Nat.{ℕ, _+_, _≤_, _<_}
 use mathlib.Core.Path.{_≡_}
 use mathlib.Core.Logic.{_≢_, _⊎_}
 use mathlib.Core.List.{List, [], _∷_, _++_}
-use lib.ListN.{length, getD, drop}
+use lib.ListN.{length, getD, take, drop}
 use Rattle.base.specs.Rows.{row}
 use Rattle.base.specs.Outcomes.{outcome, output}
-use Rattle.capture.specs.Format.{head, directionOf, millisecondsOf, IsRecord, recordBytes}
+use Rattle.capture.specs.Format.{head, directionOf, millisecondsOf, sizeOf, IsRecord, recordBytes}
 use Rattle.capture.specs.Format.{headWriteOf, recordWriteOf}
 use Rattle.capture.specs.Table.{nextRowOf, endRowOf}
 use Rattle.capture.specs.Captures.{Begins}
@@ -84,6 +84,26 @@ pub record EachFinish (place : ℕ) (b : List ℕ) : Type 0 where
 abbrev pub EachFinishAlways : Type 0
 EachFinishAlways =
     (place : ℕ) (b : List ℕ) → (OutOfRange place → ⊥) → place + length b ≤ 4611686018427387904 → EachFinish place b
+
+-- ---- next-says: what an answer of `next` says of the bytes; the other direction of each-next
+
+-- the record at the front is whole
+pub record RecordSaid (place : ℕ) (b : List ℕ) : Type 0 where
+  pub after-head : 5 ≤ place
+  pub within : sizeOf b ≤ length b
+  pub is-record : IsRecord (take (sizeOf b) b)
+  pub answer : nextOf place b ≡ outcome (row 1 (sizeOf b ∷ directionOf b ∷ millisecondsOf b ∷ [])) (place + sizeOf b)
+
+-- by the answer's number
+pub record NextSays (place : ℕ) (b : List ℕ) : Type 0 where
+  pub record-said : nextOf place b .row .number ≡ 1 → RecordSaid place b
+  pub head-said : nextOf place b .row .number ≡ 0 → 1 ≤ getD (nextOf place b .row .values) 0 0
+      → (place ≡ 0) × Begins head b × (nextOf place b ≡ outcome (row 0 (5 ∷ [])) 5)
+  pub others : nextOf place b .row .number ≢ 0 → nextOf place b .row .number ≢ 1 → nextOf place b .state ≡ place
+
+-- of every cursor and all bytes
+abbrev pub NextSaysAlways : Type 0
+NextSaysAlways = (place : ℕ) (b : List ℕ) → NextSays place b
 
 -- ---- more-later: what is taken or refused stays so with more bytes after it: PROTOCOL 13.10
 abbrev pub MoreLater : Type 0
