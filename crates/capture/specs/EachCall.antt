@@ -100,6 +100,8 @@ pub record NextSays (place : ℕ) (b : List ℕ) : Type 0 where
   pub head-said : nextOf place b .row .number ≡ 0 → 1 ≤ getD (nextOf place b .row .values) 0 0
       → (place ≡ 0) × Begins head b × (nextOf place b ≡ outcome (row 0 (5 ∷ [])) 5)
   pub others : nextOf place b .row .number ≢ 0 → nextOf place b .row .number ≢ 1 → nextOf place b .state ≡ place
+  -- the answer of finish has one value
+  pub one-value : endOf place b ≡ row (endOf place b .number) (getD (endOf place b .values) 0 0 ∷ [])
 
 -- of every cursor and all bytes
 abbrev pub NextSaysAlways : Type 0

@@ -14,7 +14,7 @@ use Rattle.base.proofs.Lists.{append-cancel}
 use Rattle.listing.specs.CallTexts.{feedTextIn, feedText}
 use Rattle.listing.specs.Feeding.{listOf}
 use Rattle.listing.specs.Listing.{decisionText, decisionsText}
-use Rattle.listing.specs.LoopRuns.{RunsAdd}
+use Rattle.listing.specs.LoopRuns.{RunsAdd, LinesJoined}
 use Rattle.listing.proofs.DecisionTexts.{each-listed}
 use Rattle.listing.proofs.LoopRuns.{loop-lists}
 use Rattle.listing.proofs.WholeListing.{only-joined, only-offered}
@@ -61,12 +61,11 @@ feed-text-both prefix (e ∷ a) b =
     rw (feed-text-both prefix a b)
     (sym (append-assoc (feedTextIn prefix (e .call) e) (feedText prefix a) (feedText prefix b)))
 
-decisions-text-both : (prefix : List ℕ) (a b : List Decision)
-    → decisionsText prefix (a ++ b) ≡ decisionsText prefix a ++ decisionsText prefix b
+pub lines-joined : LinesJoined
 unfolding decisionsText
-decisions-text-both prefix [] b = refl
-decisions-text-both prefix (d ∷ a) b =
-    rw (decisions-text-both prefix a b)
+lines-joined prefix [] b = refl
+lines-joined prefix (d ∷ a) b =
+    rw (lines-joined prefix a b)
     (sym (append-assoc (decisionText prefix d) (decisionsText prefix a) (decisionsText prefix b)))
 
 -- ---- run-adds
@@ -89,7 +88,7 @@ run-adds prefix limit small calls only bytes room =
     ∙ (ap (feedText prefix) (sym all)
     ∙ (each-listed prefix limit small (calls ++ more)
     ∙ (ap (decisionsText prefix) decisions
-    ∙ decisions-text-both prefix (decisionsOf earlier) (decisionsOf later)))) in
+    ∙ lines-joined prefix (decisionsOf earlier) (decisionsOf later)))) in
     record {
       more = more;
       only-feed = only-joined calls more only (only-offered limit (l .calls) r bytes);

@@ -96,3 +96,9 @@ abbrev pub RunsAdd : Type 0
 RunsAdd =
     (prefix : List ℕ) (limit : ℕ) → limit ≤ widest → (calls : List Call) → OnlyFeed calls → (bytes : List ℕ) (room : ℕ)
     → RunAdds prefix limit calls bytes (listOf limit prefix (stateAfter limit (freshOf limit) calls) bytes room)
+
+-- ---- lines-joined: the lines of decisions are those of the first ones, and then those of the others
+abbrev pub LinesJoined : Type 0
+LinesJoined =
+    (prefix : List ℕ) (a b : List Decision)
+    → decisionsText prefix (a ++ b) ≡ decisionsText prefix a ++ decisionsText prefix b
