@@ -1,5 +1,5 @@
 -- format-spelled, record-exactly and numbers. Assumes nothing.
-use Prim.Native.Nat.{ℕ, _/_, _%_}
+use Prim.Native.Nat.{_/_, _%_}
 use mathlib.Core.Path.{_≡_, refl}
 use native.Mathlib.Omega.{arith}
 use Rattle.capture.specs.FormatSpelled.{AllFormatSpelled, RecordsExactly, Numbers}

@@ -1,17 +1,17 @@
 -- The head at the front of a capture, or what is there instead. Assumes nothing.
 use Prim.Native.Nat.{ℕ, zero, suc, _≤_, _<_}
-use mathlib.Core.Path.{_≡_, refl, sym, ap, _∙_}
-use mathlib.Core.List.{List, [], _∷_, _++_}
+use mathlib.Core.Path.{_≡_, sym, ap, _∙_}
+use mathlib.Core.List.{List, _++_}
 use native.Mathlib.Omega.{arith}
 use borrow.Author.Tests.{ltb-true, ltb-false}
-use lib.ListN.{length, getD, drop, length-append, List·getD-append}
+use lib.ListN.{length, getD, drop, List·getD-append}
 use lib.Dec.{ltb}
 use Rattle.base.proofs.Tests.{either-way}
 use Rattle.capture.specs.Format.{mark, version, head}
 use Rattle.capture.specs.Captures.{Begins}
 use Rattle.capture.specs.Reading.{agrees}
 use Rattle.capture.specs.ReadingExact.{HasMark, HasHead}
-use Rattle.capture.proofs.Agreeing.{Same, Differs, same-of, differs-of, begins-same, same-begins, not-front}
+use Rattle.capture.proofs.Agreeing.{Same, Differs, same-of, differs-of, same-begins, not-front}
 
 -- its first three bytes are the mark
 pub mark-at : (i : ℕ) → i < 3 → getD head i 0 ≡ getD mark i 0

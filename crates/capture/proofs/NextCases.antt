@@ -1,8 +1,8 @@
 -- What the answer of `next` says of the cursor and the bytes: every case of it. Assumes nothing.
 use Prim.Native.Nat.{ℕ, _+_, _^_, _≤_, _<_}
 use mathlib.Core.Path.{_≡_, refl}
-use mathlib.Core.Bool.{true, false, _||_}
-use mathlib.Core.Logic.{_⊎_, inl, inr}
+use mathlib.Core.Bool.{true, false}
+use mathlib.Core.Logic.{inl, inr}
 use mathlib.Core.List.{List, [], _∷_}
 use native.Mathlib.Omega.{arith}
 use borrow.Author.Tests.{eqb-true, eqb-false, leb-true, leb-false, ltb-true, ltb-false, eq-eqb, ne-eqb, le-leb, lt-leb}
@@ -12,7 +12,7 @@ use Rattle.base.specs.Rows.{row}
 use Rattle.base.specs.Outcomes.{Outcome, outcome}
 use Rattle.base.proofs.Tests.{by-test, either-way}
 use Rattle.capture.specs.Format.{mark, head, directionOf, millisecondsOf, sizeOf}
-use Rattle.capture.specs.Reading.{agrees, inRangeOf, lacking, headOf, recordIn, recordOf, nextOf}
+use Rattle.capture.specs.Reading.{agrees, inRangeOf, lacking, headOf, recordOf, nextOf}
 use Rattle.capture.specs.EachCall.{OutOfRange}
 use Rattle.capture.proofs.Agreeing.{Same, Differs, same-of, differs-of}
 

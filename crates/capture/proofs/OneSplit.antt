@@ -12,8 +12,8 @@ use Rattle.base.proofs.Lists.{no-bytes}
 use Rattle.base.proofs.Tests.{either-way}
 use Rattle.frame.specs.Offers.{joined}
 use Rattle.capture.specs.Format.{directionOf, sizeOf, IsRecord}
-use Rattle.capture.specs.Captures.{Begins, AllRecords, Stops, whole, direction, ended}
-use Rattle.capture.proofs.Records.{first-there, fields-begun, record-is, front-is, none-begins}
+use Rattle.capture.specs.Captures.{Begins, Stops, whole, direction, ended}
+use Rattle.capture.proofs.Records.{fields-begun, record-is, front-is, none-begins}
 use Rattle.capture.proofs.Records.{none-lacks}
 use Rattle.capture.proofs.Splits.{Split, split-none, split-more}
 
@@ -69,7 +69,8 @@ one-stop (ended e some one none) (ended f some′ one′ none′) = e ∙ sym f
 pub no-stop : {rest : List ℕ} {n : ℕ} (r : List ℕ) → Stops rest n → IsRecord r → Begins r rest → ⊥
 no-stop r (whole e q) is (more, b) =
     omega (arith, is .size, ap length q, ap length b, length-append r more)
-no-stop {rest} r (direction e some two) is begins = omega (arith, fields-begun r rest is begins .direction, is .direction)
+no-stop {rest} r (direction e some two) is begins =
+    omega (arith, fields-begun r rest is begins .direction, is .direction)
 no-stop r (ended e some one none) is begins = none r is begins
 
 -- the parts of a split

@@ -1,5 +1,5 @@
 -- windows-read, one-reading and stops-exactly. Assumes nothing.
-use Prim.Native.Nat.{ℕ, zero, suc, _+_, _^_, _≤_, _<_}
+use Prim.Native.Nat.{ℕ, _+_, _^_, _≤_, _<_}
 use mathlib.Core.Path.{_≡_, refl, sym, ap, _∙_}
 use mathlib.Core.Logic.{_≢_, _⊎_, inl, inr}
 use mathlib.Core.List.{List, [], _∷_, _++_, append-assoc}
@@ -13,7 +13,7 @@ use Rattle.base.specs.Rows.{Row, row}
 use Rattle.base.specs.Outcomes.{Outcome}
 use Rattle.base.proofs.Tests.{by-test}
 use Rattle.frame.specs.Offers.{joined}
-use Rattle.capture.specs.Format.{mark, version, head, directionOf}
+use Rattle.capture.specs.Format.{mark, head, directionOf}
 use Rattle.capture.specs.Captures.{Begins, AllRecords, Stops, Reads, no-mark, no-version, with-head}
 use Rattle.capture.specs.Reading.{lackingOf, endIn, endOf}
 use Rattle.capture.specs.Windows.{countOf, addRecord, recordsBy, placeBy, leftBy, AreWindows, Closes}

@@ -15,7 +15,7 @@ use Rattle.base.proofs.Tests.{by-test}
 use Rattle.frame.specs.Offers.{joined}
 use Rattle.capture.specs.Format.{directionOf, sizeOf, IsRecord}
 use Rattle.capture.specs.Captures.{AllRecords, Stops, whole, direction, ended}
-use Rattle.capture.specs.Reading.{nextOf, lackingOf, endIn, endOf}
+use Rattle.capture.specs.Reading.{lackingOf, endIn, endOf}
 use Rattle.capture.specs.Windows.{countOf, addRecord, recordsBy, placeBy, leftBy, AreWindows, Closes}
 use Rattle.capture.proofs.Records.{first-there, front-is, none-begins}
 use Rattle.capture.proofs.NextCases.{later-cases}
@@ -86,9 +86,10 @@ module _ (place : ℕ) (left : List ℕ) (low : 5 ≤ place) (fits : place + len
   pub closed : (w : List ℕ) → Closes place left w → endOf place w ≡ row number (at ∷ []) → From place left [] number at
   closed w c =
       let size : length left ≡ length w + length (c .rest) = ap length (c .front) ∙ length-append w (c .rest) in
-      later-cases w (λ (o : Outcome ℕ).
-      (c .rest ≡ []) ⊎ (50 < o .row .number) → endIn (o .row) place w ≡ row number (at ∷ []) → From place left [] number at)
-      place low (omega arith)
+      later-cases w
+      (λ (o : Outcome ℕ).
+      (c .rest ≡ []) ⊎ (50 < o .row .number) → endIn (o .row) place w ≡ row number (at ∷ [])
+      → From place left [] number at) place low (omega arith)
       (λ two d e.
       let q = one-value e in
       let there : 1 ≤ length w = first-there w (omega arith) in

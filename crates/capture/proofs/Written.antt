@@ -1,15 +1,12 @@
 -- fields-back and written-back. Assumes nothing.
-use Prim.Native.Nat.{ℕ, _+_}
-use mathlib.Core.Path.{_≡_, refl, sym}
-use mathlib.Core.List.{List, [], _∷_, _++_, map, append-nil}
+use mathlib.Core.Path.{refl}
+use mathlib.Core.List.{List, [], _∷_, map, append-nil}
 use native.Mathlib.Omega.{arith}
 use lib.ListN.{length}
 use lib.Seq.{take-length}
 use Rattle.base.proofs.Numbers.{two-back}
-use Rattle.frame.specs.Offers.{joined}
-use Rattle.capture.specs.Format.{head}
 use Rattle.capture.specs.Captures.{AllRecords, whole, with-head}
-use Rattle.capture.specs.Written.{Item, bytesOf, Directed, captureOf, FieldsBackAlways, WrittenBack}
+use Rattle.capture.specs.Written.{Item, bytesOf, Directed, FieldsBackAlways, WrittenBack}
 
 pub fields-back : FieldsBackAlways
 fields-back i =
