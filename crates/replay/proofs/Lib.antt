@@ -2,3 +2,4 @@
 pub mod LineLaws
 pub mod WindowLaws
 pub mod Sides
+pub mod Told

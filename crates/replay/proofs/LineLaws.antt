@@ -48,13 +48,10 @@ adds-join {limit} {t} {p} {q} {new} {later} a b =
 
 -- ---- lines
 
-pub printed-more : (d : ℕ) (ds : List Decision) (lines : List Printed)
-    → printedText (linesOf d ds ++ lines) ≡ decisionsText (prefixOf d) ds ++ printedText lines
+pub linesOf-text : (d : ℕ) (ds : List Decision) → printedText (linesOf d ds) ≡ decisionsText (prefixOf d) ds
 unfolding printedText linesOf decisionsText
-printed-more d [] lines = refl
-printed-more d (x ∷ ds) lines =
-    ap (λ (l : List ℕ). decisionText (prefixOf d) x ++ l) (printed-more d ds lines)
-    ∙ sym (append-assoc (decisionText (prefixOf d) x) (decisionsText (prefixOf d) ds) (printedText lines))
+linesOf-text d [] = refl
+linesOf-text d (x ∷ ds) = ap (λ (l : List ℕ). decisionText (prefixOf d) x ++ l) (linesOf-text d ds)
 
 pub printed-both : (a b : List Printed) → printedText (a ++ b) ≡ printedText a ++ printedText b
 unfolding printedText
