@@ -3,3 +3,4 @@ pub mod LineLaws
 pub mod WindowLaws
 pub mod Sides
 pub mod Told
+pub mod TurnReplays

@@ -1,0 +1,217 @@
+-- The capture's bytes alone decide the text, however windows and rooms cut it. Assumes nothing.
+use Prim.Native.Nat.{ℕ, _+_, _≤_, _<_}
+use mathlib.Core.Path.{_≡_, refl, sym, ap, subst, _∙_}
+use mathlib.Core.Bool.{cond}
+use mathlib.Core.Logic.{_≢_, _⊎_, inl, inr, Dec·not-not}
+use mathlib.Core.List.{List, [], _∷_, _++_, append-nil, append-assoc, List-discrete}
+use native.Mathlib.Decide.{ℕ-discrete}
+use native.Mathlib.Omega.{arith}
+use borrow.Author.Tests.{eqb-true, eqb-false, eq-eqb, ne-eqb, lt-ltb}
+use lib.ListN.{length, getD}
+use lib.Dec.{eqb}
+use Rattle.base.specs.Rows.{Row, row}
+use Rattle.base.specs.Outcomes.{Outcome}
+use Rattle.base.proofs.Lists.{append-cancel}
+use Rattle.base.proofs.Tests.{either-way}
+use Rattle.frame.specs.Wire.{widest}
+use Rattle.frame.specs.State.{State as Reader}
+use Rattle.frame.specs.Calls.{finishOf}
+use Rattle.frame.specs.Decisions.{Decision, IsOpen}
+use Rattle.frame.proofs.Decisions.{finish-correct}
+use Rattle.frame.proofs.Unique.{one-decisions}
+use Rattle.listing.specs.Lines.{lastOf, refusalText}
+use Rattle.listing.specs.Listing.{decisionsText}
+use Rattle.capture.specs.Format.{directionOf}
+use Rattle.capture.specs.Captures.{Stops, Reads, no-mark, no-version, with-head, whole, direction, ended}
+use Rattle.capture.specs.Reading.{nextOf, endOf}
+use Rattle.capture.specs.ReadingExact.{Reading}
+use Rattle.capture.specs.Windows.{countOf, recordsBy}
+use Rattle.capture.proofs.EachCall.{more-later}
+use Rattle.capture.proofs.NextSays.{next-says}
+use Rattle.capture.proofs.ReadingExact.{windows-read, one-reading}
+use Rattle.replay.specs.Lines.{Printed, printedText, linesOf, prefixOf, replayHeading}
+use Rattle.replay.specs.State.{State, freshOf}
+use Rattle.replay.specs.Replays.{heardOf, Adds, AreLines, IsEndLine, IsEnding, IsReplay}
+use Rattle.replay.specs.Closing.{endLine, closingText}
+use Rattle.replay.specs.Turns.{Turn, stateBy, textBy, leftBy, AreWindows, Finishes, writtenBy}
+use Rattle.replay.specs.TurnReplays.{TurnsReplay, OneReplay, AnyTurns}
+use Rattle.replay.proofs.Sides.{Side}
+use Rattle.replay.proofs.Told.{Within, Told, none-fed, told-nothing, told-turns}
+
+-- ---- the end of a replay
+
+-- a reader's end line is that of its bytes
+end-line : (limit e : ℕ) (t : List ℕ) (r : Reader) → limit ≤ widest → Side limit t r
+    → IsEndLine limit e t (endLine limit e r)
+end-line limit e t r small s =
+    let f = rw (s .stream-is, s .state-is) at (finish-correct limit small (s .calls)) in
+    record {
+      left-open = λ start o. ap (λ (y : Outcome Reader). lastOf (prefixOf e) (y .row)) (f .left-open start o);
+      left-clean = λ none. ap (λ (y : Outcome Reader). lastOf (prefixOf e) (y .row)) (f .left-clean none);
+    }
+
+-- where a reading stops, its number is 2 or above 50
+stop-number : (rest : List ℕ) (number : ℕ) → Stops rest number → number ≢ 2 → 50 < number
+stop-number rest number (whole e h) other = absurd (other e)
+stop-number rest number (direction e h k) other = omega arith
+stop-number rest number (ended e h k n) other = omega arith
+
+reads-number : (c : List ℕ) (rs : List (List ℕ)) (number place : ℕ) → Reads c rs number place → number ≢ 2 → 50 < number
+reads-number c rs number place (no-mark r n p h) other = omega arith
+reads-number c rs number place (no-version rest r n p h k) other = omega arith
+reads-number c rs number place (with-head rest b p a s) other = stop-number rest number s other
+
+module _ (limit : ℕ) (small : limit ≤ widest) (capture : List ℕ) (size : length capture ≤ 4611686018427387904)
+    (s : State) (left text : List ℕ) (t : Told limit capture s left text) (w : List ℕ) (f : Finishes s left w) where
+  abbrev end : Row
+  end = endOf (s .place) w
+
+  abbrev past : List (List ℕ)
+  past = recordsBy 0 (t .windows)
+
+  -- a record that is there is still to be played
+  no-record : nextOf (s .place) left .row .number ≡ 1 → ⊥
+  no-record one = go (f .decided)
+    where
+      go : (f .rest ≡ []) ⊎ (50 < nextOf (s .place) w .row .number) → ⊥
+      go (inl none) =
+          let all : left ≡ w = f .front ∙ (ap (λ (l : List ℕ). w ++ l) none ∙ append-nil w) in
+          let here : nextOf (s .place) w .row .number ≡ 1 =
+          ap (λ (l : List ℕ). nextOf (s .place) l .row .number) (sym all) ∙ one in
+          f .nothing-to-play
+          (rw (ne-eqb (nextOf (s .place) w .row .number) 0 (λ e. omega arith), eq-eqb (nextOf (s .place) w .row .number)
+          1 here))
+      go (inr refused) =
+          let same : nextOf (s .place) left ≡ nextOf (s .place) w =
+          ap (λ (l : List ℕ). nextOf (s .place) l) (f .front)
+          ∙ more-later (s .place) w (f .rest) (omega (arith, t .size-is, ap length (f .front)))
+          (λ e. absurd (omega (arith, refused, ap (λ (r : Row). r .number) e))) in
+          omega (arith, refused, one, ap (λ (y : Outcome ℕ). y .row .number) same)
+
+  -- so nothing of a record is fed
+  pub idle : (s .fed ≡ 0) × (t .new ≡ [])
+  idle = go (t .within)
+    where
+      go : Within limit past s left (t .new) → (s .fed ≡ 0) × (t .new ≡ [])
+      go (inl h) = h
+      go (inr h) = absurd (no-record (h .0))
+
+  pub end-side0 : Side limit (heardOf 0 past) (s .reader0)
+  end-side0 = rw (idle .0, none-fed 0 left, append-nil) at (t .side0)
+
+  pub end-side1 : Side limit (heardOf 1 past) (s .reader1)
+  end-side1 = rw (idle .0, none-fed 1 left, append-nil) at (t .side1)
+
+  -- what the capture holds
+  pub end-reads : Reads capture past (end .number) (getD (end .values) 0 0)
+  end-reads =
+      windows-read capture size (t .windows) (t .are) w
+      (rw (t .place-is, t .left-is) (record { rest = f .rest; front = f .front; decided = f .decided }))
+      (end .number) (getD (end .values) 0 0) (rw (t .place-is) (next-says (s .place) w .one-value)) (f .nothing-to-play)
+
+  pub is-replay : IsReplay limit capture (replayHeading ++ (text ++ closingText limit s end))
+  unfolding decisionsText
+  is-replay =
+      record {
+        records = past;
+        number = end .number;
+        place = getD (end .values) 0 0;
+        reads = end-reads;
+        lines = t .lines;
+        are-lines = t .are-lines;
+        ending = closingText limit s end;
+        is-ending = record {
+          line0 = endLine limit 0 (s .reader0);
+          line1 = endLine limit 1 (s .reader1);
+          is-line0 = end-line limit 0 (heardOf 0 past) (s .reader0) small end-side0;
+          is-line1 = end-line limit 1 (heardOf 1 past) (s .reader1) small end-side1;
+          whole = λ e. rw (eq-eqb (end .number) 2 e);
+          refused = λ e. rw (
+            ne-eqb (end .number) 2 e,
+            lt-ltb 50 (end .number) (reads-number capture past (end .number) (getD (end .values) 0 0) end-reads e),
+          );
+        };
+        text-is = ap (λ (l : List ℕ). replayHeading ++ (l ++ closingText limit s end)) lines-alone;
+      }
+    where
+      lines-alone : text ≡ printedText (t .lines)
+      lines-alone =
+          t .text-is
+          ∙ (ap (λ (ds : List Decision). printedText (t .lines) ++ decisionsText (prefixOf (directionOf left)) ds)
+          (idle .1)
+          ∙ append-nil (printedText (t .lines)))
+
+pub turns-replay : TurnsReplay
+turns-replay limit small capture size turns a w f =
+    is-replay limit small capture size (stateBy limit (freshOf limit) turns) (leftBy limit (freshOf limit) capture turns)
+    (textBy limit (freshOf limit) turns)
+    (told-turns limit small capture size turns (freshOf limit) capture [] (told-nothing limit capture) a) w f
+
+-- ---- a capture has one replay
+
+-- the decisions that bytes add
+one-addition : (limit : ℕ) (t p : List ℕ) (a b : List Decision) → Adds limit t p a → Adds limit t p b → a ≡ b
+one-addition limit t p a b x y =
+    let same : x .old ≡ y .old = one-decisions limit t (x .old) (y .old) (x .before) (y .before) in
+    append-cancel (y .old) a b
+    (ap (λ (l : List Decision). l ++ a) (sym same)
+    ∙ one-decisions limit (t ++ p) (x .old ++ a) (y .old ++ b) (x .after) (y .after))
+
+one-lines : (limit : ℕ) (past rs : List (List ℕ)) (a b : List Printed)
+    → AreLines limit past rs a → AreLines limit past rs b → a ≡ b
+unfolding AreLines
+one-lines limit past [] a b x y = x ∙ sym y
+one-lines limit past (r ∷ rs) a b x y =
+    let new : x .0 ≡ y .0 = one-addition limit _ _ (x .0) (y .0) (x .2) (y .2) in
+    let later : x .1 ≡ y .1 = one-lines limit (past ++ r ∷ []) rs (x .1) (y .1) (x .4) (y .4) in
+    x .3 ∙ (rw (new, later) (sym (y .3)))
+
+-- lists of numbers that cannot differ are equal, since that is a test
+tested : (a b : List ℕ) → ((a ≡ b → ⊥) → ⊥) → a ≡ b
+tested a b f = Dec·not-not (List-discrete ℕ-discrete a b) .0 f
+
+-- two end lines that differ would differ with an open frame and without one
+one-end-line : (limit e : ℕ) (t a b : List ℕ) → IsEndLine limit e t a → IsEndLine limit e t b → a ≡ b
+one-end-line limit e t a b x y =
+    tested a b (λ differ.
+    let none : (start : ℕ) → IsOpen limit t start → ⊥ =
+    λ start o. differ (x .left-open start o ∙ sym (y .left-open start o)) in
+    differ (x .left-clean none ∙ sym (y .left-clean none)))
+
+one-ending : (limit : ℕ) (rs : List (List ℕ)) (number place : ℕ) (a b : List ℕ)
+    → IsEnding limit rs number place a → IsEnding limit rs number place b → a ≡ b
+one-ending limit rs number place a b x y =
+    either-way (eqb number 2)
+    (λ z.
+    let two = eqb-true number 2 z in
+    let first = one-end-line limit 0 (heardOf 0 rs) (x .line0) (y .line0) (x .is-line0) (y .is-line0) in
+    let second = one-end-line limit 1 (heardOf 1 rs) (x .line1) (y .line1) (x .is-line1) (y .is-line1) in
+    x .whole two ∙ (rw (first, second) (sym (y .whole two))))
+    (λ z.
+    let other = eqb-false number 2 z in
+    x .refused other ∙ sym (y .refused other))
+
+-- by the records, the number and the place
+same-replay : (limit : ℕ) (rs : List (List ℕ)) (number place : ℕ) (a b : List Printed) (x y : List ℕ)
+    → AreLines limit [] rs a → AreLines limit [] rs b
+    → IsEnding limit rs number place x → IsEnding limit rs number place y
+    → replayHeading ++ (printedText a ++ x) ≡ replayHeading ++ (printedText b ++ y)
+same-replay limit rs number place a b x y p q f g =
+    ap (λ (l : List Printed). replayHeading ++ (printedText l ++ x)) (one-lines limit [] rs a b p q)
+    ∙ ap (λ (l : List ℕ). replayHeading ++ (printedText b ++ l)) (one-ending limit rs number place x y f g)
+
+pub one-replay : OneReplay
+one-replay limit capture a b small p q =
+    let same = one-reading capture .same
+    (record { records = p .records; number = p .number; place = p .place; reads = p .reads })
+    (record { records = q .records; number = q .number; place = q .place; reads = q .reads }) in
+    p .text-is
+    ∙ (same-replay limit (p .records) (p .number) (p .place) (p .lines) (q .lines) (p .ending) (q .ending)
+    (p .are-lines) (rw (same .records) (q .are-lines)) (p .is-ending)
+    (rw (same .records, same .number, same .place) (q .is-ending))
+    ∙ sym (q .text-is))
+
+pub any-turns : AnyTurns
+any-turns limit small capture size a b x y v w f g =
+    one-replay limit capture _ _ small (turns-replay limit small capture size a x v f)
+    (turns-replay limit small capture size b y w g)
