@@ -90,3 +90,8 @@ addDecision e ls = cond (decided (e .row .number)) (decisionIn e ∷ ls) ls
 unfoldable pub decisionsOf : List Entry → List Decision
 decisionsOf [] = []
 decisionsOf (e ∷ es) = addDecision e (decisionsOf es)
+
+-- the frames among decisions
+unfoldable pub framesIn : List Decision → List Found
+framesIn [] = []
+framesIn (d ∷ ds) = cond (eqb (d .number) 1) (found (d .start) (d .end) (d .body) ∷ framesIn ds) (framesIn ds)

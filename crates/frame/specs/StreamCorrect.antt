@@ -13,7 +13,7 @@ use Rattle.frame.specs.Calls.{freshOf, finishOf}
 use Rattle.frame.specs.Decisions.{Decision, ListsDecisions, IsOpen}
 use Rattle.frame.specs.Frames.{Found, Lists}
 use Rattle.frame.specs.FramesComputed.{framesOf}
-use Rattle.frame.specs.Logs.{Call, Entry, Chains, stream, delivered, decisionsOf}
+use Rattle.frame.specs.Logs.{Call, Entry, Chains, stream, delivered, decisionsOf, framesIn}
 use Rattle.frame.specs.LogsComputed.{logOf, stateAfter}
 use Rattle.frame.specs.Offers.{OffersFront, Front}
 use Rattle.frame.specs.State.{State}
@@ -74,3 +74,9 @@ OneList =
 abbrev pub OneDecisions : Type 0
 OneDecisions =
     (limit : ℕ) (t : List ℕ) (a b : List Decision) → ListsDecisions limit t a → ListsDecisions limit t b → a ≡ b
+
+-- ---- decided-frames: the frames of a stream are the frames among its decisions
+abbrev pub DecidedFrames : Type 0
+DecidedFrames =
+    (limit : ℕ) → limit ≤ widest → (t : List ℕ) (ds : List Decision) → ListsDecisions limit t ds
+    → framesIn ds ≡ framesOf limit t

@@ -4,3 +4,4 @@ pub mod WindowLaws
 pub mod Sides
 pub mod Told
 pub mod TurnReplays
+pub mod Directions

@@ -89,63 +89,76 @@ module _ (limit : ℕ) (small : limit ≤ widest) (capture : List ℕ) (size : l
           omega (arith, refused, one, ap (λ (y : Outcome ℕ). y .row .number) same)
 
   -- so nothing of a record is fed
-  pub idle : (s .fed ≡ 0) × (t .new ≡ [])
+  idle : (s .fed ≡ 0) × (t .new ≡ [])
   idle = go (t .within)
     where
       go : Within limit past s left (t .new) → (s .fed ≡ 0) × (t .new ≡ [])
       go (inl h) = h
       go (inr h) = absurd (no-record (h .0))
 
-  pub end-side0 : Side limit (heardOf 0 past) (s .reader0)
+  end-side0 : Side limit (heardOf 0 past) (s .reader0)
   end-side0 = rw (idle .0, none-fed 0 left, append-nil) at (t .side0)
 
-  pub end-side1 : Side limit (heardOf 1 past) (s .reader1)
+  end-side1 : Side limit (heardOf 1 past) (s .reader1)
   end-side1 = rw (idle .0, none-fed 1 left, append-nil) at (t .side1)
 
   -- what the capture holds
-  pub end-reads : Reads capture past (end .number) (getD (end .values) 0 0)
+  end-reads : Reads capture past (end .number) (getD (end .values) 0 0)
   end-reads =
       windows-read capture size (t .windows) (t .are) w
       (rw (t .place-is, t .left-is) (record { rest = f .rest; front = f .front; decided = f .decided }))
       (end .number) (getD (end .values) 0 0) (rw (t .place-is) (next-says (s .place) w .one-value)) (f .nothing-to-play)
 
-  pub is-replay : IsReplay limit capture (replayHeading ++ (text ++ closingText limit s end))
+  -- the replay, and the readers that have heard its records
+  pub record Ended : Type 0 where
+    pub replay : IsReplay limit capture (replayHeading ++ (text ++ closingText limit s end))
+    pub side0 : Side limit (heardOf 0 (replay .records)) (s .reader0)
+    pub side1 : Side limit (heardOf 1 (replay .records)) (s .reader1)
+
+  lines-alone : text ≡ printedText (t .lines)
   unfolding decisionsText
-  is-replay =
+  lines-alone =
+      t .text-is
+      ∙ (ap (λ (ds : List Decision). printedText (t .lines) ++ decisionsText (prefixOf (directionOf left)) ds) (idle .1)
+      ∙ append-nil (printedText (t .lines)))
+
+  is-ending : IsEnding limit past (end .number) (getD (end .values) 0 0) (closingText limit s end)
+  is-ending =
       record {
-        records = past;
-        number = end .number;
-        place = getD (end .values) 0 0;
-        reads = end-reads;
-        lines = t .lines;
-        are-lines = t .are-lines;
-        ending = closingText limit s end;
-        is-ending = record {
-          line0 = endLine limit 0 (s .reader0);
-          line1 = endLine limit 1 (s .reader1);
-          is-line0 = end-line limit 0 (heardOf 0 past) (s .reader0) small end-side0;
-          is-line1 = end-line limit 1 (heardOf 1 past) (s .reader1) small end-side1;
-          whole = λ e. rw (eq-eqb (end .number) 2 e);
-          refused = λ e. rw (
-            ne-eqb (end .number) 2 e,
-            lt-ltb 50 (end .number) (reads-number capture past (end .number) (getD (end .values) 0 0) end-reads e),
-          );
-        };
-        text-is = ap (λ (l : List ℕ). replayHeading ++ (l ++ closingText limit s end)) lines-alone;
+        line0 = endLine limit 0 (s .reader0);
+        line1 = endLine limit 1 (s .reader1);
+        is-line0 = end-line limit 0 (heardOf 0 past) (s .reader0) small end-side0;
+        is-line1 = end-line limit 1 (heardOf 1 past) (s .reader1) small end-side1;
+        whole = λ e. rw (eq-eqb (end .number) 2 e);
+        refused = λ e. rw (
+          ne-eqb (end .number) 2 e,
+          lt-ltb 50 (end .number) (reads-number capture past (end .number) (getD (end .values) 0 0) end-reads e),
+        );
       }
-    where
-      lines-alone : text ≡ printedText (t .lines)
-      lines-alone =
-          t .text-is
-          ∙ (ap (λ (ds : List Decision). printedText (t .lines) ++ decisionsText (prefixOf (directionOf left)) ds)
-          (idle .1)
-          ∙ append-nil (printedText (t .lines)))
+
+  pub is-ended : Ended
+  is-ended =
+      record {
+        replay = record {
+          records = past;
+          number = end .number;
+          place = getD (end .values) 0 0;
+          reads = end-reads;
+          lines = t .lines;
+          are-lines = t .are-lines;
+          ending = closingText limit s end;
+          is-ending = is-ending;
+          text-is = ap (λ (l : List ℕ). replayHeading ++ (l ++ closingText limit s end)) lines-alone;
+        };
+        side0 = end-side0;
+        side1 = end-side1;
+      }
 
 pub turns-replay : TurnsReplay
 turns-replay limit small capture size turns a w f =
-    is-replay limit small capture size (stateBy limit (freshOf limit) turns) (leftBy limit (freshOf limit) capture turns)
+    is-ended limit small capture size (stateBy limit (freshOf limit) turns) (leftBy limit (freshOf limit) capture turns)
     (textBy limit (freshOf limit) turns)
-    (told-turns limit small capture size turns (freshOf limit) capture [] (told-nothing limit capture) a) w f
+    (told-turns limit small capture size turns (freshOf limit) capture [] (told-nothing limit capture) a) w f .replay
 
 -- ---- a capture has one replay
 

@@ -1,21 +1,19 @@
 -- Claims: stream-correct, the buyer's third demand, of each direction of a capture. PROTOCOL 14.1, 14.9.
 use Prim.Native.Nat.{ℕ, _≤_}
-use mathlib.Core.Bool.{cond}
 use mathlib.Core.Path.{_≡_}
 use mathlib.Core.List.{List, [], _∷_, _++_}
 use lib.ListN.{length}
-use lib.Dec.{eqb}
 use Rattle.frame.specs.Wire.{widest}
 use Rattle.frame.specs.State.{State as Reader}
 use Rattle.frame.specs.Calls.{freshOf as freshReader}
-use Rattle.frame.specs.Decisions.{Decision, ListsDecisions}
-use Rattle.frame.specs.Frames.{Found, found, Lists}
+use Rattle.frame.specs.Decisions.{ListsDecisions}
+use Rattle.frame.specs.Frames.{Lists}
 use Rattle.frame.specs.FramesComputed.{framesOf}
-use Rattle.frame.specs.Logs.{Call, finish, stream, delivered, decisionsOf}
+use Rattle.frame.specs.Logs.{Call, finish, stream, delivered, decisionsOf, framesIn}
 use Rattle.frame.specs.LogsComputed.{logOf, stateAfter}
 use Rattle.frame.specs.StreamCorrect.{StreamCorrect}
 use Rattle.listing.specs.CallTexts.{OnlyFeed}
-use Rattle.replay.specs.State.{State, freshOf, readerOf}
+use Rattle.replay.specs.State.{freshOf}
 use Rattle.replay.specs.Lines.{Printed, decisionsIn}
 use Rattle.replay.specs.Replays.{heardOf, AreLines, IsReplay}
 use Rattle.replay.specs.Turns.{Turn, stateBy, leftBy, AreWindows, Finishes, writtenBy}
@@ -23,11 +21,6 @@ use Rattle.replay.specs.Turns.{Turn, stateBy, leftBy, AreWindows, Finish
 -- ---- directions-correct: the reader of each direction has been fed the bytes of that direction's complete records
 -- before the stop, joined, and no others; its calls, with the end asked, are stream-correct: frames, bodies, counts; and
 -- the lines printed of that direction are its decisions
-
--- the frames among decisions
-unfoldable pub framesIn : List Decision → List Found
-framesIn [] = []
-framesIn (d ∷ ds) = cond (eqb (d .number) 1) (found (d .start) (d .end) (d .body) ∷ framesIn ds) (framesIn ds)
 
 -- the calls that led a fresh reader to `reader`, and what they gave
 pub record DirectionCorrect (limit direction : ℕ) (records : List (List ℕ)) (lines : List Printed)
