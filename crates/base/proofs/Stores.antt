@@ -1,15 +1,15 @@
 -- Stores, one after another. Assumes nothing.
-use Prim.Native.Nat.{ℕ, suc, _+_, _≤_, _<_}
+use Prim.Native.Nat.{ℕ, suc, _+_, _-_, _≤_, _<_}
 use mathlib.Core.Path.{_≡_, refl}
-use mathlib.Core.List.{List, [], _∷_, _++_}
+use mathlib.Core.List.{List, [], _∷_, _++_, append-nil, append-assoc}
 use native.Mathlib.Nat.{zero-add, add-zero}
 use native.Mathlib.Numerals.{add-one}
 use native.Mathlib.Omega.{arith}
-use lib.ListN.{length, getD, drop, set, length-append, drop-of-length-le}
-use lib.Seq.{sets, sets-eq, drop-cons}
+use lib.ListN.{length, getD, take, drop, set, length-append, length-drop, drop-of-length-le}
+use lib.Seq.{sets, sets-eq, drop-cons, drop-drop, take-all}
 use borrow.Author.Tests.{lt-ltb, le-ltb}
 use Rattle.base.specs.Rows.{row}
-use Rattle.base.specs.Outcomes.{output, placed}
+use Rattle.base.specs.Outcomes.{output, onto, placed}
 use Rattle.base.specs.Stores.{PutAt, fitting}
 
 pub sets-append : (vs ws l : List ℕ) (i : ℕ) → sets l i (vs ++ ws) ≡ sets (sets l i vs) (i + length vs) ws
@@ -53,6 +53,28 @@ module _ (out : List ℕ) (at : ℕ) (bytes : List ℕ) where
 
     pub put-fitting : PutAt out at (fitting out at bytes) next after → PutAt out at bytes next after
     put-fitting put = rw (le-ltb (length out) (at + length bytes) h) at put
+
+-- ---- in the part of a buffer that begins at a place
+
+module _ (out : List ℕ) (at : ℕ) where
+  -- the part is all that is left
+  pub part-left : take (length out - at) (drop at out) ≡ drop at out
+  part-left = take-all (length out - at) (drop at out) (omega (arith, length-drop at out))
+
+  -- bytes at its front are put at the place
+  pub put-onto : (bytes : List ℕ) → at + length bytes ≤ length out
+      → take at out ++ (onto bytes (take (length out - at) (drop at out)) ++ drop (length out - at) (drop at out))
+      ≡ sets out at bytes
+  put-onto bytes fits =
+      let none : length (drop at out) ≤ length out - at = omega (arith, length-drop at out) in
+      rw (
+        part-left,
+        drop-drop (length bytes) at out,
+        drop-of-length-le (drop at out) none,
+        append-nil,
+        sets-eq bytes out at fits,
+        append-assoc,
+      )
 
 -- ---- bytes at the front of a buffer, or ROOM
 

@@ -21,6 +21,12 @@ pub cond-same : {A : Type 0} (t : Bool) (x : A) → cond t x x ≡ x
 cond-same true x = refl
 cond-same false x = refl
 
+-- a test chooses between equal values
+pub cond-equal : {A : Type 0} (t : Bool) {x y z w : A} → (t ≡ true → x ≡ y) → (t ≡ false → z ≡ w)
+    → cond t x z ≡ cond t y w
+cond-equal true f g = f refl
+cond-equal false f g = g refl
+
 -- both of two tests hold
 pub both : (a : Bool) {b : Bool} → (a && b) ≡ true → (a ≡ true) × (b ≡ true)
 both true e = (refl, e)

@@ -1,7 +1,7 @@
 -- Laws of the loop over bytes: its steps, and its invariant. Assumes nothing.
 use Prim.Native.Nat.{ℕ, zero, suc, _+_, _-_, _^_, _≤_, _<_}
 use mathlib.Core.Path.{_≡_, refl, sym, ap, _∙_}
-use mathlib.Core.Bool.{Bool, true, false, cond, true≢false}
+use mathlib.Core.Bool.{true, false, true≢false}
 use mathlib.Core.Logic.{_≢_}
 use mathlib.Core.List.{List, [], _++_}
 use native.Mathlib.Nat.{sub-zero}
@@ -21,7 +21,7 @@ use Rattle.frame.specs.declared.scan.Verdict.{Verdict}
 use Rattle.frame.specs.declared.scan.Verdict.the-variants.{Frame, Short, Long, Stuff, Cut, Sum}
 use Rattle.frame.proofs.EachCall.{within as count-most}
 use Rattle.frame.proofs.EachCall.{progress}
-use Rattle.base.proofs.Tests.{either-way}
+use Rattle.base.proofs.Tests.{either-way, cond-equal}
 use Rattle.base.proofs.Runs.{Rest, rest-onward, rest-stopped}
 use Rattle.listing.specs.Lines.{lineRoom}
 use Rattle.listing.specs.Feeding.{full, refuses, lineAfter, listIn, loopOf, listOf}
@@ -67,19 +67,15 @@ module _ (limit : ℕ) (prefix : List ℕ) where
   enough zero (suc k) r bs room h g = rw (eq-eqb (length bs) 0 (omega arith))
   enough (suc j) zero r bs room h g = rw (eq-eqb (length bs) 0 (omega arith))
   enough (suc j) (suc k) r bs room h g =
-      same (eqb (length bs) 0) (λ e. refl) (λ e.
-      same (ltb room (length prefix + lineRoom)) (λ _. refl) (λ _.
-      same (refuses (feedOf limit r bs .row .number)) (λ _. refl) (λ f.
+      cond-equal (eqb (length bs) 0) (λ e. refl) (λ e.
+      cond-equal (ltb room (length prefix + lineRoom)) (λ _. refl) (λ _.
+      cond-equal (refuses (feedOf limit r bs .row .number)) (λ _. refl) (λ f.
       let some : 1 ≤ countOf (feedOf limit r bs .row) =
       consumes-one limit r bs f (nonzero (length bs) (eqb-false (length bs) 0 e)) in
       let fewer = length-drop (countOf (feedOf limit r bs .row)) bs in
       ap (λ (w : Run State). onward (countOf (feedOf limit r bs .row)) (lineAfter prefix (feedOf limit r bs)) w)
       (enough j k (feedOf limit r bs .state) (drop (countOf (feedOf limit r bs .row)) bs)
       (room - length (lineAfter prefix (feedOf limit r bs))) (omega arith) (omega arith)))))
-    where
-      same : (t : Bool) {x y z w : Run State} → (t ≡ true → x ≡ y) → (t ≡ false → z ≡ w) → cond t x z ≡ cond t y w
-      same true f g = f refl
-      same false f g = g refl
 
   module _ (r : State) (bs : List ℕ) (room : ℕ) where
     -- one feed more than there are bytes, so that the definition computes

@@ -1,16 +1,15 @@
 -- Laws of stores: what is put byte by byte, from the front or from the back.
 use Prim.Native.Nat.{ℕ, suc, _+_, _-_, _/_, _%_, _≤_, _<_}
 use mathlib.Core.Path.{_≡_, refl, ap, _∙_}
-use mathlib.Core.List.{List, [], _∷_, _++_, append-nil, append-assoc}
-use native.Mathlib.Nat.{add-zero}
+use mathlib.Core.List.{List, [], _∷_, _++_}
 use native.Mathlib.Numerals.{add-one}
 use native.Mathlib.Omega.{arith}
 use lib.ListN.{length, getD, take, drop, set, length-append, length-drop, drop-of-length-le}
-use lib.Seq.{drop-cons, drop-drop, sets, sets-eq, set-comm, take-all}
+use lib.Seq.{drop-cons, sets, set-comm}
 use borrow.Author.Tests.{le-ltb}
 use Rattle.base.specs.Rows.{Row, row}
-use Rattle.base.specs.Outcomes.{Output, output, placed, writtenIn}
-use Rattle.base.proofs.Stores.{sets-append, put-placed}
+use Rattle.base.specs.Outcomes.{Output, output, onto, placed, writtenIn}
+use Rattle.base.proofs.Stores.{sets-append, put-placed, part-left, put-onto}
 use Rattle.listing.specs.Digits.{digit, decimalOf}
 use Rattle.listing.specs.Lines.{columnsOf}
 use Rattle.listing.proofs.Digits.{decimal-last, decimal-more, count-last, count-more}
@@ -48,24 +47,19 @@ nothing-put out = put-placed [] out (omega arith) (refl, refl)
 
 module _ (text out : List ℕ) (at : ℕ) (fits : at + length text ≤ length out) {r : Row} {after : List ℕ}
     (put : output r after ≡ placed text (take (length out - at) (drop at out))) where
-  -- the part is all that is left of the buffer, and has room
-  part-fits : output r after ≡ output (row 0 (length text ∷ [])) (text ++ drop (at + length text) out)
+  -- the part has room
+  part-fits : output r after
+      ≡ output (row 0 (length text ∷ [])) (onto text (take (length out - at) (drop at out)))
   part-fits =
-      let left : length (drop at out) ≡ length out - at = length-drop at out in
-      put ∙ rw (
-        take-all (length out - at) (drop at out) (omega arith),
-        le-ltb (length (drop at out)) (length text) (omega arith),
-        drop-drop (length text) at out,
-      )
+      let left : length text ≤ length (take (length out - at) (drop at out)) =
+      rw (part-left out at) (omega (arith, length-drop at out)) in
+      put ∙ rw (le-ltb (length (take (length out - at) (drop at out))) (length text) left)
 
   pub part-count : writtenIn r ≡ length text
   part-count = ap (λ (w : Output). writtenIn (w .row)) part-fits
 
   pub part-put : take at out ++ (after ++ drop (length out - at) (drop at out)) ≡ sets out at text
-  part-put =
-      let left : length (drop at out) ≤ length out - at = omega (arith, length-drop at out) in
-      let part : after ≡ text ++ drop (at + length text) out = ap (λ (w : Output). w .out) part-fits in
-      rw (part, drop-of-length-le (drop at out) left, append-nil, sets-eq text out at fits, append-assoc)
+  part-put = rw (ap (λ (w : Output). w .out) part-fits) (put-onto out at text fits)
 
 -- ---- columns from the i-th on
 

@@ -5,7 +5,6 @@ use mathlib.Core.Bool.{cond}
 use mathlib.Core.List.{List, []}
 use lib.ListN.{length, getD, drop}
 use lib.Dec.{eqb}
-use Rattle.base.specs.Rows.{Row}
 use Rattle.base.specs.Outcomes.{Outcome}
 use Rattle.base.specs.Runs.{Run, stopped, onward, Left}
 use Rattle.frame.specs.State.{State as Reader}
@@ -89,16 +88,6 @@ loopOf limit s b room = playIn limit (suc (length b)) s b room
 -- a call of `play`: STATE comes first
 abbrev pub playOf : ℕ → State → List ℕ → ℕ → Run State
 playOf limit s b room = cond (inRangeOf limit s) (loopOf limit s b room) (stopped s 17)
-
--- what the code's step returns that makes no text
-abbrev pub stepRun : Step → Run State
-stepRun l =
-    record {
-      state = stateOf (l .replay);
-      used = l .used;
-      text = [];
-      stop = cond (l .«is_last») (stopOf (l .stop)) goesOn;
-    }
 
 -- what the code's step returns, and the buffer after it
 abbrev pub stepLeft : Step → List ℕ → Left State

@@ -1,16 +1,14 @@
 // The state of a replay: how far the capture is read, and a reader for each direction. PROTOCOL 14.1, 14.6.
 use capture::Cursor;
-use capture::Direction;
 use capture::NextResult;
 use frame::FinishResult;
 use frame::Reader;
 ghost use mathlib.Core.Path.{_≡_};
 ghost use Rattle.frame.specs.Wire.{frameLimit};
-ghost use Rattle.frame.specs.State.{scanOf, stateOf as readerStateOf};
+ghost use Rattle.frame.specs.State.{scanOf};
 ghost use Rattle.frame.specs.Rules.{inRangeOf as readerInRange};
 ghost use Rattle.capture.specs.Reading.{inRangeOf as cursorInRange};
-ghost use Rattle.capture.specs.Table.{directionNumber};
-ghost use Rattle.replay.specs.State.{stateOf, freshOf, inRangeOf, readerOf, withReader};
+ghost use Rattle.replay.specs.State.{stateOf, freshOf, inRangeOf};
 
 // `fed` is how many bytes of the record at the cursor its reader has been fed.
 pub struct Replay {

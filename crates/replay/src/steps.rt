@@ -7,6 +7,7 @@ use capture::Refusal;
 use frame::Reader;
 use listing::Listed;
 ghost use mathlib.Core.Path.{_≡_};
+ghost use mathlib.Core.List.{[]};
 ghost use lib.ListN.{length};
 ghost use lib.Dec.{eqb};
 ghost use Rattle.base.specs.Runs.{stopped, leftBy};
@@ -18,7 +19,7 @@ ghost use Rattle.capture.specs.Table.{directionNumber};
 ghost use Rattle.replay.specs.State.{stateOf, readerOf, withReader};
 ghost use Rattle.replay.specs.Lines.{prefixOf};
 ghost use Rattle.replay.specs.Table.{stopOf};
-ghost use Rattle.replay.specs.Playing.{recordRun, recordIn, headIn, stepOf, stepRun, stepLeft};
+ghost use Rattle.replay.specs.Playing.{recordRun, recordIn, headIn, stepOf, stepLeft};
 
 // Why a play stopped: more bytes are needed, the next line might lack room, the capture is refused, or the state or the
 // count of bytes is.
@@ -150,9 +151,9 @@ fn play_record(
     }
 }
 
-// Nothing is done, and the play stops.
+// Nothing is done, and the play stops; whatever the buffer holds, nothing is put in it.
 fn last(replay: Replay, stop: Stop) -> Step
-    ensures { λ r. ⌜ stepRun r ≡ stopped (stateOf replay) (stopOf stop) ⌝ }
+    ensures { λ r. ⌜ stepLeft r [] ≡ leftBy (stopped (stateOf replay) (stopOf stop)) [] ⌝ }
 {
     Step {
         replay,
@@ -163,9 +164,9 @@ fn last(replay: Replay, stop: Stop) -> Step
     }
 }
 
-// The head is taken.
+// The head is taken. It has no text.
 fn play_head(replay: Replay, count: usize, next: Cursor) -> Step
-    ensures { λ r. ⌜ stepRun r ≡ headIn count (next .place) (stateOf replay) ⌝ }
+    ensures { λ r. ⌜ stepLeft r [] ≡ leftBy (headIn count (next .place) (stateOf replay)) [] ⌝ }
 {
     let from_module = replay.from_module;
     let from_box = replay.from_box;
