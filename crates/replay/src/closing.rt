@@ -3,6 +3,7 @@ use super::state::Replay;
 use super::state::in_range;
 use capture::EndResult;
 use capture::Refusal;
+use frame::Reader;
 use listing::LineResult;
 ghost use mathlib.Core.Path.{_≡_};
 ghost use mathlib.Core.List.{[], _∷_, _++_};
@@ -10,7 +11,9 @@ ghost use Prim.Native.Nat.{_≤_};
 ghost use lib.ListN.{length, take};
 ghost use Rattle.base.specs.Rows.{row};
 ghost use Rattle.frame.specs.Wire.{frameLimit};
-ghost use Rattle.listing.specs.Lines.{refusalText};
+ghost use Rattle.frame.specs.State.{stateOf as readerStateOf};
+ghost use Rattle.frame.specs.Calls.{finishOf};
+ghost use Rattle.listing.specs.Lines.{lastOf, refusalText};
 ghost use Rattle.capture.specs.Table.{refusalNumber};
 ghost use Rattle.replay.specs.State.{stateOf};
 ghost use Rattle.replay.specs.Closing.{endLines, closed, closeOf, Closes};
@@ -46,6 +49,17 @@ fn put_lines(first: &[u8], second: &[u8], out: &mut [u8]) -> ClosingResult
     }
 }
 
+// The end line of a direction, at the front of a buffer that has room for it; returns how many bytes it has.
+fn put_end(reader: Reader, prefix: &[u8], out: &mut [u8]) -> usize
+    requires { ⌜ (length (now prefix) ≤ 2) × (160 ≤ length (now out)) ⌝ }
+    ensures { λ r. ⌜ take r (now (out .exit))
+        ≡ lastOf (now (prefix .entry)) (finishOf frameLimit (readerStateOf reader) .row) ⌝ }
+{
+    let finished = frame::finish(reader);
+    let answer = finished.answer;
+    listing::last(answer, prefix, out).count()
+}
+
 // The end lines, of the module's bytes and then of the box's.
 fn put_ends(replay: Replay, out: &mut [u8]) -> ClosingResult
     ensures { λ r. ⌜ Closes r (now (out .exit))
@@ -53,12 +67,10 @@ fn put_ends(replay: Replay, out: &mut [u8]) -> ClosingResult
 {
     let from_module = replay.from_module;
     let from_box = replay.from_box;
-    let first = frame::finish(from_module).answer;
-    let second = frame::finish(from_box).answer;
     let mut line0 = [0; 160];
     let mut line1 = [0; 160];
-    let count0 = listing::last(first, b"0 ", &mut line0).count();
-    let count1 = listing::last(second, b"1 ", &mut line1).count();
+    let count0 = put_end(from_module, b"0 ", &mut line0);
+    let count1 = put_end(from_box, b"1 ", &mut line1);
     put_lines(
         base::part(&line0, 0, count0),
         base::part(&line1, 0, count1),

@@ -4,8 +4,8 @@ ghost use lib.ListN.{length};
 ghost use Rattle.base.specs.Outcomes.{onto};
 ghost use Rattle.replay.specs.Window.{keptOf};
 
-// Moves the bytes from `start` up to `end` to the front of the buffer, whose other bytes stay; returns how many they are.
-// Places beyond the buffer are those of its end.
+// Moves the bytes from `start` up to `end` to the front of the buffer, whose other bytes stay; returns how many there
+// are. Places beyond the buffer are those of its end.
 pub fn keep(buffer: &mut [u8], start: usize, end: usize) -> usize
     ensures { λ r. ⌜ (r ≡ length (keptOf start end (now (buffer .entry))))
         × (now (buffer .exit) ≡ onto (keptOf start end (now (buffer .entry))) (now (buffer .entry))) ⌝ }
