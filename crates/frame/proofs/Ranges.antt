@@ -1,24 +1,25 @@
--- reader-ranges, used-exactly, fresh-reader and limits. Assumes nothing.
-use Prim.Native.Nat.{ℕ, _+_, _^_, _<_}
+-- reader-ranges, range-kept, used-exactly, fresh-reader and limits. Assumes nothing.
+use Prim.Native.Nat.{ℕ, _+_, _^_, _≤_, _<_}
 use mathlib.Core.Path.{_≡_, refl}
 use mathlib.Core.Bool.{false}
 use mathlib.Core.Logic.{inl, inr}
 use mathlib.Core.List.{List, [], _∷_}
 use native.Mathlib.Omega.{arith}
-use borrow.Author.Tests.{le-leb, lt-leb, leb-false}
+use borrow.Author.Tests.{le-leb, lt-leb, leb-true, leb-false}
 use lib.ListN.{length}
 use lib.Dec.{leb}
 use Rattle.base.specs.Outcomes.{Outcome}
-use Rattle.base.proofs.Tests.{by-test, either-way}
+use Rattle.base.proofs.Tests.{by-test, either-way, both}
 use Rattle.frame.specs.Wire.{frameLimit}
 use Rattle.frame.specs.State.{Phase, Idle, Half, Header, Open, Escape, Scan, State}
-use Rattle.frame.specs.Rules.{inRangeOf, maxConsumed, maxFilled, advanceOf, decidesOf}
+use Rattle.frame.specs.Rules.{Ready, inRangeOf, maxConsumed, maxFilled, advanceOf, decidesOf}
 use Rattle.frame.specs.Table.{eventRow}
 use Rattle.frame.specs.Calls.{zeros, finishRowIn, nextOf, runOf}
-use Rattle.frame.specs.Ranges.{OutOfRange, ReaderRangesAll, UsedAlways, FreshReader, Limits}
+use Rattle.frame.specs.Ranges.{OutOfRange, ReaderRangesAll, RangeKept, UsedAlways, FreshReader, Limits}
 use Rattle.frame.specs.declared.scan.Event.{Event}
 use Rattle.frame.specs.declared.scan.Event.the-variants.{Quiet, Decided}
 use Rattle.frame.proofs.EachCall.{numbered}
+use Rattle.frame.proofs.Steps.{kept}
 
 -- ---- the test
 
@@ -72,6 +73,40 @@ reader-ranges r bytes =
       finished-only = by-test Only (inRangeOf frameLimit (r .scan))
           (λ t h. absurd (omega (arith, ending-below (r .scan .phase) (r .scan)))) (λ t h. inside-not r t);
     }
+
+-- ---- a feed keeps the range
+
+abbrev Inside : Outcome State → Type 0
+Inside y = Ready frameLimit (y .state .scan) 0
+
+run-inside : (bs : List ℕ) (n : ℕ) (r : State)
+    → Ready frameLimit (r .scan) (length bs) → Inside (runOf frameLimit bs n r)
+unfolding runOf
+run-inside [] n r h = h
+run-inside (x ∷ bs) n r h =
+    let room : Ready frameLimit (r .scan) (length bs + 1) = omega (arith, h) in
+    let next : Ready frameLimit (nextOf frameLimit r x .scan) (length bs) = kept (length bs) room x in
+    by-test Inside (decidesOf (advanceOf frameLimit (r .scan) x .event)) (λ t. omega (arith, next))
+    (λ t. run-inside bs (n + 1) (nextOf frameLimit r x) next)
+
+inside-stays : (r : State) → Ready frameLimit (r .scan) 0 → OutOfRange r → ⊥
+inside-stays r h (inl g) = omega (arith, h)
+inside-stays r h (inr g) = omega (arith, h)
+
+pub range-kept : RangeKept
+range-kept r bytes h =
+    let same : Outcome State → Type 0 = λ (y : Outcome State). OutOfRange (y .state) → ⊥ in
+    by-test same (inRangeOf frameLimit (r .scan))
+    (λ t. by-test same (leb (r .scan .consumed + length bytes) (2 ^ 62))
+    (λ u.
+    let fits : r .scan .consumed + length bytes ≤ 2 ^ 62 = leb-true _ _ u in
+    let small : r .scan .filled ≤ maxFilled frameLimit =
+    leb-true _ _ (both (leb (r .scan .consumed) maxConsumed) t .1) in
+    let ready : Ready frameLimit (r .scan) (length bytes) =
+    record { room = fits; inside = small; small = omega arith } in
+    inside-stays (runOf frameLimit bytes 0 r .state) (run-inside bytes 0 r ready))
+    (λ u. h))
+    (λ t. h)
 
 pub used-exactly : UsedAlways
 used-exactly r bytes =

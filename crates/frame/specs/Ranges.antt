@@ -25,6 +25,11 @@ pub record ReaderRanges (r : State) (bytes : List ℕ) : Type 0 where
 abbrev pub ReaderRangesAll : Type 0
 ReaderRangesAll = (r : State) (bytes : List ℕ) → ReaderRanges r bytes
 
+-- ---- range-kept: a feed leaves a reader in range in range
+abbrev pub RangeKept : Type 0
+RangeKept =
+    (r : State) (bytes : List ℕ) → (OutOfRange r → ⊥) → OutOfRange (feedOf frameLimit r bytes .state) → ⊥
+
 -- ---- used-exactly: USED, with count 0 and the reader unchanged, exactly when a reader in range is offered more than
 -- 2^62 bytes in all
 pub record UsedExactly (r : State) (bytes : List ℕ) : Type 0 where

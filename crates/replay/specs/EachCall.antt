@@ -4,19 +4,18 @@ use mathlib.Core.Path.{_≡_}
 use mathlib.Core.Logic.{_≢_, _⊎_}
 use mathlib.Core.Bool.{true}
 use mathlib.Core.List.{List, [], _∷_, _++_}
-use lib.ListN.{length, getD, take, drop}
+use lib.ListN.{length, getD, drop}
 use Rattle.base.specs.Keys.{among}
 use Rattle.base.specs.Rows.{row}
 use Rattle.base.specs.Outcomes.{output}
 use Rattle.base.specs.Runs.{Run, stopped}
 use Rattle.frame.specs.Wire.{frameLimit}
 use Rattle.frame.specs.Ranges.{OutOfRange as ReaderOut}
-use Rattle.frame.specs.State.{stateOf as readerStateOf}
 use Rattle.listing.specs.Lines.{ascii, refusalText}
 use Rattle.capture.specs.EachCall.{OutOfRange as CursorOut}
 use Rattle.capture.specs.Reading.{nextOf, endOf}
 use Rattle.replay.specs.Lines.{replayHeading, prefixOf}
-use Rattle.replay.specs.State.{State, stateOf, freshOf}
+use Rattle.replay.specs.State.{State, stateOf}
 use Rattle.replay.specs.Table.{stopOf, closingRowOf}
 use Rattle.replay.specs.Playing.{playOf, leftOf}
 use Rattle.replay.specs.Closing.{endLines, closeOf}
