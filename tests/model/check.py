@@ -2,8 +2,8 @@
 """One reading of the rules, held to answers worked out by hand and to the definitions; then the program held to it.
 
 check.py PROGRAM STDIN STDOUT [SEED [COUNT]]: STDIN and STDOUT are the stored script and text of PROGRAM, test_driver.
-COUNT is the number of random streams of messages and of scripts of a link; of streams for the reader there are eight
-times as many. The last line is 'N passed, M failed'.
+COUNT is the number of random streams of messages and of scripts of a link; of captures there are twice, of streams for
+the reader eight times as many. The last line is 'N passed, M failed'.
 """
 import pathlib
 import sys
@@ -14,6 +14,7 @@ import check_device
 import check_examples
 import check_link
 import check_messages
+import check_replay
 import check_stored
 import check_streams
 from checks import Checks, Program, seed_and_count
@@ -30,6 +31,7 @@ def main():
     check_streams.check_model(checks, seed, 8 * count)
     check_messages.check_model(checks)
     check_link.check_model(checks)
+    check_replay.check_model(checks, seed, 2 * count)
     check_stored.check_files(checks, (stdin, stdout))
     with checks.unless_dead():
         program = Program(path, PATIENCE)

@@ -27,12 +27,16 @@ def line(answer, start, end, body):
     return f"{WORDS[answer]} {start} {end} {columns}"
 
 
+def end_line(reader):
+    answer, *values = reader.finish()
+    return f"clean {values[0]}" if answer == CLEAN else f"open {values[1]}"
+
+
 def lines_and_end(data):
     """The lines between heading and last line, each with the place after its deciding byte; and the last line."""
     reader = Reader()
     lines = [(end, line(answer, start, end, body)) for answer, start, end, body in decided(data, reader)]
-    answer, *values = reader.finish()
-    return lines, f"clean {values[0]}" if answer == CLEAN else f"open {values[1]}"
+    return lines, end_line(reader)
 
 
 def listing(data):
