@@ -1,8 +1,8 @@
 //! Runs the first implementation's programs and compares them with this one, byte for byte.
 
-use crate::families::{self, Program, Test, PROGRAMS};
-use crate::process::{self, Fault};
-use crate::{driver, listing, text, vectors};
+use crate::families::{self, Play, Program, Test, PROGRAMS};
+use crate::process::{self, Fault, Printed};
+use crate::{cuts, driver, listing, replay, text, vectors};
 use std::path::{Path, PathBuf};
 use std::sync::atomic::{AtomicBool, AtomicUsize, Ordering};
 use std::sync::Mutex;
@@ -15,9 +15,17 @@ const SHOWN: usize = 400;
 /// What the first implementation does in another way.
 struct Difference {
     name: String,
+    wrong: Wrong,
+}
+
+/// What is wrong with one run, and what shows it.
+struct Wrong {
     what: String,
     detail: String,
 }
+
+/// The word that has `replay_program` mark the end of a run on standard error.
+const MARKED: &[&str] = &["marked"];
 
 struct Comparison {
     folder: PathBuf,
@@ -35,9 +43,7 @@ struct Score {
 
 /// Runs all tests; true if none failed. The last line is the score.
 pub fn compare(folder: &Path, seed: u64, count: u64) -> bool {
-    println!(
-        "seed {seed}, count {count}; one test is one input, played once, a short stream in all its cuts is one input"
-    );
+    println!("seed {seed}, count {count}; one test is one input, a short stream or capture in all its cuts too");
     let comparison = Comparison::new(folder, seed);
     let mut score = comparison.first_look();
     let tests = families::tests(count);
@@ -53,10 +59,10 @@ pub fn compare(folder: &Path, seed: u64, count: u64) -> bool {
 fn report(score: &Score) {
     let mut detailed = false;
     for (_, difference) in &score.failed {
-        println!("{}: {}", difference.name, difference.what);
+        println!("{}: {}", difference.name, difference.wrong.what);
         if !detailed {
-            print!("{}", difference.detail);
-            detailed = !difference.detail.is_empty();
+            print!("{}", difference.wrong.detail);
+            detailed = !difference.wrong.detail.is_empty();
         }
     }
 }
@@ -66,7 +72,7 @@ impl Comparison {
         Comparison { folder: folder.into(), seed, out: Default::default() }
     }
 
-    /// The listing's example by both, and whether the programs are there.
+    /// The worked examples by both, and whether the programs are there.
     fn first_look(&self) -> Score {
         let mut score = Score::default();
         for program in PROGRAMS {
@@ -75,11 +81,13 @@ impl Comparison {
                 score.fail(0, program.name(), "missing".into());
             }
         }
-        let own = output_of(Program::List, &vectors::LISTED);
-        score.check_listing("the listing's example, second implementation", Ok(own));
-        if self.takes_part(Program::List) {
-            let first = self.run(Program::List, &vectors::LISTED);
-            score.check_listing("the listing's example, first implementation", first);
+        for (program, input, text) in worked() {
+            let name = format!("the worked example of {}", program.name());
+            score.check_text(&format!("{name}, second implementation"), &text, Ok(printed_for(program, &input).text));
+            if self.takes_part(program) {
+                let first = self.run(program, &input).map(|printed| printed.text);
+                score.check_text(&format!("{name}, first implementation"), &text, first);
+            }
         }
         score
     }
@@ -113,21 +121,44 @@ impl Comparison {
 
     fn run_test(&self, test: &Test) -> Option<Difference> {
         let input = test.input(self.seed);
-        let program = test.play.program();
-        let second = output_of(program, &input);
-        let name = test.name(self.seed);
-        match self.run(program, &input) {
-            Ok(first) if first == second => None,
-            Ok(first) => {
-                let detail = describe(&input, &first, &second);
-                Some(Difference { name, what: "differs".into(), detail })
+        let wrong = match test.play {
+            Play::Cuts => self.wrong_in_reads(&input),
+            Play::Live => self.wrong_live(&input),
+            _ => {
+                let program = test.play.program();
+                wrong(&input, &self.run(program, &input), &printed_for(program, &input))
             }
-            Err(fault) => Some(Difference { name, what: fault, detail: input_line(&input) }),
-        }
+        };
+        wrong.map(|wrong| Difference { name: test.name(self.seed), wrong })
     }
 
-    fn run(&self, program: Program, input: &[u8]) -> Result<Vec<u8>, String> {
-        process::run(&self.path(program), input.to_vec()).map_err(|fault| match fault {
+    /// The first cut into reads with which something is wrong.
+    fn wrong_in_reads(&self, capture: &[u8]) -> Option<Wrong> {
+        let second = Printed { words: Vec::new(), ..printed_for(Program::Replay, capture) };
+        cuts::of(capture).find_map(|pieces| {
+            let first = self.outcome(Program::Replay, process::run_in_reads(&self.path(Program::Replay), &pieces));
+            let Wrong { what, detail } = wrong(capture, &first, &second)?;
+            let sizes: Vec<usize> = pieces.iter().map(|piece| piece.len()).collect();
+            Some(Wrong { what: format!("{what}, in reads of {sizes:?}"), detail })
+        })
+    }
+
+    /// The lines of each record are awaited before more is sent.
+    fn wrong_live(&self, capture: &[u8]) -> Option<Wrong> {
+        let (steps, is_refused_before_end) = cuts::live(capture);
+        let said = process::converse(&self.path(Program::Replay), &steps, is_refused_before_end);
+        let first = self.outcome(Program::Replay, said.map(|text| Printed { text, words: Vec::new() }));
+        let second = Printed { words: Vec::new(), ..printed_for(Program::Replay, capture) };
+        wrong(capture, &first, &second)
+    }
+
+    fn run(&self, program: Program, input: &[u8]) -> Result<Printed, String> {
+        let words = if program == Program::Replay { MARKED } else { &[] };
+        self.outcome(program, process::run(&self.path(program), words, input.to_vec()))
+    }
+
+    fn outcome(&self, program: Program, ran: Result<Printed, Fault>) -> Result<Printed, String> {
+        ran.map_err(|fault| match fault {
             Fault::Missing(reason) => format!("cannot be started: {reason}"),
             Fault::Died(status) => format!("died: {status}"),
             Fault::Hung => {
@@ -153,13 +184,13 @@ impl Comparison {
 
 impl Score {
     fn fail(&mut self, place: usize, name: &str, what: String) {
-        let difference = Difference { name: name.into(), what, detail: String::new() };
+        let difference = Difference { name: name.into(), wrong: Wrong { what, detail: String::new() } };
         self.failed.push((place, difference));
     }
 
-    fn check_listing(&mut self, name: &str, output: Result<Vec<u8>, String>) {
+    fn check_text(&mut self, name: &str, text: &str, output: Result<Vec<u8>, String>) {
         match output {
-            Ok(output) if output == vectors::LISTING.as_bytes() => self.passed += 1,
+            Ok(output) if output == text.as_bytes() => self.passed += 1,
             Ok(output) => {
                 let what = format!("differs:\n{}", String::from_utf8_lossy(&output));
                 self.fail(0, name, what);
@@ -169,20 +200,49 @@ impl Score {
     }
 }
 
+/// Inputs with the exact text that is to be printed for them.
+fn worked() -> [(Program, Vec<u8>, &'static str); 2] {
+    [
+        (Program::List, vectors::LISTED.to_vec(), vectors::LISTING),
+        (Program::Replay, vectors::replayed(), vectors::REPLAY),
+    ]
+}
+
 fn next_of<'a>(tests: &'a [Test], next: &AtomicUsize) -> Option<(usize, &'a Test)> {
     let place = next.fetch_add(1, Ordering::Relaxed);
     tests.get(place).map(|test| (place, test))
 }
 
-/// What this implementation prints for the input.
-fn output_of(program: Program, mut input: &[u8]) -> Vec<u8> {
-    let mut output = Vec::new();
+/// What is to be printed for the input, by this implementation.
+fn printed_for(program: Program, mut input: &[u8]) -> Printed {
+    let mut text = Vec::new();
     let played = match program {
-        Program::List => listing::list(&mut input, &mut output),
-        Program::Driver => driver::play(&mut input, &mut output),
+        Program::List => listing::list(&mut input, &mut text).map(|()| &b""[..]),
+        Program::Driver => driver::play(&mut input, &mut text).map(|()| &b""[..]),
+        Program::Replay => replay::replay(&mut input, &mut text).map(mark),
     };
-    played.expect("memory can be read and written");
-    output
+    let words = played.expect("memory can be read and written").to_vec();
+    Printed { text, words }
+}
+
+fn mark(is_whole: bool) -> &'static [u8] {
+    if is_whole {
+        b"whole\n"
+    } else {
+        b"refused\n"
+    }
+}
+
+fn wrong(input: &[u8], first: &Result<Printed, String>, second: &Printed) -> Option<Wrong> {
+    match first {
+        Ok(first) if first == second => None,
+        Ok(first) if first.text == second.text => {
+            let detail = describe(input, &first.words, &second.words);
+            Some(Wrong { what: "differs on standard error".into(), detail })
+        }
+        Ok(first) => Some(Wrong { what: "differs".into(), detail: describe(input, &first.text, &second.text) }),
+        Err(fault) => Some(Wrong { what: fault.clone(), detail: input_line(input) }),
+    }
 }
 
 /// The input and the first line that differs.

@@ -1,26 +1,31 @@
 //! The table of all tests: which inputs there are, what they are played through, and how many of them.
 
 use crate::random::Rng;
-use crate::{link_scripts, scripts, streams, vectors};
+use crate::{captures, link_scripts, scripts, streams, vectors};
 
-/// What an input is played through: the program `list_program`, or one kind of script on `test_driver`.
+/// What an input is played through: the program `list_program`, one kind of script on `test_driver`, or a capture on
+/// `replay_program`: through a pipe, in many cuts into reads, or live.
 #[derive(Clone, Copy, PartialEq, Eq, Debug)]
 pub enum Play {
     List,
     Messages,
     Calls,
     Links,
+    Replay,
+    Cuts,
+    Live,
 }
 
-const PLAYS: [Play; 4] = [Play::List, Play::Messages, Play::Calls, Play::Links];
+const PLAYS: [Play; 7] = [Play::List, Play::Messages, Play::Calls, Play::Links, Play::Replay, Play::Cuts, Play::Live];
 
 #[derive(Clone, Copy, PartialEq, Eq, Debug)]
 pub enum Program {
     List,
     Driver,
+    Replay,
 }
 
-pub const PROGRAMS: [Program; 2] = [Program::List, Program::Driver];
+pub const PROGRAMS: [Program; 3] = [Program::List, Program::Driver, Program::Replay];
 
 impl Play {
     fn name(self) -> &'static str {
@@ -29,6 +34,9 @@ impl Play {
             Play::Messages => "messages",
             Play::Calls => "calls",
             Play::Links => "links",
+            Play::Replay => "replay",
+            Play::Cuts => "cuts",
+            Play::Live => "live",
         }
     }
 
@@ -37,10 +45,10 @@ impl Play {
     }
 
     pub fn program(self) -> Program {
-        if self == Play::List {
-            Program::List
-        } else {
-            Program::Driver
+        match self {
+            Play::List => Program::List,
+            Play::Messages | Play::Calls | Play::Links => Program::Driver,
+            Play::Replay | Play::Cuts | Play::Live => Program::Replay,
         }
     }
 }
@@ -50,6 +58,7 @@ impl Program {
         match self {
             Program::List => "list_program",
             Program::Driver => "test_driver",
+            Program::Replay => "replay_program",
         }
     }
 }
@@ -68,6 +77,20 @@ enum Kind {
     Calls(Make),
     /// A script of a link's records.
     Links(Make),
+    Capture(Make),
+    /// A capture that is short enough for many cuts into reads.
+    Short(Make),
+    /// A capture whose lines are awaited before more of it is sent.
+    Live(Make),
+}
+
+impl Kind {
+    fn make(self) -> Make {
+        match self {
+            Kind::Stream(make) | Kind::Long(make) | Kind::Calls(make) | Kind::Links(make) => make,
+            Kind::Capture(make) | Kind::Short(make) | Kind::Live(make) => make,
+        }
+    }
 }
 
 pub struct Family {
@@ -85,7 +108,7 @@ fn full_count(count: u64) -> u64 {
     count
 }
 
-const FAMILIES: [Family; 25] = [
+const FAMILIES: [Family; 43] = [
     family("whole", Kind::Stream(streams::whole), full_count),
     family("damaged", Kind::Stream(streams::damaged), full_count),
     family("cut", Kind::Stream(streams::cut), full_count),
@@ -112,6 +135,24 @@ const FAMILIES: [Family; 25] = [
     family("long-life", Kind::Links(link_scripts::long_life), full_count),
     family("any-state", Kind::Links(link_scripts::any_state), full_count),
     family("link-noise", Kind::Links(link_scripts::noise), full_count),
+    family("capture-whole", Kind::Capture(captures::whole), full_count),
+    family("capture-small-records", Kind::Capture(captures::small_records), full_count),
+    family("capture-empty-records", Kind::Capture(captures::empty_records), full_count),
+    family("capture-in-step", Kind::Capture(captures::in_step), full_count),
+    family("capture-all-ff", Kind::Capture(captures::all_ff), full_count),
+    family("capture-cut", Kind::Capture(captures::cut), full_count),
+    family("capture-cut-heads", Kind::Capture(captures::cut_heads), full_count),
+    family("capture-damaged", Kind::Capture(captures::damaged), full_count),
+    family("capture-damaged-heads", Kind::Capture(captures::damaged_heads), full_count),
+    family("capture-directions", Kind::Capture(captures::directions), full_count),
+    family("capture-few-bytes", Kind::Capture(captures::few_bytes), full_count),
+    family("capture-noise", Kind::Capture(captures::noise), full_count),
+    family("capture-full-records", Kind::Capture(captures::full_records), |count| count / 4),
+    family("capture-long", Kind::Capture(captures::long), |count| count / 10),
+    family("every-cut-capture", Kind::Short(captures::shortest), |_| captures::SHORTEST_COUNT),
+    family("two-cuts-capture", Kind::Short(captures::short), |count| count / 50),
+    family("live-capture", Kind::Live(captures::any), |count| count / 2),
+    family("live-worked-capture", Kind::Live(captures::worked), |_| 1),
 ];
 
 /// One input, played once.
@@ -136,10 +177,9 @@ impl Test {
 
     pub fn input(&self, seed: u64) -> Vec<u8> {
         let mut rng = Rng::for_test(seed, self.family as u64, self.index);
-        let (Kind::Stream(make) | Kind::Long(make) | Kind::Calls(make) | Kind::Links(make)) =
-            FAMILIES[self.family].kind;
-        let made = make(&mut rng, self.index);
-        match (FAMILIES[self.family].kind, self.play) {
+        let kind = FAMILIES[self.family].kind;
+        let made = kind.make()(&mut rng, self.index);
+        match (kind, self.play) {
             (Kind::Stream(_), Play::Calls) => scripts::random_cuts(&made, &mut rng),
             (_, Play::Messages) => scripts::in_records(&made, &mut rng),
             _ => made,
@@ -154,6 +194,9 @@ impl Family {
             Kind::Long(_) => &[Play::List, Play::Messages],
             Kind::Calls(_) => &[Play::Calls],
             Kind::Links(_) => &[Play::Links],
+            Kind::Capture(_) => &[Play::Replay],
+            Kind::Short(_) => &[Play::Cuts],
+            Kind::Live(_) => &[Play::Live],
         }
     }
 }

@@ -4,7 +4,7 @@ use crate::reader::{Answer, Ending, Reader, Verdict};
 use crate::text;
 use std::io::{self, ErrorKind, Read, Write};
 
-const READ_SIZE: usize = 64 * 1_024;
+pub const READ_SIZE: usize = 64 * 1_024;
 const TITLE: &[u8] = b"kind start end cmd sn flags payload\n";
 
 /// Lists the input. What was decided is written before more is read, so that a slow line can be watched.
@@ -22,15 +22,15 @@ pub fn list(input: &mut impl Read, output: &mut impl Write) -> io::Result<()> {
         if size == 0 {
             break;
         }
-        add_lines(&mut reader, &bytes[..size], &mut lines);
+        add_lines(b"", &mut reader, &bytes[..size], &mut lines);
     }
-    add_last_line(&reader, &mut lines);
+    add_last_line(b"", &reader, &mut lines);
     let _ = output.write_all(&lines).and_then(|()| output.flush());
     Ok(())
 }
 
 /// One read that a signal does not end.
-fn read_some(input: &mut impl Read, bytes: &mut [u8]) -> io::Result<usize> {
+pub fn read_some(input: &mut impl Read, bytes: &mut [u8]) -> io::Result<usize> {
     loop {
         match input.read(bytes) {
             Err(error) if error.kind() == ErrorKind::Interrupted => {}
@@ -39,10 +39,12 @@ fn read_some(input: &mut impl Read, bytes: &mut [u8]) -> io::Result<usize> {
     }
 }
 
-fn add_lines(reader: &mut Reader, mut bytes: &[u8], lines: &mut Vec<u8>) {
+/// The lines that some bytes decide, with the same text before each one.
+pub fn add_lines(prefix: &[u8], reader: &mut Reader, mut bytes: &[u8], lines: &mut Vec<u8>) {
     while !bytes.is_empty() {
         match reader.feed(bytes) {
             Answer::Decided { verdict, count, start, end } => {
+                lines.extend_from_slice(prefix);
                 add_line(verdict, start, end, reader, lines);
                 bytes = &bytes[count..];
             }
@@ -65,18 +67,15 @@ fn add_line(verdict: Verdict, start: u64, end: u64, reader: &Reader, lines: &mut
     }
 }
 
-fn add_last_line(reader: &Reader, lines: &mut Vec<u8>) {
-    match reader.finish() {
-        Ending::Clean { consumed } => {
-            lines.extend_from_slice(b"clean");
-            text::numbers(lines, &[consumed]);
-        }
-        Ending::Open { start, .. } => {
-            lines.extend_from_slice(b"open");
-            text::numbers(lines, &[start]);
-        }
+pub fn add_last_line(prefix: &[u8], reader: &Reader, lines: &mut Vec<u8>) {
+    let (word, number) = match reader.finish() {
+        Ending::Clean { consumed } => (&b"clean"[..], consumed),
+        Ending::Open { start, .. } => (&b"open"[..], start),
         Ending::State => return,
-    }
+    };
+    lines.extend_from_slice(prefix);
+    lines.extend_from_slice(word);
+    text::numbers(lines, &[number]);
     lines.push(b'\n');
 }
 

@@ -1,8 +1,11 @@
 //! A second implementation of the serial protocol, written from the rules alone, to compare the first one with.
 
 mod answers;
+mod capture;
+mod captures;
 mod compare;
 mod counter;
+mod cuts;
 mod driver;
 mod families;
 mod generate;
@@ -15,6 +18,7 @@ mod payloads;
 mod process;
 mod random;
 mod reader;
+mod replay;
 mod scripts;
 mod streams;
 mod text;
@@ -27,7 +31,7 @@ use std::io::{self, Write};
 use std::path::Path;
 use std::process::ExitCode;
 
-const USAGE: &str = "usage: differential list | driver | written
+const USAGE: &str = "usage: differential list | replay | driver | written
        differential generate reports|ff|noise SEED COUNT
        differential compare FOLDER [SEED [COUNT]]
        differential input PLAY SEED FAMILY INDEX";
@@ -40,6 +44,7 @@ fn main() -> ExitCode {
     let words: Vec<&str> = words.iter().map(String::as_str).collect();
     let done = match words[..] {
         ["list"] => listing::list(&mut io::stdin().lock(), &mut io::stdout().lock()).map_err(not_read),
+        ["replay"] => replay(),
         ["driver"] => driver::play(&mut io::stdin().lock(), &mut io::stdout().lock()).map_err(not_read),
         ["written"] => written(),
         ["generate", kind, seed, count] => generate(kind, seed, count),
@@ -62,6 +67,10 @@ fn main() -> ExitCode {
 
 fn not_read(error: io::Error) -> String {
     format!("differential: {error}")
+}
+
+fn replay() -> Result<(), String> {
+    replay::replay(&mut io::stdin().lock(), &mut io::stdout().lock()).map(drop).map_err(not_read)
 }
 
 /// Both outcomes are what this program prints.

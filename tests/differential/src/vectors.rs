@@ -19,6 +19,26 @@ frame 15 25 7 243 0 0
 clean 25
 ";
 
+/// A capture with both directions, a frame over two records with the other direction and an empty record between its
+/// parts, and noise; with the exact text that is to be printed for it.
+const REPLAYED: &str = "
+    4C 46 54 00 01
+    00 00 00 00 00 00 04 FF FF 00 05
+    01 00 00 00 07 00 0A 55 FF FF 00 05 08 01 00 00 0E
+    00 00 00 01 00 00 00
+    00 FF FF FF FF 00 06 07 01 00 00 0D FF";
+pub const REPLAY: &str = "\
+dir kind start end cmd sn flags payload
+1 frame 1 10 8 1 0 0
+0 frame 0 9 7 1 0 0
+0 clean 10
+1 clean 10
+";
+
+pub fn replayed() -> Vec<u8> {
+    text::from_hex(REPLAYED).expect("hex")
+}
+
 /// All vectors, in the order of the files.
 pub fn all() -> Vec<Vec<u8>> {
     let lines = FILES.iter().flat_map(|(name, file)| file.lines().map(move |line| (name, line)));
