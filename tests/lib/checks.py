@@ -106,10 +106,10 @@ def contrast(so_far, line, other):
 class Program:
     """A program that reads bytes and prints lines."""
 
-    def __init__(self, path, patience):
+    def __init__(self, path, patience, *words):
         if not (os.path.isfile(path) and os.access(path, os.X_OK)):
             raise Dead(f"there is none at {path}")
-        self.path, self.patience = os.path.abspath(path), patience
+        self.path, self.patience, self.words = os.path.abspath(path), patience, words
 
     def printed(self, data):
         """What it prints, and what is wrong with its end, or ''."""
@@ -119,7 +119,7 @@ class Program:
             source.seek(0)
             ends = {"stdin": source, "stdout": subprocess.PIPE, "stderr": subprocess.DEVNULL}
             try:
-                process = subprocess.Popen([self.path], **ends)
+                process = subprocess.Popen([self.path, *self.words], **ends)
             except OSError as error:
                 raise Dead(error) from error
             with process:

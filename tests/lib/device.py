@@ -4,6 +4,8 @@ import select
 import subprocess
 import time
 
+from checks import text_of
+
 PATIENCE = 60  # seconds
 PAUSE = 0.05  # seconds between the pieces of a record
 
@@ -42,19 +44,22 @@ class Device:
         line, _, self.buffered = self.buffered.partition(b"\n")
         return line.decode("ascii", "backslashreplace")
 
-    def end(self):
-        """The input ends; what is wrong with that, or ''."""
+    def end(self, last):
+        """The input ends; what is wrong with that, or ''. The last lines come only now."""
         try:
             more = self.buffered + self.process.communicate(timeout=PATIENCE)[0]
         except subprocess.TimeoutExpired:
             return f"it does not end in {PATIENCE} seconds"
-        if more:
-            return f"{more!r} after its last line"
+        if more != text_of(last).encode("ascii"):
+            return f"{more!r} at the end of the input, which should be {last}"
         return f"it ends with status {self.process.returncode}" if self.process.returncode else ""
 
 
-def drive(program, steps):
-    """What goes wrong first, or ''. A step is bytes to send and the lines that they cause; None where it must wait."""
+def drive(program, steps, last=()):
+    """What goes wrong first, or ''. A step is bytes to send and the lines that they cause; None where it must wait.
+
+    The last lines are those that the end of the input causes.
+    """
     sent = b""
     try:
         with Device(program) as device:
@@ -67,6 +72,6 @@ def drive(program, steps):
                     found = device.line()
                     if found != line:
                         return f"after {sent.hex(' ')}\n  should be: {line}\n  is:        {found}"
-            return device.end()
+            return device.end(last)
     except OSError as error:
         return f"after {sent.hex(' ')}: {error}"

@@ -1,7 +1,8 @@
 #!/usr/bin/env python3
-"""One reading of the rules, held to answers worked out by hand and to the definitions; then the program held to it.
+"""One reading of the rules, held to answers worked out by hand and to the definitions; then the programs held to it.
 
-check.py PROGRAM STDIN STDOUT [SEED [COUNT]]: STDIN and STDOUT are the stored script and text of PROGRAM, test_driver.
+check.py FOLDER SECOND STDIN STDOUT [SEED [COUNT]]: FOLDER has the programs test_driver and replay_program, SECOND is the
+implementation in Rust, and STDIN and STDOUT are the stored script and text of test_driver.
 COUNT is the number of random streams of messages and of scripts of a link; of captures there are twice, of streams for
 the reader eight times as many. The last line is 'N passed, M failed'.
 """
@@ -23,7 +24,7 @@ PATIENCE = 60  # seconds
 
 
 def main():
-    path, stdin, stdout, *words = sys.argv[1:]
+    folder, second, stdin, stdout, *words = sys.argv[1:]
     seed, count = seed_and_count(words, 400)
     checks = Checks("model")
     check_comparison.check(checks)
@@ -34,13 +35,17 @@ def main():
     check_replay.check_model(checks, seed, 2 * count)
     check_stored.check_files(checks, (stdin, stdout))
     with checks.unless_dead():
-        program = Program(path, PATIENCE)
+        program = Program(f"{folder}/test_driver", PATIENCE)
         check_examples.check_program(checks, program)
         check_streams.check_program(checks, program, seed, 8 * count)
         check_messages.check_program(checks, program, seed, count)
         check_link.check_program(checks, program, seed, count)
         check_device.check_program(checks, program, seed)
         check_stored.check_program(checks, program)
+    with checks.unless_dead():
+        check_replay.check_second(checks, second, seed, count)
+    with checks.unless_dead():
+        check_replay.check_program(checks, Program(f"{folder}/replay_program", PATIENCE))
     return checks.end()
 
 

@@ -1,12 +1,18 @@
-"""Captures: the Python reading against texts written by hand, against the definitions and against its own writing."""
+"""Captures: the Python reading against texts written by hand, against the definitions and against its own writing.
+
+Then the implementation in Rust against it on random captures, and replay_program as a recorder drives it.
+"""
 import collections
 
 import definition
 import listing
-from checks import shares, text_of
+from checks import Dead, Program, difference, shares, text_of
+from device import drive
 from random_captures import FAMILIES, capture_of, some_records, some_stream
-from replay import DIRECTIONS, HEAD_SIZE, MAX_COUNT, RECORD_HEAD_SIZE, head, read_capture, record, replay
+from replay import DIRECTIONS, HEAD_SIZE, MAX_COUNT, RECORD_HEAD_SIZE
+from replay import head, lines_and_last, read_capture, record, replay
 from stated_captures import HEADING, REFUSED, WHOLE
+from wire import in_bytes, number_of
 
 
 def stated(test):
@@ -142,3 +148,79 @@ def check_model(checks, seed, count):
     stated(checks.test)
     definitions(checks, seed, count)
     properties(checks, seed, count)
+
+
+# The second implementation, on many captures in one process: captures and texts are written as their size in 4 bytes
+# and their bytes.
+
+PATIENCE = 60  # seconds
+
+
+def joined_with_sizes(parts):
+    return b"".join(in_bytes(4, len(part)) + part for part in parts)
+
+
+def parted(data):
+    while data:
+        size = number_of(data[:4])
+        yield data[4 : 4 + size]
+        data = data[4 + size :]
+
+
+def printed_by(second, words, data=b""):
+    found, wrong = Program(second, PATIENCE, *words).printed(data)
+    if wrong:
+        raise Dead(f"the second implementation, {words}: {wrong}")
+    return list(parted(found))
+
+
+def check_second(checks, second, seed, count):
+    ours = [(place, family(rand)) for place, rand, family in checks.inputs(FAMILIES, seed, count, "capture")]
+    made = printed_by(second, ["generate", "captures", str(seed), str(count)])
+    checks.say(f"seed {seed}, {len(made)} captures of the second implementation")
+    theirs = [(f"seed {seed}, capture {i} of the second implementation", data) for i, data in enumerate(made)]
+    checks.test("the second implementation makes captures", len(theirs) == count, str(len(theirs)))
+    names = [(name, bytes.fromhex(data)) for name, data, _ in WHOLE + REFUSED]
+    captures = [*names, *ours, *theirs]
+    texts = printed_by(second, ["replays"], joined_with_sizes(data for _, data in captures))
+    checks.test("the second implementation replays all", len(texts) == len(captures), f"{len(texts)} texts")
+    for (place, data), text in zip(captures, texts):
+        wrong = difference([(data, replay(data)[0].splitlines())], text)
+        checks.test_random(f"the second implementation's replay: {place}", wrong)
+
+
+# The program, as a recorder drives it: the lines of a record are there before the next byte is sent.
+
+
+def record_by_record(data):
+    """The steps of a capture, and its last lines."""
+    lines, last = lines_and_last(data)
+    steps, at = [(b"", [HEADING]), (head(), None)], HEAD_SIZE
+    for some in read_capture(data)[0]:
+        begin, at = at, at + len(record(*some))
+        steps.append((data[begin:at], [line for place, line in lines if place == at]))
+    return [*steps, (data[at:], None)], last
+
+
+def byte_by_byte(data):
+    """It waits for the last byte of each record."""
+    steps, last = record_by_record(data)
+    for piece, lines in steps:
+        if len(piece) < 2 or lines is None:
+            yield piece, lines
+            continue
+        for at in range(len(piece) - 2):
+            yield piece[at : at + 1], []
+        yield piece[-2:-1], None
+        yield piece[-1:], lines
+
+
+def check_program(checks, program):
+    ended = [some for some in REFUSED if "refused 54" in some[2][-1]]
+    for name, data, _ in WHOLE + ended:
+        steps, last = record_by_record(bytes.fromhex(data))
+        wrong = drive(program.path, steps, last)
+        checks.test(f"a recorder, record by record: {name}", not wrong, wrong)
+    for name, data, _ in WHOLE[:-2]:  # not the long ones
+        wrong = drive(program.path, byte_by_byte(bytes.fromhex(data)), lines_and_last(bytes.fromhex(data))[1])
+        checks.test(f"a recorder, byte by byte: {name}", not wrong, wrong)

@@ -18,6 +18,7 @@ mod payloads;
 mod process;
 mod random;
 mod reader;
+mod recorder;
 mod replay;
 mod scripts;
 mod streams;
@@ -27,12 +28,14 @@ mod vectors;
 mod writer;
 mod written;
 
+use capture::{Direction, DIRECTIONS};
 use std::io::{self, Write};
 use std::path::Path;
 use std::process::ExitCode;
 
-const USAGE: &str = "usage: differential list | replay | driver | written
-       differential generate reports|ff|noise SEED COUNT
+const USAGE: &str = "usage: differential list | replay | replays | driver | written
+       differential generate reports|ff|noise|captures SEED COUNT
+       differential record frames|SIZE box|both
        differential compare FOLDER [SEED [COUNT]]
        differential input PLAY SEED FAMILY INDEX";
 
@@ -45,8 +48,11 @@ fn main() -> ExitCode {
     let done = match words[..] {
         ["list"] => listing::list(&mut io::stdin().lock(), &mut io::stdout().lock()).map_err(not_read),
         ["replay"] => replay(),
+        ["replays"] => recorder::replay_each(&mut io::stdin().lock(), &mut io::stdout().lock()).map_err(not_read),
+        ["record", cut, directions] => record(cut, directions),
         ["driver"] => driver::play(&mut io::stdin().lock(), &mut io::stdout().lock()).map_err(not_read),
         ["written"] => written(),
+        ["generate", "captures", seed, count] => captures(seed, count),
         ["generate", kind, seed, count] => generate(kind, seed, count),
         ["compare", folder] => compare(folder, None, None),
         ["compare", folder, seed] => compare(folder, Some(seed), None),
@@ -71,6 +77,20 @@ fn not_read(error: io::Error) -> String {
 
 fn replay() -> Result<(), String> {
     replay::replay(&mut io::stdin().lock(), &mut io::stdout().lock()).map(drop).map_err(not_read)
+}
+
+fn captures(seed: &str, count: &str) -> Result<(), String> {
+    recorder::random_captures(number(seed)?, number(count)?, &mut io::stdout().lock()).map_err(not_read)
+}
+
+fn record(cut: &str, directions: &str) -> Result<(), String> {
+    let size = if cut == "frames" { None } else { Some(number(cut)?) };
+    let directions: &[Direction] = match directions {
+        "box" => &[Direction::FromBox],
+        "both" => &DIRECTIONS,
+        _ => return Err(USAGE.into()),
+    };
+    recorder::record(size, directions, &mut io::stdin().lock(), &mut io::stdout().lock()).map_err(not_read)
 }
 
 /// Both outcomes are what this program prints.
