@@ -17,7 +17,7 @@ SOURCES = [
     ("Rattle", ["crates/*/src/**/*.rt"]),
     ("specifications", ["crates/*/specs/**/*.antt"]),
     ("proofs", ["crates/*/proofs/**/*.antt"]),
-    ("Python", ["tests/**/*.py", "tests/bench/bench"]),
+    ("Python", ["tests/**/*.py", "tests/bench/bench", "samples/*.py"]),
     ("shell", ["bin/*", ".ci/run", "tests/*/run", "tests/lib/*.sh"]),
     ("Rust", ["tests/differential/src/**/*.rs"]),
     ("C", ["include/*.h", "examples/*.c", "tests/firmware/*.[ch]", "tests/cli/*.c"]),

@@ -1,8 +1,8 @@
 #!/usr/bin/env python3
 """One reading of the rules, held to answers worked out by hand and to the definitions; then the programs held to it.
 
-check.py FOLDER SECOND STDIN STDOUT [SEED [COUNT]]: FOLDER has the programs test_driver and replay_program, SECOND is the
-implementation in Rust, and STDIN and STDOUT are the stored script and text of test_driver.
+check.py FOLDER SECOND STDIN STDOUT [SEED [COUNT]]: FOLDER has the programs test_driver and replay_program, SECOND is
+the implementation in Rust, and STDIN and STDOUT are the stored script and text of test_driver.
 COUNT is the number of random streams of messages and of scripts of a link; of captures there are twice, of streams for
 the reader eight times as many. The last line is 'N passed, M failed'.
 """
@@ -16,6 +16,7 @@ import check_examples
 import check_link
 import check_messages
 import check_replay
+import check_sample
 import check_stored
 import check_streams
 from checks import Checks, Program, seed_and_count
@@ -33,6 +34,7 @@ def main():
     check_messages.check_model(checks)
     check_link.check_model(checks)
     check_replay.check_model(checks, seed, 2 * count)
+    check_sample.check(checks)
     check_stored.check_files(checks, (stdin, stdout))
     with checks.unless_dead():
         program = Program(f"{folder}/test_driver", PATIENCE)
@@ -45,7 +47,9 @@ def main():
     with checks.unless_dead():
         check_replay.check_second(checks, second, seed, count)
     with checks.unless_dead():
-        check_replay.check_program(checks, Program(f"{folder}/replay_program", PATIENCE))
+        program = Program(f"{folder}/replay_program", PATIENCE)
+        check_sample.check_program(checks, program)
+        check_replay.check_program(checks, program)
     return checks.end()
 
 

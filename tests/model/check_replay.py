@@ -15,7 +15,7 @@ from stated_captures import HEADING, REFUSED, WHOLE
 from wire import in_bytes, number_of
 
 
-def stated(test):
+def model_replays(test):
     for is_refused, table in ((False, WHOLE), (True, REFUSED)):
         for name, data, lines in table:
             found = replay(bytes.fromhex(data))
@@ -145,7 +145,7 @@ def check_model(checks, seed, count):
     checks.test("the head in bytes", head() == b"LFT\0\1", head().hex(" "))
     written = record(1, 0x01020304, b"abc").hex(" ")
     checks.test("a record in bytes", written == "01 01 02 03 04 00 03 61 62 63", written)
-    stated(checks.test)
+    model_replays(checks.test)
     definitions(checks, seed, count)
     properties(checks, seed, count)
 
@@ -180,8 +180,8 @@ def check_second(checks, second, seed, count):
     checks.say(f"seed {seed}, {len(made)} captures of the second implementation")
     theirs = [(f"seed {seed}, capture {i} of the second implementation", data) for i, data in enumerate(made)]
     checks.test("the second implementation makes captures", len(theirs) == count, str(len(theirs)))
-    names = [(name, bytes.fromhex(data)) for name, data, _ in WHOLE + REFUSED]
-    captures = [*names, *ours, *theirs]
+    stated = [(name, bytes.fromhex(data)) for name, data, _ in WHOLE + REFUSED]
+    captures = [*stated, *ours, *theirs]
     texts = printed_by(second, ["replays"], joined_with_sizes(data for _, data in captures))
     checks.test("the second implementation replays all", len(texts) == len(captures), f"{len(texts)} texts")
     for (place, data), text in zip(captures, texts):

@@ -150,7 +150,7 @@ const FAMILIES: [Family; 43] = [
     family("capture-full-records", Kind::Capture(captures::full_records), |count| count / 4),
     family("capture-long", Kind::Capture(captures::long), |count| count / 10),
     family("every-cut-capture", Kind::Short(captures::shortest), |_| captures::SHORTEST_COUNT),
-    family("two-cuts-capture", Kind::Short(captures::short), |count| count / 50),
+    family("two-cuts-capture", Kind::Short(captures::short), |count| count / 25),
     family("live-capture", Kind::Live(captures::any), |count| count / 2),
     family("live-worked-capture", Kind::Live(captures::worked), |_| 1),
 ];
