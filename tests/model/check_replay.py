@@ -3,7 +3,11 @@
 Then the implementation in Rust against it on random captures, and replay_program as a recorder drives it.
 """
 import collections
+import re
+import subprocess
+import threading
 
+import check_sample
 import definition
 import listing
 from checks import Dead, Program, difference, shares, text_of
@@ -12,7 +16,7 @@ from random_captures import FAMILIES, capture_of, some_records, some_stream
 from replay import DIRECTIONS, HEAD_SIZE, MAX_COUNT, RECORD_HEAD_SIZE
 from replay import head, lines_and_last, read_capture, record, replay
 from stated_captures import HEADING, REFUSED, WHOLE
-from wire import in_bytes, number_of
+from wire import in_bytes, number_of, on_wire
 
 
 def model_replays(test):
@@ -181,7 +185,7 @@ def check_second(checks, second, seed, count):
     theirs = [(f"seed {seed}, capture {i} of the second implementation", data) for i, data in enumerate(made)]
     checks.test("the second implementation makes captures", len(theirs) == count, str(len(theirs)))
     stated = [(name, bytes.fromhex(data)) for name, data, _ in WHOLE + REFUSED]
-    captures = [*stated, *ours, *theirs]
+    captures = [*stated, ("the sample", check_sample.stored("bin")), *ours, *theirs]
     texts = printed_by(second, ["replays"], joined_with_sizes(data for _, data in captures))
     checks.test("the second implementation replays all", len(texts) == len(captures), f"{len(texts)} texts")
     for (place, data), text in zip(captures, texts):
@@ -215,12 +219,37 @@ def byte_by_byte(data):
         yield piece[-1:], lines
 
 
+def peak_memory(path, records):
+    """The most memory that it had, in KiB, when it has read almost all of a capture of so many full records."""
+    some = record(1, 0, (on_wire(5, 1, 0, bytes(9)) * 4096)[:MAX_COUNT])
+    with subprocess.Popen([path], bufsize=0, stdin=subprocess.PIPE, stdout=subprocess.DEVNULL) as process:
+        limit = threading.Timer(PATIENCE, process.kill)
+        limit.start()
+        try:
+            process.stdin.write(head() + some * records)
+            with open(f"/proc/{process.pid}/status", encoding="ascii") as status:
+                return int(re.search(r"VmHWM:\s+(\d+) kB", status.read()).group(1))
+        except OSError as error:
+            raise Dead(f"it does not read a capture of {records} full records: {error}") from error
+        finally:
+            limit.cancel()
+
+
+MORE_MEMORY = 256  # KiB: pages that are touched late
+
+
+def constant_memory(checks, path):
+    few, many = peak_memory(path, 4), peak_memory(path, 400)
+    checks.test("26 MB take as much memory as 0.3 MB", many <= few + MORE_MEMORY, f"{few} KiB, then {many} KiB")
+
+
 def check_program(checks, program):
     ended = [some for some in REFUSED if "refused 54" in some[2][-1]]
     for name, data, _ in WHOLE + ended:
         steps, last = record_by_record(bytes.fromhex(data))
         wrong = drive(program.path, steps, last)
         checks.test(f"a recorder, record by record: {name}", not wrong, wrong)
+    constant_memory(checks, program.path)
     for name, data, _ in WHOLE[:-2]:  # not the long ones
         wrong = drive(program.path, byte_by_byte(bytes.fromhex(data)), lines_and_last(bytes.fromhex(data))[1])
         checks.test(f"a recorder, byte by byte: {name}", not wrong, wrong)
