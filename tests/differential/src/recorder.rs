@@ -70,3 +70,43 @@ fn frame_size(reader: &mut Reader, stream: &[u8]) -> usize {
         Answer::State | Answer::Used => stream.len(),
     }
 }
+
+#[cfg(test)]
+mod tests {
+    use super::*;
+    use crate::capture::{front, Front, DIRECTIONS, HEAD_SIZE, RECORD_HEAD_SIZE};
+
+    const STREAM: [u8; 18] = [0xFF, 0xFF, 0, 5, 7, 1, 0, 0, 0x0D, 0xFF, 0xFF, 0, 5, 8, 1, 0, 0, 0x0E];
+
+    fn recorded(size: Option<u64>) -> Vec<(Direction, Vec<u8>)> {
+        let (mut capture, mut records) = (Vec::new(), Vec::new());
+        record(size, &DIRECTIONS, &mut &STREAM[..], &mut capture).expect("memory can be read and written");
+        assert_eq!(front(0, &capture), Front::Head);
+        let mut left = &capture[HEAD_SIZE..];
+        while let Front::Record { direction, payload } = front(5, left) {
+            records.push((direction, payload.to_vec()));
+            left = &left[RECORD_HEAD_SIZE + payload.len()..];
+        }
+        assert!(left.is_empty());
+        records
+    }
+
+    #[test]
+    fn what_is_recorded_is_read_back() {
+        let [module, from_box] = DIRECTIONS;
+        assert_eq!(recorded(None), [(module, STREAM[..9].to_vec()), (from_box, STREAM[9..].to_vec())]);
+        assert_eq!(recorded(Some(16)), [(module, STREAM[..16].to_vec()), (from_box, STREAM[16..].to_vec())]);
+        assert_eq!(recorded(Some(1)).len(), STREAM.len());
+    }
+
+    #[test]
+    fn texts_with_their_sizes() {
+        let mut texts = Vec::new();
+        replay_each(&mut &[0, 0, 0, 0, 0, 0, 0, 3, b'L', b'F', b'T'][..], &mut texts).expect("memory can be read");
+        let mut expected = Vec::new();
+        for last in [&b"refused 51 0\n"[..], b"refused 52 3\n"] {
+            put(&[replay::TITLE, last].concat(), &mut expected).expect("memory can be written");
+        }
+        assert_eq!(texts, expected);
+    }
+}
