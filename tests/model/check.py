@@ -15,6 +15,7 @@ import check_device
 import check_examples
 import check_link
 import check_messages
+import check_recorder
 import check_replay
 import check_sample
 import check_stored
@@ -49,7 +50,7 @@ def main():
     with checks.unless_dead():
         program = Program(f"{folder}/replay_program", PATIENCE)
         check_sample.check_program(checks, program)
-        check_replay.check_program(checks, program)
+        check_recorder.check_program(checks, program)
     return checks.end()
 
 

@@ -1,22 +1,15 @@
 """Captures: the Python reading against texts written by hand, against the definitions and against its own writing.
 
-Then the implementation in Rust against it on random captures, and replay_program as a recorder drives it.
+Then the implementation in Rust against it on random captures.
 """
-import collections
-import re
-import subprocess
-import threading
-
 import check_sample
 import definition
 import listing
 from checks import Dead, Program, difference, shares, text_of
-from device import drive
 from random_captures import FAMILIES, capture_of, some_records, some_stream
-from replay import DIRECTIONS, HEAD_SIZE, MAX_COUNT, RECORD_HEAD_SIZE
-from replay import head, lines_and_last, read_capture, record, replay
+from replay import DIRECTIONS, HEAD_SIZE, MAX_COUNT, RECORD_HEAD_SIZE, head, read_capture, record, replay
 from stated_captures import HEADING, REFUSED, WHOLE
-from wire import in_bytes, number_of, on_wire
+from wire import in_bytes, number_of
 
 
 def model_replays(test):
@@ -56,16 +49,16 @@ def by_definition(data):
 def definitions(checks, seed, count):
     checks.say_seed(seed, count, "capture")
     for name, (family,), rand, share in shares(FAMILIES, seed, count):
-        seen, wrong = collections.Counter(), ""
+        frames, wrong = 0, ""
         for _ in range(share):
             data = family(rand)
             found = replay(data)
-            seen.update(["frame" in found[0]])
+            frames += "frame" in found[0]
             if found != by_definition(data):
                 wrong = wrong or f"{data[-400:].hex(' ')}: {found} by the readers, {by_definition(data)} by definition"
         checks.test(f"the model's replay: seed {seed}, {name}", not wrong, wrong)
         # Captures without frames would show nothing.
-        checks.test(f"the model's replay: {name}: there is a frame", name == "few different bytes" or seen[True] > 0)
+        checks.test(f"the model's replay: {name}: there is a frame", name == "few different bytes" or frames > 0)
 
 
 # Properties.
@@ -191,65 +184,3 @@ def check_second(checks, second, seed, count):
     for (place, data), text in zip(captures, texts):
         wrong = difference([(data, replay(data)[0].splitlines())], text)
         checks.test_random(f"the second implementation's replay: {place}", wrong)
-
-
-# The program, as a recorder drives it: the lines of a record are there before the next byte is sent.
-
-
-def record_by_record(data):
-    """The steps of a capture, and its last lines."""
-    lines, last = lines_and_last(data)
-    steps, at = [(b"", [HEADING]), (head(), None)], HEAD_SIZE
-    for some in read_capture(data)[0]:
-        begin, at = at, at + len(record(*some))
-        steps.append((data[begin:at], [line for place, line in lines if place == at]))
-    return [*steps, (data[at:], None)], last
-
-
-def byte_by_byte(data):
-    """It waits for the last byte of each record."""
-    steps, last = record_by_record(data)
-    for piece, lines in steps:
-        if len(piece) < 2 or lines is None:
-            yield piece, lines
-            continue
-        for at in range(len(piece) - 2):
-            yield piece[at : at + 1], []
-        yield piece[-2:-1], None
-        yield piece[-1:], lines
-
-
-def peak_memory(path, records):
-    """The most memory that it had, in KiB, when it has read almost all of a capture of so many full records."""
-    some = record(1, 0, (on_wire(5, 1, 0, bytes(9)) * 4096)[:MAX_COUNT])
-    with subprocess.Popen([path], bufsize=0, stdin=subprocess.PIPE, stdout=subprocess.DEVNULL) as process:
-        limit = threading.Timer(PATIENCE, process.kill)
-        limit.start()
-        try:
-            process.stdin.write(head() + some * records)
-            with open(f"/proc/{process.pid}/status", encoding="ascii") as status:
-                return int(re.search(r"VmHWM:\s+(\d+) kB", status.read()).group(1))
-        except OSError as error:
-            raise Dead(f"it does not read a capture of {records} full records: {error}") from error
-        finally:
-            limit.cancel()
-
-
-MORE_MEMORY = 256  # KiB: pages that are touched late
-
-
-def constant_memory(checks, path):
-    few, many = peak_memory(path, 4), peak_memory(path, 400)
-    checks.test("26 MB take as much memory as 0.3 MB", many <= few + MORE_MEMORY, f"{few} KiB, then {many} KiB")
-
-
-def check_program(checks, program):
-    ended = [some for some in REFUSED if "refused 54" in some[2][-1]]
-    for name, data, _ in WHOLE + ended:
-        steps, last = record_by_record(bytes.fromhex(data))
-        wrong = drive(program.path, steps, last)
-        checks.test(f"a recorder, record by record: {name}", not wrong, wrong)
-    constant_memory(checks, program.path)
-    for name, data, _ in WHOLE[:-2]:  # not the long ones
-        wrong = drive(program.path, byte_by_byte(bytes.fromhex(data)), lines_and_last(bytes.fromhex(data))[1])
-        checks.test(f"a recorder, byte by byte: {name}", not wrong, wrong)
