@@ -48,17 +48,18 @@ def by_definition(data):
 
 def definitions(checks, seed, count):
     checks.say_seed(seed, count, "capture")
+    with_frames = 0
     for name, (family,), rand, share in shares(FAMILIES, seed, count):
-        frames, wrong = 0, ""
+        wrong = ""
         for _ in range(share):
             data = family(rand)
             found = replay(data)
-            frames += "frame" in found[0]
+            with_frames += "frame" in found[0]
             if found != by_definition(data):
                 wrong = wrong or f"{data[-400:].hex(' ')}: {found} by the readers, {by_definition(data)} by definition"
         checks.test(f"the model's replay: seed {seed}, {name}", not wrong, wrong)
-        # Captures without frames would show nothing.
-        checks.test(f"the model's replay: {name}: there is a frame", name == "few different bytes" or frames > 0)
+    # Captures without frames would show nothing.
+    checks.test("the model's replay: a quarter has frames", with_frames >= count // 4, f"{with_frames} of {count}")
 
 
 # Properties.
