@@ -13,8 +13,10 @@ import listener
 import live
 import model
 import progress
+import replaying
 import version
 import whole
+from commands import COMMANDS
 from door import as_started_by_a_person, run
 from model import HEADING
 
@@ -24,7 +26,6 @@ from checks import Checks, Dead, seed_and_count
 checks = Checks("cli")
 test = checks.test
 FIRST_BUILD = 3600  # seconds
-ONLY_HEADING = HEADING.encode() + b"\n"
 
 
 # Streams whose listing is written by hand: a name, the bytes, and the lines under the heading.
@@ -91,26 +92,25 @@ def listings(door, room):
         data, expected = bytes.fromhex(text), text_of(lines)
         test(f"the model's listing of '{name}'", model.listing(data) == expected, model.listing(data))
         door.list_both_ways(name, data, expected, room)
-    found = door("list", "-", data=bytes.fromhex(STATED[0][1]))
-    test("- is standard input", found.is_quiet(text_of(STATED[0][2]).encode()), str(found))
-    descriptors(door, room)
 
 
-def descriptors(door, room):
+def descriptors(door, room, command):
     """Inputs by the names of descriptors, those that the front door uses itself among them: a pipe, and a file."""
-    data, expected = bytes.fromhex(STATED[0][1]), text_of(STATED[0][2]).encode()
+    data, expected = command.one, command.listing(command.one)
     (room / "stream").write_bytes(data)
     numbers = (number for number in range(10) if number not in (1, 2))
     for name in ["/dev/stdin", *(f"/dev/fd/{number}" for number in numbers), "/proc/self/fd/3"]:
         number = name[-1] if name[-1].isdigit() else "0"
         for way, words in [
-            ("a pipe", f'cat "$3" | "$1" list "$2" {number}<&0'),
-            ("a file", f'"$1" list "$2" {number}<"$3"'),
+            ("a pipe", f'cat "$4" | "$1" "$2" "$3" {number}<&0'),
+            ("a file", f'"$1" "$2" "$3" {number}<"$4"'),
         ]:
-            found = run(["sh", "-c", words, "sh", door.path, name, room / "stream"])
-            test(f"{name}, {way}", found.is_quiet(expected), str(found))
-    found = run(["sh", "-c", '"$1" list /dev/fd/3 3<&-', "sh", door.path])
-    test("/dev/fd/3, closed", found.is_refusal("/dev/fd/3"), str(found))
+            found = run(["sh", "-c", words, "sh", door.path, command.name, name, room / "stream"])
+            test(f"{command.name} {name}, {way}", found.is_quiet(expected), str(found))
+    found = run(["sh", "-c", '"$1" "$2" /dev/fd/3 3<&-', "sh", door.path, command.name])
+    test(f"{command.name} /dev/fd/3, closed", found.is_refusal("/dev/fd/3"), str(found))
+    found = door(command.name, "-", data=data)
+    test(f"{command.name} -", found.is_quiet(expected), str(found))
 
 
 def sample(door, samples):
@@ -172,20 +172,21 @@ def random_streams(door, seed, count):
 # Inputs that fail.
 
 
-def broken_ends(door, room):
+def broken_ends(door, room, command):
     folder = os.open(room, os.O_RDONLY)
-    found = door("list", stdin=folder)
+    found = door(command.name, stdin=folder)
     os.close(folder)
-    right = found.is_refusal("standard input", "Is a directory", status=1, out=ONLY_HEADING)
-    test("standard input is a directory", right, str(found))
+    right = found.is_refusal("standard input", "Is a directory", status=1, out=command.heading)
+    test(f"{command.name}, standard input is a directory", right, str(found))
     with open(room / "written", "wb") as written:
-        found = door("list", stdin=written)
-    right = found.is_refusal("standard input", "Bad file descriptor", status=1, out=ONLY_HEADING)
-    test("standard input cannot be read", right, str(found))
-    found = run(["sh", "-c", '"$0" list <&-', door.path])
-    test("standard input is closed", found.is_refusal("standard input"), str(found))
-    found = door("list", "/dev/tty", start_new_session=True)
-    test("a file that may be read and cannot be opened", found.is_refusal("/dev/tty", "opened"), str(found))
+        found = door(command.name, stdin=written)
+    right = found.is_refusal("standard input", "Bad file descriptor", status=1, out=command.heading)
+    test(f"{command.name}, standard input cannot be read", right, str(found))
+    found = run(["sh", "-c", '"$0" "$1" <&-', door.path, command.name])
+    test(f"{command.name}, standard input is closed", found.is_refusal("standard input"), str(found))
+    found = door(command.name, "/dev/tty", start_new_session=True)
+    right = found.is_refusal("/dev/tty", "opened")
+    test(f"{command.name}, a file that may be read and cannot be opened", right, str(found))
 
 
 # The command line.
@@ -193,31 +194,26 @@ def broken_ends(door, room):
 
 def command_line(door, room):
     usage = door("--help")
-    words = [b"list [FILE]", b"listen DEVICE", b"--help", b"--version", b"Ctrl-C", b"one listener"]
+    words = [b"list [FILE]", b"listen DEVICE", b"replay [FILE]", b"--help", b"--version", b"Ctrl-C", b"one listener"]
     words += [b"  0  ", b"  1  ", b"  2  ", b"  141  "]
     test("--help", usage.status == 0 and usage.err == b"" and all(word in usage.out for word in words), str(usage))
-    test("--help fits a terminal of 80 columns", max(map(len, usage.out.splitlines())) <= 80)
-    for word in ("-h", "help", "list --help", "listen --help"):
+    test("--help fits a terminal of 80 columns", max(map(len, usage.out.splitlines())) < 80)
+    for word in ("-h", "help", "list --help", "listen --help", "replay --help"):
         found = door(*word.split())
         test(f"{word} is --help", (found.status, found.out, found.err) == (0, usage.out, b""), str(found))
 
     (room / "plain").write_bytes(b"")
     os.mkfifo(room / "fifo")
     refused = [
-        ("no words", [], "usage", "list [FILE]", "listen DEVICE", "--help", "--version"),
+        ("no words", [], "usage", "list [FILE]", "listen DEVICE", "replay [FILE]", "--help", "--version"),
         ("an unknown word", ["lost"], "lost", "--help"),
         ("a word after --help", ["--help", "list"], "--help"),
         ("a word after --version", ["--version", "list"], "--version"),
         ("an empty word", [""], "--help"),
         ("an unknown option", ["--lost"], "--lost"),
-        ("an unknown option of list", ["list", "--lost"], "--lost"),
-        ("two files", ["list", room / "plain", room / "plain"], "FILE"),
+        ("two words in one", ["list --help"], "list --help"),
         ("no device", ["listen"], "DEVICE"),
         ("two devices", ["listen", "/dev/null", "/dev/null"], "DEVICE"),
-        ("a missing file", ["list", room / "lost"], "lost"),
-        ("an empty name", ["list", ""]),
-        ("a missing file with a line break in its name", ["list", "lo\nst"], "lo"),
-        ("a directory", ["list", room], str(room), "directory"),
         ("a missing device", ["listen", room / "lost"], "lost"),
         ("listening to a file", ["listen", room / "plain"], "plain", "serial"),
         ("listening to a directory", ["listen", room], str(room)),
@@ -225,9 +221,20 @@ def command_line(door, room):
         ("listening to /dev/null", ["listen", "/dev/null"], "/dev/null", "serial"),
         ("listening to -", ["listen", "-"]),
     ]
-    for name, words, *parts in refused:
+    for name, words, *parts in [*refused, *(case for command in COMMANDS for case in refused_files(command, room))]:
         found = door(*words)
         test(name, found.is_refusal(*parts), str(found))
+
+
+def refused_files(command, room):
+    name = command.name
+    yield f"{name}, an unknown option", [name, "--lost"], "--lost"
+    yield f"{name}, two files", [name, room / "plain", room / "plain"], "FILE"
+    yield f"{name}, a word after --help", [name, "--help", "--help"], "FILE"
+    yield f"{name}, a missing file", [name, room / "lost"], "lost"
+    yield f"{name}, an empty name", [name, ""]
+    yield f"{name}, a missing file with a line break in its name", [name, "lo\nst"], "lo"
+    yield f"{name}, a directory", [name, room], str(room), "directory"
 
 
 def unreadable(root, room):
@@ -287,12 +294,13 @@ def ways(door, root, room):
 
 
 def is_built(door):
-    """The first use may have to prove and build; no later use may."""
-    found = door("list", patience=FIRST_BUILD)
-    if found.out != text_of(["clean 0"]).encode():
-        raise Dead(str(found))
-    found = door("list")
-    test("the second use says nothing", found.is_quiet(text_of(["clean 0"]).encode()), str(found))
+    """The first use of a program may have to prove and build; no later use may."""
+    for command in COMMANDS:
+        found = door(command.name, data=command.one, patience=FIRST_BUILD)
+        if found.out != command.listing(command.one):
+            raise Dead(f"{command.name}: {found}")
+        found = door(command.name, data=command.one)
+        test(f"{command.name}, the second use says nothing", found.is_quiet(command.listing(command.one)), str(found))
 
 
 def main():
@@ -309,9 +317,12 @@ def main():
         live.wires(test, door.path, root / "samples" / "bench.bin", seed)
         live.signals(test, door.path, room)
         live.memory(test, door.path, seed)
-        broken_ends(door, room)
-        whole.all_outputs(test, door.path, root / "target/bin/list_program", room)
+        for command in COMMANDS:
+            descriptors(door, room, command)
+            broken_ends(door, room, command)
+        whole.all_outputs(test, door.path, root / "target/bin", room)
         listener.all_uses(test, door.path, room)
+        replaying.all_uses(test, root, room, seed)
         command_line(door, room)
         unreadable(root, room)
         places(door, root, room)

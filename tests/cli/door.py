@@ -232,9 +232,9 @@ def is_below(parents, process, pid):
     return False
 
 
-def program_of(pid):
-    """The listing program that a front door runs, or None."""
-    return below(pid, "list_program")
+def program_of(pid, name="list_program"):
+    """The program that a front door runs, or None."""
+    return below(pid, name)
 
 
 def session_of(pid):

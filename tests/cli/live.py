@@ -3,6 +3,7 @@ import fcntl
 import itertools
 import os
 import random
+import re
 import select
 import signal
 import termios
@@ -191,33 +192,38 @@ def ends_input(test, door, word, who, send):
             nothing_left(test, name, live.process.pid)
 
 
-def ends_at_once(test, door, name, words, sends):
-    """Signals, in this order, to a run whose output nobody reads: it ends by the last, and says nothing."""
+LAST = re.compile(rb"(?:[01] )?(?:clean|open) |refused ")
+
+
+def ends_at_once(test, door, name, words, sends, data=b""):
+    """Signals, in this order, to a run whose output nobody reads: it ends by the last, and says nothing.
+
+    The words name the input, or data is sent.
+    """
     with Live([door, *words], start_new_session=True) as live:
-        writer = threading.Thread(target=send_all, args=(live, model.wire(7, 1) * 999, 99), daemon=True)
-        if words == ["list"]:
-            writer.start()
+        threading.Thread(target=send_all, args=(live, data, 1), daemon=True).start()
         full = wait_for(lambda: is_full(live.process.stdout))
         for send, number in sends:
             # The relay is ended before the program is.
             send(live.process.pid, number)
             wait_for(lambda: not any(what == "cat" for _, what in left_in(live.process.pid)))
         found = live.ended()
-        whole = found.out.splitlines()[-1].startswith((b"clean", b"open")) if found.out else False
+        whole = bool(found.out and LAST.match(found.out.splitlines()[-1]))
         test(name, full and found.status in ends_of(number) and not whole and found.err == b"", f"{full}, {found}")
         nothing_left(test, name, live.process.pid)
 
 
 def at_once(test, door, room):
     stream = room / "long stream"
-    stream.write_bytes(model.wire(7, 1) * 99999)
+    data = model.wire(7, 1) * 99999
+    stream.write_bytes(data)
     for word in ("SIGINT", "SIGTERM", "SIGHUP", "SIGQUIT"):
         number = getattr(signal, word)
         for who, send in RECEIVERS:
             ends_at_once(test, door, f"{word} to {who} while a file is listed", ["list", stream], [(send, number)])
-    ends_at_once(test, door, "Ctrl-C twice", ["list"], [(os.killpg, signal.SIGINT)] * 2)
-    ends_at_once(test, door, "SIGTERM twice", ["list"], [(os.kill, signal.SIGTERM)] * 2)
-    ends_at_once(test, door, "SIGQUIT", ["list"], [(os.killpg, signal.SIGQUIT)])
+    ends_at_once(test, door, "Ctrl-C twice", ["list"], [(os.killpg, signal.SIGINT)] * 2, data)
+    ends_at_once(test, door, "SIGTERM twice", ["list"], [(os.kill, signal.SIGTERM)] * 2, data)
+    ends_at_once(test, door, "SIGQUIT", ["list"], [(os.killpg, signal.SIGQUIT)], data)
 
 
 def stopped(test, door):

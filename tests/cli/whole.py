@@ -9,78 +9,67 @@ import subprocess
 import threading
 
 import model
-from door import PATIENCE, Live, below, processes, program_of, run, terminal, wait_for
-from model import HEADING
-
-FRAME = model.wire(7, 1)
-LONG = FRAME * 20000  # its listing fills any pipe
-TITLE = HEADING.encode() + b"\n"
+from commands import COMMANDS, LIST, REPLAY
+from door import PATIENCE, Live, below, play, processes, program_of, run, terminal, wait_for
 
 
-def all_outputs(test, door, program, room):
-    (room / "one frame").write_bytes(FRAME)
-    (room / "many frames").write_bytes(LONG)
-    failing(test, door, room)
-    full_disk(test, door, room)
-    full_room(test, door, room)
-    no_temporary_files(test, door, room)
-    not_waiting(test, door, program, room)
-    no_reader(test, door, room)
-    failing_reads(test, door)
-    alone(test, program)
-    unsteady(test, program, room)
+def all_outputs(test, door, programs, room):
+    """The front door, the folder of the programs, and a folder for files."""
+    for command in COMMANDS:
+        place = room / f"outputs of {command.name}"
+        place.mkdir()
+        program = programs / command.program
+        failing(test, door, command, place)
+        full_disk(test, door, command, place)
+        full_room(test, door, command, place)
+        no_temporary_files(test, door, command, place)
+        not_waiting(test, door, command, program, place)
+        no_reader(test, door, command, place)
+        failing_reads(test, door, command)
+        alone(test, command, program)
+    unsteady(test, programs, room)
 
 
-def both_ways(name):
-    """A file, which the program reads itself, and standard input, which the relay reads: the words, and the data."""
-    yield f"{name}, a file", lambda room, what: (["list", room / what], {})
-    yield f"{name}, standard input", lambda room, what: (["list"], {"data": (room / what).read_bytes()})
-
-
-def failing(test, door, room):
-    for name, way in both_ways("standard output is full"):
-        words, more = way(room, "one frame")
+def failing(test, door, command, room):
+    for name, words, more in command.both_ways(door, room, command.one):
         with open("/dev/full", "wb") as full:
-            found = run([door, *words], stdout=full, **more)
-        test(name, found.is_refusal("standard output", "No space left on device", status=1), str(found))
-    for name, way in both_ways("standard output is closed"):
-        words, more = way(room, "one frame")
-        found = run(["sh", "-c", '"$@" >&-', "sh", door, *words], **more)
-        test(name, found.is_refusal("standard output", "Bad file descriptor", status=1), str(found))
-    for name, way in both_ways("standard output cannot be written"):
-        words, more = way(room, "one frame")
+            found = run(words, stdout=full, **more)
+        right = found.is_refusal("standard output", "No space left on device", status=1)
+        test(f"{name}, standard output is full", right, str(found))
         with open(os.devnull, "rb") as null:
-            found = run([door, *words], stdout=null, **more)
-        test(name, found.is_refusal("standard output", "Bad file descriptor", status=1), str(found))
-    for name, way in both_ways("standard error is closed too"):
-        words, more = way(room, "one frame")
-        found = run(["sh", "-c", '"$@" >&- 2>&-', "sh", door, *words], **more)
-        test(name, (found.status, found.out, found.err) == (1, b"", b""), str(found))
+            found = run(words, stdout=null, **more)
+        right = found.is_refusal("standard output", "Bad file descriptor", status=1)
+        test(f"{name}, standard output cannot be written", right, str(found))
+        found = run(["sh", "-c", '"$@" >&-', "sh", *words], **more)
+        right = found.is_refusal("standard output", "Bad file descriptor", status=1)
+        test(f"{name}, standard output is closed", right, str(found))
+        found = run(["sh", "-c", '"$@" >&- 2>&-', "sh", *words], **more)
+        right = (found.status, found.out, found.err) == (1, b"", b"")
+        test(f"{name}, standard error is closed too", right, str(found))
 
 
 def is_front(found, whole):
     return whole.startswith(found) and len(found) < len(whole)
 
 
-def full_disk(test, door, room):
+def full_disk(test, door, command, room):
     """A file that may not grow any more, whether or not the signal for that is ignored."""
-    expected = model.listing(LONG).encode()
-    for name, way in both_ways("a file that may not grow"):
+    expected = command.listing(command.many)
+    for name, words, more in command.both_ways(door, room, command.many):
         for what, action in [("", signal.SIG_DFL), (", the signal ignored", signal.SIG_IGN)]:
-            words, more = way(room, "many frames")
 
             def limit(action=action):
                 signal.signal(signal.SIGXFSZ, action)
                 resource.setrlimit(resource.RLIMIT_FSIZE, (100000, 100000))
 
             with open(room / "grown", "wb") as out:
-                found = run([door, *words], stdout=out, preexec_fn=limit, restore_signals=False, **more)
+                found = run(words, stdout=out, preexec_fn=limit, restore_signals=False, **more)
             listed = (room / "grown").read_bytes()
             right = found.is_refusal("standard output", "File too large", status=1) and is_front(listed, expected)
-            test(name + what, right, f"{found}, {len(listed)} bytes listed")
+            test(f"{name}, an output that may not grow{what}", right, f"{found}, {len(listed)} bytes listed")
 
 
-def full_room(test, door, room):
+def full_room(test, door, command, room):
     """A file system that fills up, where one can be mounted."""
     place = room / "small"
     place.mkdir()
@@ -88,63 +77,59 @@ def full_room(test, door, room):
     if not mounts:
         return
     try:
-        expected = model.listing(LONG).encode()
-        for name, way in both_ways("a full file system"):
-            words, more = way(room, "many frames")
+        expected, env = command.listing(command.many), os.environ | {"TMPDIR": str(place)}
+        for name, words, more in command.both_ways(door, room, command.many):
             with open(place / "listing", "wb") as out:
-                found = run([door, *words], stdout=out, env=os.environ | {"TMPDIR": str(place)}, **more)
+                found = run(words, stdout=out, env=env, **more)
             listed = (place / "listing").read_bytes()
             right = found.is_refusal("standard output", "No space left on device", status=1)
-            test(name, right and is_front(listed, expected), f"{found}, {len(listed)} bytes listed")
+            right = right and is_front(listed, expected)
+            test(f"{name}, a full file system", right, f"{found}, {len(listed)} bytes listed")
         # It is full now, so that a message kept in a file would be lost.
-        found = unread_folder(door, room, os.environ | {"TMPDIR": str(place)})
-        test("a failed read, with no room for temporary files", is_failed_read(found), str(found))
+        right = fails_to_read(door, command, room, env)
+        test(f"{command.name}, a failed read, with no room for temporary files", right)
     finally:
         subprocess.run(["umount", place], check=False)
 
 
-def unread_folder(door, room, env):
-    folder = os.open(room, os.O_RDONLY)
+def fails_to_read(door, command, folder, env):
+    """Whether a standard input that cannot be read gives the heading, and one line on standard error."""
+    opened = os.open(folder, os.O_RDONLY)
     try:
-        return run([door, "list"], stdin=folder, env=env)
+        found = run([door, command.name], stdin=opened, env=env)
     finally:
-        os.close(folder)
+        os.close(opened)
+    return found.is_refusal("standard input", "Is a directory", status=1, out=command.heading)
 
 
-def is_failed_read(found):
-    return found.is_refusal("standard input", "Is a directory", status=1, out=TITLE)
-
-
-def no_temporary_files(test, door, room):
+def no_temporary_files(test, door, command, room):
     for what, folder in [("no folder", room / "lost"), ("no folder but a device", "/dev/full")]:
         env = os.environ | {"TMPDIR": str(folder)}
-        for name, way in both_ways(f"TMPDIR is {what}"):
-            words, more = way(room, "one frame")
-            found = run([door, *words], env=env, **more)
-            test(name, found.is_quiet(model.listing(FRAME).encode()), str(found))
-        test(f"TMPDIR is {what}, a failed read", is_failed_read(unread_folder(door, room, env)))
+        for name, words, more in command.both_ways(door, room, command.one):
+            found = run(words, env=env, **more)
+            test(f"{name}, TMPDIR is {what}", found.is_quiet(command.listing(command.one)), str(found))
+        test(f"{command.name}, TMPDIR is {what}, a failed read", fails_to_read(door, command, room, env))
 
 
 # Outputs that do not wait.
 
 
-def not_waiting(test, door, program, room):
-    expected = model.listing(LONG).encode()
-    for name, way in both_ways("a pipe that does not wait"):
-        words, more = way(room, "many frames")
-        drained(test, name, os.pipe(), [door, *words], more, expected, sleeps=True)
-    more = {"data": LONG}
+def not_waiting(test, door, command, program, room):
+    for name, words, more in command.both_ways(door, room, command.many):
+        drained(test, f"{name}, a pipe that does not wait", os.pipe(), words, more, command, sleeps=True)
+    more, words = {"data": command.many}, [door, command.name]
     master, slave, _ = terminal(raw=True)
-    drained(test, "a terminal that does not wait", (master, slave), [door, "list"], more, expected, sleeps=True)
-    drained(test, "the program alone, a pipe that does not wait", os.pipe(), [program], more, expected)
-    for name, words in [("a socket", [door, "list"]), ("the program alone, a socket", [program])]:
+    name = f"{command.name}, a terminal that does not wait"
+    drained(test, name, (master, slave), words, more, command, sleeps=True)
+    drained(test, f"{program.name} alone, a pipe that does not wait", os.pipe(), [program], more, command)
+    for name, words in [(command.name, words), (f"{program.name} alone", [program])]:
         ends = [end.detach() for end in socket.socketpair()]
-        drained(test, f"{name} that does not wait", ends, words, more, expected)
+        drained(test, f"{name}, a socket that does not wait", ends, words, more, command)
 
 
-def drained(test, name, ends, words, more, expected, sleeps=False):
+def drained(test, name, ends, words, more, command, sleeps=False):
     """The output is full before anything is read from it; the program waits by itself, or sleeps meanwhile."""
-    ours, theirs = ends
+    expected, (ours, theirs) = command.listing(command.many), ends
     os.set_blocking(theirs, False)
     with open(ours, "rb", buffering=0) as reader:
         data = more.get("data")
@@ -155,7 +140,7 @@ def drained(test, name, ends, words, more, expected, sleeps=False):
         full = wait_for(lambda: not select.select([], [theirs], [], 0)[1])
         os.close(theirs)
         if sleeps:
-            program = program_of(process.pid)
+            program = program_of(process.pid, command.program)
             test(f"{name}, the program sleeps", wait_for(lambda: is_asleep(program)))
         found = b"".join(iter(lambda: read_some(reader), b""))
         said, status = process.stderr.read(), process.wait(PATIENCE)
@@ -189,10 +174,10 @@ def feed(file, data):
 # A reader that went away.
 
 
-def no_reader(test, door, room):
-    for name, way in both_ways("the reader went away"):
+def no_reader(test, door, command, room):
+    script = '{ "$@"; echo "status $?" >&2; } | head -n 1'
+    for name, words, more in command.both_ways(door, room, command.many):
         for what, action in [("", signal.SIG_DFL), (", the signal ignored", signal.SIG_IGN)]:
-            words, more = way(room, "many frames")
 
             def sets(action=action):
                 signal.signal(signal.SIGPIPE, action)
@@ -200,70 +185,70 @@ def no_reader(test, door, room):
             ours, theirs = os.pipe()
             os.close(ours)
             with open(theirs, "wb") as gone:
-                found = run([door, *words], stdout=gone, preexec_fn=sets, restore_signals=False, **more)
-            test(name + what, (found.status, found.err) == (141, b""), str(found))
-    script = '{ "$@"; echo "status $?" >&2; } | head -n 1'
-    for name, way in both_ways("head -n 1"):
-        words, more = way(room, "many frames")
-        found = run(["sh", "-c", script, "sh", door, *words], **more)
-        test(name, (found.out, found.err) == (TITLE, b"status 141\n"), str(found))
+                found = run(words, stdout=gone, preexec_fn=sets, restore_signals=False, **more)
+            test(f"{name}, the reader went away{what}", (found.status, found.err) == (141, b""), str(found))
+        found = run(["sh", "-c", script, "sh", *words], **more)
+        test(f"{name}, head -n 1", (found.out, found.err) == (command.heading, b"status 141\n"), str(found))
 
 
 # Reads that fail.
 
 
-def failing_reads(test, door):
+def failing_reads(test, door, command):
     """Where the relay cannot read on, no last line comes."""
     ours, theirs = os.pipe()
     os.set_blocking(ours, False)
-    found = run([door, "list"], stdin=ours)
+    found = run([door, command.name], stdin=ours)
     # The heading may be written by then.
-    right = found.out in (b"", TITLE)
+    right = found.out in (b"", command.heading)
     right = right and found.is_refusal("standard input", "Resource temporarily unavailable", status=1, out=found.out)
-    test("standard input does not wait", right, str(found))
+    test(f"{command.name}, standard input does not wait", right, str(found))
     os.close(ours)
     os.close(theirs)
-    relay_killed(test, door)
+    relay_killed(test, door, command)
 
 
-def relay_killed(test, door):
+def relay_killed(test, door, command):
     """Somebody, or the system for want of memory, ends the relay's reader: that is not the input's end."""
-    with Live([door, "list"]) as live:
-        live.line()
-        os.kill(below(live.process.pid, "cat"), signal.SIGKILL)
-        found = live.ended()
-        test("the relay's reader is killed", found.is_refusal("standard input", status=1), str(found))
+    for what, data in [("nothing read", b""), ("one and a half read", command.one + command.half)]:
+        lines = command.listing(command.one).decode().splitlines()[: 2 if data else 1]
+        with Live([door, command.name]) as live:
+            wrong = play(live, [(data, lines)])
+            os.kill(below(live.process.pid, "cat"), signal.SIGKILL)
+            found = live.ended()
+            right = not wrong and found.is_refusal("standard input", status=1)
+            test(f"{command.name}, {what}, the relay's reader is killed", right, wrong or str(found))
 
 
-# The program without the front door.
+# The programs without the front door.
 
 
-def alone(test, program):
-    expected = model.listing(FRAME).encode()
-    found = run([program], data=FRAME)
-    test("the program alone", found.is_quiet(expected), str(found))
-    found = run([program, "marked"], data=FRAME)
-    test("the program alone marks a whole listing", (found.out, found.err) == (expected, b"whole\n"), str(found))
+def alone(test, command, program):
+    expected = command.listing(command.one)
+    found = run([program], data=command.one)
+    test(f"{program.name} alone", found.is_quiet(expected), str(found))
+    found = run([program, "marked"], data=command.one)
+    test(f"{program.name} alone marks its end", (found.out, found.err) == (expected, b"whole\n"), str(found))
     for words in ([program], [program, "marked"]):
+        name = f"{program.name} alone with {len(words) - 1} words"
         with open("/dev/full", "wb") as full:
-            found = run(words, data=FRAME, stdout=full)
-        test(f"{len(words) - 1} words, full", found.err == b"standard output: No space left on device\n", str(found))
-        found = run(["sh", "-c", '"$@" >&-', "sh", *words], data=FRAME)
-        test(f"{len(words) - 1} words, closed", found.err == b"standard output: Bad file descriptor\n", str(found))
+            found = run(words, data=command.one, stdout=full)
+        test(f"{name}, full", found.err == b"standard output: No space left on device\n", str(found))
+        found = run(["sh", "-c", '"$@" >&-', "sh", *words], data=command.one)
+        test(f"{name}, closed", found.err == b"standard output: Bad file descriptor\n", str(found))
     ours, theirs = os.pipe()
     os.set_blocking(ours, False)
+    heading, line, *last = expected.splitlines(True)
     with Live([program, "marked"], wire=theirs, stdin=ours) as live:
         os.close(ours)
-        live.line()
-        live.send(FRAME)
-        line = live.line()
+        wrong = play(live, [(b"", [heading.decode().strip()]), (command.one, [line.decode().strip()])])
         live.close_wire()
         found = live.ended()
-        right = line == "frame 0 9 7 1 0 0" and (found.out, found.err) == (b"clean 9\n", b"whole\n")
-        test("the program alone, a standard input that does not wait", right, f"{line}, {found}")
+        right = not wrong and (found.out, found.err) == (b"".join(last), b"whole\n")
+        test(f"{program.name} alone, a standard input that does not wait", right, wrong or str(found))
 
 
-def unsteady(test, program, room):
+def unsteady(test, programs, room):
     """Calls that are interrupted, must wait, or move a few bytes only."""
     source = os.path.join(os.path.dirname(__file__), "unsteady.c")
     compiler = next(filter(shutil.which, ["cc", "gcc", "clang"]), None)
@@ -272,10 +257,19 @@ def unsteady(test, program, room):
     if not built or built.status != 0:
         test("a library of unsteady calls is built", False, str(built or "there is no C compiler"))
         return
-    data = model.wire(5, 2, bytes(range(256))) * 50 + b"\xff\xff\x00"
-    env = os.environ | {"LD_PRELOAD": str(room / "unsteady.so")}
-    found = run([program, "marked"], data=data, env=env)
+    frames = model.wire(5, 2, bytes(range(256))) * 50
+    records = [model.record(turn % 2, frames) for turn in range(3)]
+    for command, data, mark in [
+        (LIST, frames + b"\xff\xff\x00", b"whole"),
+        (REPLAY, model.HEAD + b"".join(records), b"whole"),
+        (REPLAY, model.HEAD + b"".join(records)[:-1], b"refused"),
+    ]:
+        is_steady(test, command, programs / command.program, data, mark, room / "unsteady.so")
+
+
+def is_steady(test, command, program, data, mark, library):
+    found = run([program, "marked"], data=data, env=os.environ | {"LD_PRELOAD": str(library)})
     words = found.err.splitlines()
-    right = found.out == model.listing(data).encode() and words[:1] == [b"whole"] and len(words) == 2
+    right = found.out == command.listing(data) and words[:1] == [mark] and len(words) == 2
     faults = int(words[-1].split()[0]) if right else 0
-    test("interrupted calls go on", right and faults > 1000, str(found))
+    test(f"{program.name}, {mark.decode()}: interrupted calls go on", right and faults > 1000, str(found))
