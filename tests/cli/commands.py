@@ -19,7 +19,7 @@ class Command:
         return self.text(data).encode()
 
     def both_ways(self, door, room, data):
-        """A file, which the program reads itself, and standard input, which the relay reads: the words, and the data."""
+        """A file, which the program reads itself, and standard input, which the relay reads."""
         path = room / "given"
         path.write_bytes(data)
         yield f"{self.name}, a file", [door, self.name, path], {}
