@@ -1,5 +1,5 @@
 #!/usr/bin/env python3
-"""Uses bin/trogonreed, and through it the proved listing program, as a person or a device would.
+"""Uses bin/trogonreed, and through it the proved programs, as a person or a device would.
 
 check.py ROOT [SEED [COUNT]]: the repository, and COUNT random streams. The last line is 'N passed, M failed'.
 """

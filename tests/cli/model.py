@@ -20,7 +20,8 @@ def record(direction, payload, milliseconds=0):
     return bytes([direction]) + milliseconds.to_bytes(4, "big") + len(payload).to_bytes(2, "big") + payload
 
 
-# To be swapped: from replay import replay, of tests/model/replay.py. Nothing else of this file reads a capture.
+# To be swapped for "from replay import replay", of tests/model/replay.py: nothing else here reads a capture. Of the
+# imports above, line, Reader and decided are then not needed.
 def replay(capture):
     """The text of a capture, and whether it is refused."""
     streams, lines, at = [b"", b""], [], len(HEAD)
