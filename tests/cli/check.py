@@ -14,6 +14,7 @@ import live
 import model
 import progress
 import replaying
+import table
 import version
 import whole
 from commands import COMMANDS
@@ -322,12 +323,13 @@ def main():
             broken_ends(door, room, command)
         whole.all_outputs(test, door.path, root / "target/bin", room)
         listener.all_uses(test, door.path, room)
-        replaying.all_uses(test, root, room, seed)
+        replaying.all_uses(test, root / "bin/trogonreed", root / "target/bin", room, seed)
         command_line(door, room)
         unreadable(root, room)
         places(door, root, room)
         firstuse.all_uses(test, root, room)
         progress.all_uses(test, root, room)
+        table.all_uses(test, root, room)
         version.all_uses(test, root, room)
     return checks.end()
 

@@ -8,7 +8,6 @@ import struct
 import termios
 import threading
 
-import firstuse
 import model
 from commands import FRAME, REPLAY
 from door import PATIENCE, SILENT, Live, below, is_line, peak_memory, play, program_of, run, terminal, wait_for
@@ -87,8 +86,9 @@ def last_of(data):
     return text.splitlines()[-1 if refused else -2 :]
 
 
-def all_uses(test, root, room, seed):
-    door, program = root / "bin/trogonreed", root / "target/bin" / REPLAY.program
+def all_uses(test, door, programs, room, seed):
+    """The front door, the folder of the programs, and a folder for files."""
+    program = programs / REPLAY.program
     captures(test, door, room)
     still_written(test, door)
     two_writes(test, door)
@@ -99,8 +99,6 @@ def all_uses(test, root, room, seed):
     signals(test, door, room)
     marks(test, program)
     memory(test, door, seed)
-    first_use(test, root, room)
-    one_entry(test, root, room)
 
 
 # Whole and refused captures.
@@ -397,66 +395,3 @@ def memory(test, door, seed):
     test(f"a capture of 30 MiB in {MAX_KIB} KiB", large <= MAX_KIB, f"{large} KiB")
     right = abs(large - small) <= MARGIN_KIB
     test("captures of 1 MiB and 30 MiB in the same memory", right, f"{small} KiB and {large} KiB")
-
-
-# The table of commands.
-
-
-def first_use(test, root, room):
-    """Each command builds its own program, and no other."""
-    fresh = firstuse.Checkout(root, room, "replay")
-    crates = "\nreplay: listing extra\nextra:\nreplay_program: replay io\n"
-    (fresh.place / "crates.txt").write_text(firstuse.CRATES + crates)
-    folder = root / "target/bin"
-    fresh.rt(f'mkdir -p target/bin; cp "{folder}/$2" "target/bin/$2"')
-    notice = "trogonreed: proving and building the {} program; this can take some minutes\n"
-    capture = fresh.place / "capture"
-    capture.write_bytes(REPLAY.one)
-    listing = REPLAY.listing(REPLAY.one)
-
-    def uses(name, words, out, said, calls):
-        found, called = fresh.use(*words), fresh.calls.read_text().splitlines()
-        fresh.calls.write_text("")
-        right = (found.status, found.out, found.err.decode()) == (0, out, said)
-        test(name, right and called == [f"{fresh.place} check {call}" for call in calls], f"{found}, {called}")
-
-    uses("the first replay", ["replay", capture], listing, notice.format("replay"), ["replay_program"])
-    uses("the second replay", ["replay", capture], listing, "", [])
-    uses("the first list after it", ["list"], firstuse.LISTING, notice.format("listing"), ["list_program"])
-    firstuse.make_older(fresh.place, 1000)
-    source = fresh.place / "crates/extra/src/lib.rt"
-    source.parent.mkdir(parents=True)
-    source.write_text("a new source\n")
-    uses("a source of replay alone is newer: list", ["list"], firstuse.LISTING, "", [])
-    uses("a source of replay alone is newer", ["replay", capture], listing, notice.format("replay"), ["replay_program"])
-    fresh.rt("exit 1")
-    os.utime(source, (os.stat(source).st_mtime + 1000,) * 2)
-    found = fresh.use("replay", capture)
-    last = f"trogonreed: the replay program could not be proved and built; see {fresh.log}\n"
-    right = (found.status, found.out, found.err.decode()) == (2, b"", notice.format("replay") + last)
-    test("the replay program is not proved", right, str(found))
-
-
-def one_entry(test, root, room):
-    """One more entry is one more command, with its words, its help and its program."""
-    place = firstuse.skeleton(root, room / "one more command")
-    firstuse.give_program(root, place)
-    door = place / "bin/trogonreed"
-    entry = """    "$1" second 'NUMBER [FILE]' list_program 'the listing program' take_second 'lists as list does'\n"""
-    text = door.read_text()
-    table = text.index("each_command() {")
-    end = text.index("}\n", table)
-    check = 'take_second() {\n    shift\n    take_file "$@"\n}\n'
-    door.write_text(text[:end] + entry + "}\n" + check + text[end + 2 :])
-    (room / "a frame for it").write_bytes(FRAME)
-    found = run([door, "second", "1", room / "a frame for it"])
-    test("one more command", found.is_quiet(model.listing(FRAME).encode()), str(found))
-    found = run([door, "second", "1"], data=FRAME)
-    test("one more command, standard input", found.is_quiet(model.listing(FRAME).encode()), str(found))
-    for words in (["second"], ["second", "1", "2", "3"]):
-        found = run([door, *words])
-        test(f"{words} of one more command", found.is_refusal("'second' takes NUMBER [FILE]"), str(found))
-    found = run([door])
-    test("one more command in the usage line", found.is_refusal("trogonreed second NUMBER [FILE] |"), str(found))
-    found = run([door, "second", "--help"])
-    test("one more command in the help", b"trogonreed second NUMBER [FILE]" in found.out, str(found))
