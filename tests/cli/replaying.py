@@ -15,6 +15,7 @@ from door import written_by
 from live import MARGIN_KIB, MAX_KIB, MIB, RECEIVERS, block, ends_at_once, first_difference, lines_at, nothing_left
 from live import received
 from model import HEAD, record
+from whole import outgrows
 
 HEADING = "dir kind start end cmd sn flags payload"
 OPENED = bytes.fromhex("FF FF 00 05 07")  # the front of a frame
@@ -124,8 +125,10 @@ def captures(test, door, room):
 
 
 def refused_output(test, door, room):
-    """A refusal whose line could not be written is none: the write is what failed."""
-    for name, words, more in REPLAY.both_ways(door, room, HEAD + b"\2"):
+    """Where the refusal's line could not be written, the write is what failed."""
+    data = HEAD + b"\2"
+    for name, words, more in REPLAY.both_ways(door, room, data):
+        outgrows(test, f"{name}, refused, no room for its line", words, more, REPLAY.listing(data)[:-1], room)
         with open("/dev/full", "wb") as full:
             found = run(words, stdout=full, **more)
         right = found.is_refusal("standard output", "No space left on device", status=1)

@@ -53,20 +53,28 @@ def is_front(found, whole):
 
 
 def full_disk(test, door, command, room):
-    """A file that may not grow any more, whether or not the signal for that is ignored."""
-    expected = command.listing(command.many)
-    for name, words, more in command.both_ways(door, room, command.many):
-        for what, action in [("", signal.SIG_DFL), (", the signal ignored", signal.SIG_IGN)]:
+    """A file that may not grow any more, in the middle of the listing or of its last line."""
+    for what, data, size in [
+        ("an output that may not grow", command.many, 100000),
+        ("an output with no room for the end of the last line", command.one, len(command.listing(command.one)) - 1),
+    ]:
+        for name, words, more in command.both_ways(door, room, data):
+            outgrows(test, f"{name}, {what}", words, more, command.listing(data)[:size], room)
 
-            def limit(action=action):
-                signal.signal(signal.SIGXFSZ, action)
-                resource.setrlimit(resource.RLIMIT_FSIZE, (100000, 100000))
 
-            with open(room / "grown", "wb") as out:
-                found = run(words, stdout=out, preexec_fn=limit, restore_signals=False, **more)
-            listed = (room / "grown").read_bytes()
-            right = found.is_refusal("standard output", "File too large", status=1) and is_front(listed, expected)
-            test(f"{name}, an output that may not grow{what}", right, f"{found}, {len(listed)} bytes listed")
+def outgrows(test, name, words, more, expected, room):
+    """An output that holds no more than it should, whether or not the signal for that is ignored."""
+    for what, action in [("", signal.SIG_DFL), (", the signal ignored", signal.SIG_IGN)]:
+
+        def limit(action=action):
+            signal.signal(signal.SIGXFSZ, action)
+            resource.setrlimit(resource.RLIMIT_FSIZE, (len(expected), len(expected)))
+
+        with open(room / "grown", "wb") as out:
+            found = run(words, stdout=out, preexec_fn=limit, restore_signals=False, **more)
+        listed = (room / "grown").read_bytes()
+        right = found.is_refusal("standard output", "File too large", status=1) and listed == expected
+        test(f"{name}{what}", right, f"{found}, {len(listed)} bytes listed")
 
 
 def full_room(test, door, command, room):
