@@ -17,7 +17,7 @@ use Rattle.frame.proofs.Decisions.{each-decision}
 use Rattle.frame.proofs.StreamCorrect.{stream-correct}
 use Rattle.frame.proofs.Unique.{one-list, one-decisions, decided-frames}
 use Rattle.capture.specs.Format.{directionOf, payloadOf}
-use Rattle.replay.specs.Lines.{Printed, linesOf, decisionsIn}
+use Rattle.replay.specs.Lines.{Printed, linesOf, decisionsIn, prefixOf}
 use Rattle.replay.specs.State.{State, freshOf}
 use Rattle.replay.specs.Replays.{heardOf, Adds, AreLines}
 use Rattle.replay.specs.Turns.{stateBy, textBy, leftBy}
@@ -126,7 +126,7 @@ stream-finished limit (c ∷ cs) r =
     ap (λ (l : List ℕ). take (consumedIn e) (offered c) ++ l) (stream-finished limit cs (callOf limit r c .state))
 
 direction-correct : (limit d : ℕ) → limit ≤ widest → (rs : List (List ℕ)) (lines : List Printed) (r : Reader)
-    → AreLines limit [] rs lines → Side limit (heardOf d rs) r → DirectionCorrect limit d rs lines r
+    → AreLines limit [] rs lines → Side limit (prefixOf d) (heardOf d rs) r → DirectionCorrect limit d rs lines r
 direction-correct limit d small rs lines r a s =
     let log : List Entry = logOf limit (freshReader limit) (s .calls ++ finish ∷ []) in
     let bytes : stream log ≡ heardOf d rs = stream-finished limit (s .calls) (freshReader limit) ∙ s .stream-is in

@@ -60,8 +60,8 @@ pub record Told (limit : ℕ) (capture : List ℕ) (s : State) (left text : List
   pub new : List Decision
   pub within : Within limit (recordsBy 0 windows) s left new
   pub text-is : text ≡ printedText lines ++ decisionsText (prefixOf (directionOf left)) new
-  pub side0 : Side limit (heardOf 0 (recordsBy 0 windows) ++ fedIn 0 (s .fed) left) (s .reader0)
-  pub side1 : Side limit (heardOf 1 (recordsBy 0 windows) ++ fedIn 1 (s .fed) left) (s .reader1)
+  pub side0 : Side limit (prefixOf 0) (heardOf 0 (recordsBy 0 windows) ++ fedIn 0 (s .fed) left) (s .reader0)
+  pub side1 : Side limit (prefixOf 1) (heardOf 1 (recordsBy 0 windows) ++ fedIn 1 (s .fed) left) (s .reader1)
 
 -- with nothing fed, no bytes are
 pub none-fed : (e : ℕ) (left : List ℕ) → fedIn e 0 left ≡ []
@@ -82,8 +82,8 @@ told-nothing limit capture =
       new = [];
       within = inl (refl, refl);
       text-is = refl;
-      side0 = rw (none-fed 0 capture) (fresh-side limit);
-      side1 = rw (none-fed 1 capture) (fresh-side limit);
+      side0 = rw (none-fed 0 capture) (fresh-side limit (prefixOf 0));
+      side1 = rw (none-fed 1 capture) (fresh-side limit (prefixOf 1));
     }
 
 -- ---- the sides after a step of one direction
@@ -91,18 +91,22 @@ told-nothing limit capture =
 module _ (limit d place fed : ℕ) (r : Reader) (s : State) (own other0 other1 : List ℕ) where
   -- the reader of that direction is another one
   record Both : Type 0 where
-    side0 : Side limit (cond (eqb d 0) own other0) (withReader d r place fed s .reader0)
-    side1 : Side limit (cond (eqb d 1) own other1) (withReader d r place fed s .reader1)
+    side0 : Side limit (prefixOf 0) (cond (eqb d 0) own other0) (withReader d r place fed s .reader0)
+    side1 : Side limit (prefixOf 1) (cond (eqb d 1) own other1) (withReader d r place fed s .reader1)
 
-  both-sides : d ≤ 1 → Side limit own r → Side limit other0 (s .reader0) → Side limit other1 (s .reader1) → Both
+  both-sides : d ≤ 1 → Side limit (prefixOf d) own r → Side limit (prefixOf 0) other0 (s .reader0)
+      → Side limit (prefixOf 1) other1 (s .reader1) → Both
   both-sides low a b c =
       either-way (eqb d 0)
       (λ t.
-      let zero = eqb-true d 0 t in
-      record { side0 = rw t a; side1 = rw (t, ne-eqb d 1 (λ e. omega arith)) c })
+      let zero : d ≡ 0 = eqb-true d 0 t in
+      let own0 = subst (λ (k : ℕ). Side limit (prefixOf k) own r) zero a in
+      record { side0 = rw t own0; side1 = rw (t, ne-eqb d 1 (λ e. omega arith)) c })
       (λ t.
-      let more = eqb-false d 0 t in
-      record { side0 = rw t b; side1 = rw (t, eq-eqb d 1 (omega (arith, more))) a })
+      let other = eqb-false d 0 t in
+      let one : d ≡ 1 = omega (arith, other) in
+      let own1 = subst (λ (k : ℕ). Side limit (prefixOf k) own r) one a in
+      record { side0 = rw t b; side1 = rw (t, eq-eqb d 1 one) own1 })
 
 -- ---- a step
 
@@ -187,7 +191,7 @@ module _ (limit : ℕ) (small : limit ≤ widest) (capture : List ℕ) (size : l
   -- ---- a record
 
   -- the side of a direction
-  side-of : (e : ℕ) → e ≤ 1 → Side limit (heardOf e past ++ fedIn e (s .fed) left) (readerOf e s)
+  side-of : (e : ℕ) → e ≤ 1 → Side limit (prefixOf e) (heardOf e past ++ fedIn e (s .fed) left) (readerOf e s)
   side-of e low =
       either-way (eqb e 0) (λ z. rw (z, eqb-true e 0 z) (t .side0))
       (λ z. rw (z, one-is e low (eqb-false e 0 z)) (t .side1))
@@ -228,7 +232,7 @@ module _ (limit : ℕ) (small : limit ≤ widest) (capture : List ℕ) (size : l
     other-fed : (k fed : ℕ) → d ≢ k → fedIn k fed left ≡ []
     other-fed k fed h = rw (left-same .direction, ne-eqb d k h)
 
-    own : Side limit (heardOf d past ++ take (s .fed) payload) (readerOf d s)
+    own : Side limit (prefixOf d) (heardOf d past ++ take (s .fed) payload) (readerOf d s)
     own = rw (own-fed (s .fed)) at (side-of d low)
 
     fed : Fed limit small (prefixOf d) (heardOf d past ++ take (s .fed) payload) (drop (s .fed) payload) run

@@ -41,7 +41,7 @@ use Rattle.replay.proofs.Told.{Within, Told, none-fed, told-nothing, to
 -- ---- the end of a replay
 
 -- a reader's end line is that of its bytes
-end-line : (limit e : ℕ) (t : List ℕ) (r : Reader) → limit ≤ widest → Side limit t r
+end-line : (limit e : ℕ) (t : List ℕ) (r : Reader) → limit ≤ widest → Side limit (prefixOf e) t r
     → IsEndLine limit e t (endLine limit e r)
 end-line limit e t r small s =
     let f = rw (s .stream-is, s .state-is) at (finish-correct limit small (s .calls)) in
@@ -96,10 +96,10 @@ module _ (limit : ℕ) (small : limit ≤ widest) (capture : List ℕ) (size : l
       go (inl h) = h
       go (inr h) = absurd (no-record (h .0))
 
-  end-side0 : Side limit (heardOf 0 past) (s .reader0)
+  end-side0 : Side limit (prefixOf 0) (heardOf 0 past) (s .reader0)
   end-side0 = rw (idle .0, none-fed 0 left, append-nil) at (t .side0)
 
-  end-side1 : Side limit (heardOf 1 past) (s .reader1)
+  end-side1 : Side limit (prefixOf 1) (heardOf 1 past) (s .reader1)
   end-side1 = rw (idle .0, none-fed 1 left, append-nil) at (t .side1)
 
   -- what the capture holds
@@ -112,8 +112,8 @@ module _ (limit : ℕ) (small : limit ≤ widest) (capture : List ℕ) (size : l
   -- the replay, and the readers that have heard its records
   pub record Ended : Type 0 where
     pub replay : IsReplay limit capture (replayHeading ++ (text ++ closingText limit s end))
-    pub side0 : Side limit (heardOf 0 (replay .records)) (s .reader0)
-    pub side1 : Side limit (heardOf 1 (replay .records)) (s .reader1)
+    pub side0 : Side limit (prefixOf 0) (heardOf 0 (replay .records)) (s .reader0)
+    pub side1 : Side limit (prefixOf 1) (heardOf 1 (replay .records)) (s .reader1)
 
   lines-alone : text ≡ printedText (t .lines)
   unfolding decisionsText
