@@ -65,18 +65,16 @@ pub lines-more : (limit : ℕ) (past rs : List (List ℕ)) (lines : List Printed
     → AreLines limit past rs lines → Adds limit (heardOf (directionOf r) (past ++ rs)) (payloadOf r) new
     → AreLines limit past (rs ++ r ∷ []) (lines ++ linesOf (directionOf r) new)
 unfolding AreLines
-lines-more limit past [] lines r new a n =
-    (
-      new,
-      [],
-      rw (append-nil past) at n,
-      rw a (sym (append-nil (linesOf (directionOf r) new))),
-      refl,
-    )
+lines-more limit past [] lines r new a n = (
+  new,
+  [],
+  rw (append-nil past) at n,
+  rw a (sym (append-nil (linesOf (directionOf r) new))),
+  refl,
+)
 lines-more limit past (q ∷ rs) lines r new a n =
     let later : List Printed = a .1 in
-    let whole : past ++ q ∷ rs ≡ (past ++ q ∷ []) ++ rs = sym (append-assoc past (q ∷ []) rs) in
-    (
+    let whole : past ++ q ∷ rs ≡ (past ++ q ∷ []) ++ rs = sym (append-assoc past (q ∷ []) rs) in (
       a .0,
       later ++ linesOf (directionOf r) new,
       a .2,

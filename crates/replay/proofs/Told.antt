@@ -1,13 +1,13 @@
 -- What a replay has told of a capture, after any turns: the loop's invariant over its records. Assumes nothing.
-use Prim.Native.Nat.{ℕ, zero, suc, _+_, _-_, _≤_, _<_}
+use Prim.Native.Nat.{ℕ, zero, suc, _+_, _-_, _^_, _≤_, _<_}
 use mathlib.Core.Path.{_≡_, refl, sym, ap, subst, _∙_}
 use mathlib.Core.Bool.{Bool, true, false, cond}
 use mathlib.Core.Logic.{_≢_, _⊎_, inl, inr}
 use mathlib.Core.List.{List, [], _∷_, _++_, append-nil, append-assoc}
 use native.Mathlib.Nat.{add-zero}
 use native.Mathlib.Omega.{arith}
-use borrow.Author.Tests.{eqb-true, eqb-false, eq-eqb, ne-eqb}
-use lib.ListN.{length, getD, take, drop, length-append, length-drop, take-append-drop}
+use borrow.Author.Tests.{eqb-true, eqb-false, eq-eqb, ne-eqb, le-leb}
+use lib.ListN.{length, getD, take, drop, length-append, length-take, length-drop, take-append-drop}
 use lib.Seq.{take-add, take-all, drop-drop, drop-append-le}
 use lib.Dec.{eqb}
 use Rattle.base.specs.Rows.{Row, row}
@@ -18,22 +18,24 @@ use Rattle.frame.specs.Wire.{widest}
 use Rattle.frame.specs.State.{State as Reader}
 use Rattle.frame.specs.Decisions.{Decision}
 use Rattle.listing.specs.Listing.{decisionsText}
+use Rattle.listing.specs.TurnListings.{TurnStops as ListStops}
 use Rattle.listing.proofs.LoopRuns.{loop-lists}
 use Rattle.listing.proofs.RunAdds.{lines-joined}
-use Rattle.capture.specs.Format.{head, directionOf, millisecondsOf, payloadOf, sizeOf}
+use Rattle.capture.specs.Format.{head, directionOf, millisecondsOf, payloadSizeOf, payloadOf, sizeOf}
 use Rattle.capture.specs.Captures.{Begins}
-use Rattle.capture.specs.EachCall.{RecordSaid}
-use Rattle.capture.specs.Reading.{nextOf}
+use Rattle.capture.specs.EachCall.{OutOfRange, RecordSaid}
+use Rattle.capture.specs.Reading.{nextOf, inRangeOf as cursorInRange}
 use Rattle.capture.specs.Windows.{countOf, addRecord, recordsBy, placeBy, leftBy, AreWindows}
-use Rattle.capture.proofs.EachCall.{more-later}
+use Rattle.capture.proofs.EachCall.{cursor-ranges, more-later}
 use Rattle.capture.proofs.NextSays.{next-says}
 use Rattle.replay.specs.Lines.{Printed, printedText, linesOf, prefixOf}
 use Rattle.replay.specs.State.{State, freshOf, inRangeOf, readerOf, withReader}
 use Rattle.replay.specs.Replays.{heardOf, Adds, AreLines}
 use Rattle.replay.specs.Playing.{goesOn, partOf, recordRun, recordIn, headIn, stepIn, stepOf, playIn, playOf}
+use Rattle.replay.specs.TurnReplays.{TurnStops}
 use Rattle.replay.specs.Turns.{Turn, stateBy, textBy, leftBy as turnsLeft, AreWindows as TurnWindows}
 use Rattle.replay.proofs.LineLaws.{heard-more, adds-join, linesOf-text, printed-both, lines-more}
-use Rattle.replay.proofs.Sides.{Side, fresh-side, adds-none, Fed, feed-side}
+use Rattle.replay.proofs.Sides.{Side, fresh-side, adds-none, Fed, feed-side, side-stops, side-range}
 use Rattle.replay.proofs.WindowLaws.{records-more, place-more, left-more, windows-more, SameRecord, same-record}
 use Rattle.replay.proofs.WindowLaws.{taken-record}
 
@@ -55,6 +57,8 @@ pub record Told (limit : ℕ) (capture : List ℕ) (s : State) (left text : List
   pub place-is : placeBy 0 windows ≡ s .place
   pub left-is : leftBy 0 capture windows ≡ left
   pub size-is : s .place + length left ≡ length capture
+  pub at : (s .place ≡ 0) ⊎ (5 ≤ s .place)
+  pub heard : (e : ℕ) → length (heardOf e (recordsBy 0 windows)) ≤ s .place
   pub lines : List Printed
   pub are-lines : AreLines limit [] (recordsBy 0 windows) lines
   pub new : List Decision
@@ -77,6 +81,8 @@ told-nothing limit capture =
       place-is = refl;
       left-is = refl;
       size-is = omega arith;
+      at = inl refl;
+      heard = λ e. omega arith;
       lines = [];
       are-lines = refl;
       new = [];
@@ -114,6 +120,13 @@ module _ (limit d place fed : ℕ) (r : Reader) (s : State) (own other0 other1 :
 pub record Stepped (limit : ℕ) (capture left text w : List ℕ) (run : Run State) : Type 0 where
   pub within : run .used ≤ length w
   pub told : Told limit capture (run .state) (drop (run .used) left) (text ++ run .text)
+  pub stops : TurnStops (run .stop)
+
+goes-on : TurnStops goesOn
+goes-on = record { never-state = λ e. omega arith; never-used = λ e. omega arith }
+
+done-stops : TurnStops 0
+done-stops = record { never-state = λ e. omega arith; never-used = λ e. omega arith }
 
 module _ (limit : ℕ) (small : limit ≤ widest) (capture : List ℕ) (size : length capture ≤ 4611686018427387904)
     (s : State) (left text : List ℕ) (t : Told limit capture s left text) (w rest : List ℕ)
@@ -122,8 +135,24 @@ module _ (limit : ℕ) (small : limit ≤ widest) (capture : List ℕ) (size : l
   past = recordsBy 0 (t .windows)
 
   -- nothing is done
-  stays : (number : ℕ) → Stepped limit capture left text w (stopped s number)
-  stays number = record { within = omega arith; told = rw (append-nil text) t }
+  stays : (number : ℕ) → TurnStops number → Stepped limit capture left text w (stopped s number)
+  stays number stops = record { within = omega arith; told = rw (append-nil text) t; stops = stops }
+
+  -- the cursor is in range, and what is left is within 2^62 bytes
+  next-stops : TurnStops (nextOf (s .place) w .row .number)
+  next-stops =
+      let bound : s .place + length w ≤ 4611686018427387904 =
+      omega (arith, t .size-is, ap length front, length-append w rest) in
+      record {
+        never-state = λ e. never-out (t .at) (cursor-ranges (s .place) w .state-only e);
+        never-used = λ e. omega (arith, cursor-ranges (s .place) w .used-only e);
+      }
+    where
+      never-out : (s .place ≡ 0) ⊎ (5 ≤ s .place) → OutOfRange (s .place) → ⊥
+      never-out (inl h) (inl k) = omega arith
+      never-out (inl h) (inr k) = omega arith
+      never-out (inr h) (inl k) = omega arith
+      never-out (inr h) (inr k) = omega (arith, t .size-is)
 
   -- what is taken from a window is taken from all that is left
   same-next : (nextOf (s .place) w .row ≡ row 0 (0 ∷ []) → ⊥) → nextOf (s .place) left ≡ nextOf (s .place) w
@@ -148,8 +177,11 @@ module _ (limit : ℕ) (small : limit ≤ widest) (capture : List ℕ) (size : l
         go (inl h) = h
         go (inr h) =
             let other : nextOf (s .place) left ≡ outcome (row 0 (5 ∷ [])) 5 =
-            same-next (λ e. absurd (omega (arith, ap (λ (r : Row). getD (r .values) 0 0)
-            (sym (ap (λ (y : Outcome ℕ). y .row) (said .2)) ∙ e)))) ∙ said .2 in
+            same-next (λ e. absurd (omega (
+              arith,
+              ap (λ (r : Row). getD (r .values) 0 0)
+                  (sym (ap (λ (y : Outcome ℕ). y .row) (said .2)) ∙ e),
+            ))) ∙ said .2 in
             absurd (omega (arith, h .0, ap (λ (y : Outcome ℕ). y .row .number) other))
 
     head-stepped : Stepped limit capture left text w (headIn 5 5 s)
@@ -159,7 +191,6 @@ module _ (limit : ℕ) (small : limit ≤ widest) (capture : List ℕ) (size : l
         ap (λ (p : ℕ). nextOf p w) (t .place-is) ∙ said .2 in
         let records : recordsBy 0 (t .windows ++ w ∷ []) ≡ past =
         records-more 0 (t .windows) w ∙ rw at (append-nil past) in
-        let old : List ℕ → List ℕ = λ (l : List ℕ). l in
         record {
           within = five;
           told = record {
@@ -178,6 +209,8 @@ module _ (limit : ℕ) (small : limit ≤ widest) (capture : List ℕ) (size : l
               ap length front,
               length-append w rest,
             );
+            at = inr (omega arith);
+            heard = λ e. rw records (omega (arith, t .heard e, said .0));
             lines = t .lines;
             are-lines = rw records (t .are-lines);
             new = [];
@@ -186,6 +219,7 @@ module _ (limit : ℕ) (small : limit ≤ widest) (capture : List ℕ) (size : l
             side0 = rw (records, idle .0, none-fed 0 (drop 5 left)) (rw (idle .0, none-fed 0 left) at (t .side0));
             side1 = rw (records, idle .0, none-fed 1 (drop 5 left)) (rw (idle .0, none-fed 1 left) at (t .side1));
           };
+          stops = goes-on;
         }
 
   -- ---- a record
@@ -281,6 +315,9 @@ module _ (limit : ℕ) (small : limit ≤ widest) (capture : List ℕ) (size : l
         .side))
         (t .side0) (t .side1)
 
+    payload-within : length payload + 7 ≤ sizeOf w
+    payload-within = omega (arith, length-take (payloadSizeOf w) (drop 7 w))
+
     -- some of it is told
     partly : Stepped limit capture left text w (record {
       state = withReader d (run .state) (s .place) (s .fed + run .used) s;
@@ -307,6 +344,8 @@ module _ (limit : ℕ) (small : limit ≤ widest) (capture : List ℕ) (size : l
             place-is = t .place-is;
             left-is = t .left-is;
             size-is = t .size-is;
+            at = t .at;
+            heard = t .heard;
             lines = t .lines;
             are-lines = t .are-lines;
             new = new;
@@ -315,7 +354,27 @@ module _ (limit : ℕ) (small : limit ≤ widest) (capture : List ℕ) (size : l
             side0 = rw (heard 0) (both (s .place) (s .fed + run .used) .side0);
             side1 = rw (heard 1) (both (s .place) (s .fed + run .used) .side1);
           };
+          stops = record { never-state = stops .never-state; never-used = λ z. omega (arith, stops .used-late z, whole) };
         }
+      where
+        stops : ListStops (heardOf d past ++ take (s .fed) payload) (drop (s .fed) payload) run
+        stops = side-stops limit small (prefixOf d) _ (drop (s .fed) payload) (readerOf d s) room own
+
+        -- no more bytes than the capture has
+        whole : length (heardOf d past ++ take (s .fed) payload) + length (drop (s .fed) payload) ≤ 4611686018427387904
+        whole =
+            omega (
+              arith,
+              length-append (heardOf d past) (take (s .fed) payload),
+              length-append (take (s .fed) payload) (drop (s .fed) payload),
+              ap length (take-append-drop (s .fed) payload),
+              payload-within,
+              t .heard d,
+              t .size-is,
+              ap length front,
+              length-append w rest,
+              said-of .within,
+            )
 
     -- all of it is told
     finished : run .stop ≡ 0 → Stepped limit capture left text w (record {
@@ -363,6 +422,15 @@ module _ (limit : ℕ) (small : limit ≤ widest) (capture : List ℕ) (size : l
               ap length front,
               length-append w rest,
             );
+            at = inr (omega (arith, said-of .after-head));
+            heard = λ k. rw (records, heard-more k past raw) (omega (
+              arith,
+              length-append (heardOf k past) (cond (eqb (directionOf raw) k) (payloadOf raw) []),
+              t .heard k,
+              picked-size (eqb (directionOf raw) k) (payloadOf raw),
+              ap length (raw-same .payload),
+              payload-within,
+            ));
             lines = t .lines ++ linesOf (directionOf raw) new;
             are-lines = rw records (lines-more limit [] past (t .lines) raw new (t .are-lines) adds);
             new = [];
@@ -374,8 +442,13 @@ module _ (limit : ℕ) (small : limit ≤ widest) (capture : List ℕ) (size : l
             side0 = rw (records, heard 0) (both (s .place + sizeOf w) 0 .side0);
             side1 = rw (records, heard 1) (both (s .place + sizeOf w) 0 .side1);
           };
+          stops = goes-on;
         }
       where
+        picked-size : (b : Bool) (l : List ℕ) → length (cond b l []) ≤ length l
+        picked-size true l = omega arith
+        picked-size false l = omega arith
+
         lines-text : SameRecord w raw → printedText (linesOf (directionOf raw) new) ≡ decisionsText (prefixOf d) new
         lines-text same =
             linesOf-text (directionOf raw) new ∙ ap (λ (k : ℕ). decisionsText (prefixOf k) new) (sym (same .direction))
@@ -387,7 +460,7 @@ module _ (limit : ℕ) (small : limit ≤ widest) (capture : List ℕ) (size : l
       let y : Outcome ℕ = nextOf (s .place) w in
       either-way (eqb (y .row .number) 0)
       (λ z. either-way (eqb (getD (y .row .values) 0 0) 0)
-      (λ v. rw (z, v) (stays 0))
+      (λ v. rw (z, v) (stays 0 done-stops))
       (λ v.
       let some : 1 ≤ getD (y .row .values) 0 0 = omega (arith, eqb-false (getD (y .row .values) 0 0) 0 v) in
       let zero : y .row .number ≡ 0 = eqb-true (y .row .number) 0 z in
@@ -400,7 +473,7 @@ module _ (limit : ℕ) (small : limit ≤ widest) (capture : List ℕ) (size : l
       (sym (said-of one room .answer))
       (by-test (Stepped limit capture left text w) (eqb (recordRun limit (directionOf w) s w room .stop) 0)
       (λ f. finished one room (eqb-true _ 0 f)) (λ f. partly one room)))
-      (λ o. rw (z, o) (stays (y .row .number))))
+      (λ o. rw (z, o) (stays (y .row .number) next-stops)))
 
 -- ---- a run of steps, a call, and turns
 
@@ -413,6 +486,7 @@ module _ (limit : ℕ) (small : limit ≤ widest) (capture : List ℕ) (size : l
       record {
         within = omega (arith, later .within, length-drop count w);
         told = rw (drop-drop, append-assoc) at (later .told);
+        stops = later .stops;
       }
 
   played : (n : ℕ) (s : State) (left text w rest : List ℕ) (room : ℕ)
@@ -420,7 +494,7 @@ module _ (limit : ℕ) (small : limit ≤ widest) (capture : List ℕ) (size : l
       → Stepped limit capture left text w (playIn limit n s w room)
   unfolding playIn
   played zero s left text w rest room t front =
-      record { within = omega arith; told = rw (append-nil text) t }
+      record { within = omega arith; told = rw (append-nil text) t; stops = done-stops }
   played (suc n) s left text w rest room t front =
       let step : Run State = stepOf limit s w room in
       let first = stepped limit small capture size s left text t w rest front room in
@@ -431,14 +505,26 @@ module _ (limit : ℕ) (small : limit ≤ widest) (capture : List ℕ) (size : l
       (ap (λ (l : List ℕ). drop (step .used) l) front ∙ drop-append-le (step .used) w rest (first .within))))
       (λ _. first)
 
+  -- the replay is in range
+  in-range : (s : State) (left text : List ℕ) → Told limit capture s left text → inRangeOf limit s ≡ true
+  in-range s left text t =
+      rw (cursor (t .at), side-range limit small (t .side0), side-range limit small (t .side1))
+    where
+      cursor : (s .place ≡ 0) ⊎ (5 ≤ s .place) → cursorInRange (s .place) ≡ true
+      cursor (inl h) = rw (eq-eqb (s .place) 0 h)
+      cursor (inr h) =
+          rw (
+            ne-eqb (s .place) 0 (λ e. omega arith),
+            le-leb 5 (s .place) h,
+            le-leb (s .place) (2 ^ 62) (omega (arith, t .size-is)),
+          )
+
   -- a call of `play`
   pub told-more : (s : State) (left text w rest : List ℕ) (room : ℕ)
       → Told limit capture s left text → left ≡ w ++ rest
       → Stepped limit capture left text w (playOf limit s w room)
   told-more s left text w rest room t front =
-      by-test (Stepped limit capture left text w) (inRangeOf limit s)
-      (λ _. played (suc (length w)) s left text w rest room t front)
-      (λ _. record { within = omega arith; told = rw (append-nil text) t })
+      rw (in-range s left text t) (played (suc (length w)) s left text w rest room t front)
 
   -- turns
   pub told-turns : (turns : List Turn) (s : State) (left text : List ℕ)

@@ -34,9 +34,9 @@ use Rattle.replay.specs.State.{State, freshOf}
 use Rattle.replay.specs.Replays.{heardOf, Adds, AreLines, IsEndLine, IsEnding, IsReplay}
 use Rattle.replay.specs.Closing.{endLine, closingText}
 use Rattle.replay.specs.Turns.{Turn, stateBy, textBy, leftBy, AreWindows, Finishes, writtenBy}
-use Rattle.replay.specs.TurnReplays.{TurnsReplay, OneReplay, AnyTurns}
+use Rattle.replay.specs.TurnReplays.{TurnsReplay, OneReplay, AnyTurns, TurnsStop}
 use Rattle.replay.proofs.Sides.{Side}
-use Rattle.replay.proofs.Told.{Within, Told, none-fed, told-nothing, told-turns}
+use Rattle.replay.proofs.Told.{Within, Told, none-fed, told-nothing, told-more, told-turns}
 
 -- ---- the end of a replay
 
@@ -79,8 +79,11 @@ module _ (limit : ℕ) (small : limit ≤ widest) (capture : List ℕ) (size : l
           let here : nextOf (s .place) w .row .number ≡ 1 =
           ap (λ (l : List ℕ). nextOf (s .place) l .row .number) (sym all) ∙ one in
           f .nothing-to-play
-          (rw (ne-eqb (nextOf (s .place) w .row .number) 0 (λ e. omega arith), eq-eqb (nextOf (s .place) w .row .number)
-          1 here))
+          (rw (
+            ne-eqb (nextOf (s .place) w .row .number) 0 (λ e. omega arith),
+            eq-eqb (nextOf (s .place) w .row .number)
+                1 here,
+          ))
       go (inr refused) =
           let same : nextOf (s .place) left ≡ nextOf (s .place) w =
           ap (λ (l : List ℕ). nextOf (s .place) l) (f .front)
@@ -159,6 +162,12 @@ turns-replay limit small capture size turns a w f =
     is-ended limit small capture size (stateBy limit (freshOf limit) turns) (leftBy limit (freshOf limit) capture turns)
     (textBy limit (freshOf limit) turns)
     (told-turns limit small capture size turns (freshOf limit) capture [] (told-nothing limit capture) a) w f .replay
+
+pub turns-stop : TurnsStop
+turns-stop limit small capture size turns a w rest front room =
+    told-more limit small capture size (stateBy limit (freshOf limit) turns) (leftBy limit (freshOf limit) capture turns)
+    (textBy limit (freshOf limit) turns) w rest room
+    (told-turns limit small capture size turns (freshOf limit) capture [] (told-nothing limit capture) a) front .stops
 
 -- ---- a capture has one replay
 
