@@ -97,7 +97,8 @@ stands (d ∷ ds) f m = go (eqb (d .number) 1) refl (λ k. stands ds f k) m
     go false e rest m = later (rest m)
 
 -- and each of them is among the frames
-stands-among : (ds : List Decision) (d : Decision) → List·Memᴰ d ds → d .number ≡ 1 → List·Memᴰ (frameOf d) (framesIn ds)
+stands-among : (ds : List Decision) (d : Decision) → List·Memᴰ d ds → d .number ≡ 1
+    → List·Memᴰ (frameOf d) (framesIn ds)
 unfolding framesIn
 stands-among [] d m one = absurd (List·Memᴰ·not-nil m)
 stands-among (x ∷ ds) d m one =
@@ -122,7 +123,8 @@ good-frame limit raw body n (is-stuff b x e f w g h i) one = absurd (omega arith
 good-frame limit raw body n (is-cut b e f w g) one = absurd (omega arith)
 good-frame limit raw body n (is-sum b e f w g h i j) one = absurd (omega arith)
 
-decided-frame : (limit : ℕ) (t : List ℕ) (d : Decision) → IsDecision limit t d → d .number ≡ 1 → IsFrame limit t (frameOf d)
+decided-frame : (limit : ℕ) (t : List ℕ) (d : Decision) → IsDecision limit t d → d .number ≡ 1
+    → IsFrame limit t (frameOf d)
 decided-frame limit t d i one =
     let g = good-frame limit (i .raw) (d .body) (d .number) (i .decides) one in
     record {

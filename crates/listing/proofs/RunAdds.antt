@@ -54,7 +54,8 @@ decisions-both (e ∷ a) b =
     go true x y z h = ap (λ (l : List Decision). decisionIn e ∷ l) h
     go false x y z h = h
 
-feed-text-both : (prefix : List ℕ) (a b : List Entry) → feedText prefix (a ++ b) ≡ feedText prefix a ++ feedText prefix b
+feed-text-both : (prefix : List ℕ) (a b : List Entry)
+    → feedText prefix (a ++ b) ≡ feedText prefix a ++ feedText prefix b
 unfolding feedText
 feed-text-both prefix [] b = refl
 feed-text-both prefix (e ∷ a) b =
@@ -80,7 +81,8 @@ run-adds prefix limit small calls only bytes room =
     let later : List Entry = logOf limit r more in
     let all : logOf limit (freshOf limit) (calls ++ more) ≡ earlier ++ later =
     log-both limit calls more (freshOf limit) in
-    let decisions : decisionsOf (logOf limit (freshOf limit) (calls ++ more)) ≡ decisionsOf earlier ++ decisionsOf later =
+    let decisions : decisionsOf (logOf limit (freshOf limit) (calls ++ more))
+    ≡ decisionsOf earlier ++ decisionsOf later =
     ap decisionsOf all ∙ decisions-both earlier later in
     let lines : feedText prefix earlier ++ feedText prefix later
     ≡ decisionsText prefix (decisionsOf earlier) ++ decisionsText prefix (decisionsOf later) =

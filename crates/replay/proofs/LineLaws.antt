@@ -13,7 +13,8 @@ use Rattle.replay.specs.Lines.{Printed, printedText, linesOf, decisionsI
 use Rattle.replay.specs.Replays.{heardOf, Adds, AreLines}
 
 -- a test that adds something in front, before others
-pub front-first : {A : Type 0} (t : Bool) (x : A) (l m : List A) → cond t (x ∷ (l ++ m)) (l ++ m) ≡ cond t (x ∷ l) l ++ m
+pub front-first : {A : Type 0} (t : Bool) (x : A) (l m : List A)
+    → cond t (x ∷ (l ++ m)) (l ++ m) ≡ cond t (x ∷ l) l ++ m
 front-first true x l m = refl
 front-first false x l m = refl
 

@@ -125,7 +125,8 @@ module _ (limit : ℕ) (small : limit ≤ widest) where
   pub side-stops : (prefix t bytes : List ℕ) (r : Reader) (room : ℕ)
       → Side limit prefix t r → TurnStops t bytes (listOf limit prefix r bytes room)
   side-stops prefix t bytes r room s =
-      rw (s .turned .0, s .turned .1) at (turns-stop prefix limit small (s .turns) (record { bytes = bytes; room = room }))
+      rw (s .turned .0, s .turned .1) at (turns-stop prefix limit small (s .turns)
+      (record { bytes = bytes; room = room }))
 
   -- the reader is in range: its end is asked, and the answer is not STATE
   pub side-range : {prefix t : List ℕ} {r : Reader} → Side limit prefix t r → inRangeOf limit (r .scan) ≡ true

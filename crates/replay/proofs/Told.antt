@@ -354,7 +354,10 @@ module _ (limit : ℕ) (small : limit ≤ widest) (capture : List ℕ) (size : l
             side0 = rw (heard 0) (both (s .place) (s .fed + run .used) .side0);
             side1 = rw (heard 1) (both (s .place) (s .fed + run .used) .side1);
           };
-          stops = record { never-state = stops .never-state; never-used = λ z. omega (arith, stops .used-late z, whole) };
+          stops = record {
+            never-state = stops .never-state;
+            never-used = λ z. omega (arith, stops .used-late z, whole);
+          };
         }
       where
         stops : ListStops (heardOf d past ++ take (s .fed) payload) (drop (s .fed) payload) run

@@ -165,8 +165,8 @@ turns-replay limit small capture size turns a w f =
 
 pub turns-stop : TurnsStop
 turns-stop limit small capture size turns a w rest front room =
-    told-more limit small capture size (stateBy limit (freshOf limit) turns) (leftBy limit (freshOf limit) capture turns)
-    (textBy limit (freshOf limit) turns) w rest room
+    told-more limit small capture size (stateBy limit (freshOf limit) turns)
+    (leftBy limit (freshOf limit) capture turns) (textBy limit (freshOf limit) turns) w rest room
     (told-turns limit small capture size turns (freshOf limit) capture [] (told-nothing limit capture) a) front .stops
 
 -- ---- a capture has one replay

@@ -19,7 +19,7 @@ use Rattle.replay.specs.Replays.{heardOf, AreLines, IsReplay}
 use Rattle.replay.specs.Turns.{Turn, stateBy, leftBy, AreWindows, Finishes, writtenBy}
 
 -- ---- directions-correct: the reader of each direction has been fed the bytes of that direction's complete records
--- before the stop, joined, and no others; its calls, with the end asked, are stream-correct: frames, bodies, counts; and
+-- before the stop, joined, and no others; its calls, with finish, are stream-correct: frames, bodies, counts, ends; and
 -- the lines printed of that direction are its decisions
 
 -- the calls that led a fresh reader to `reader`, and what they gave
@@ -37,8 +37,10 @@ pub record DirectionCorrect (limit direction : ℕ) (records : List (List ℕ)) 
 -- the replay that turns write, and both readers after them
 pub record DirectionsCorrect (limit : ℕ) (capture : List ℕ) (turns : List Turn) (w : List ℕ) : Type 0 where
   pub replay : IsReplay limit capture (writtenBy limit (freshOf limit) turns w)
-  pub correct0 : DirectionCorrect limit 0 (replay .records) (replay .lines) (stateBy limit (freshOf limit) turns .reader0)
-  pub correct1 : DirectionCorrect limit 1 (replay .records) (replay .lines) (stateBy limit (freshOf limit) turns .reader1)
+  pub correct0 : DirectionCorrect limit 0 (replay .records) (replay .lines)
+      (stateBy limit (freshOf limit) turns .reader0)
+  pub correct1 : DirectionCorrect limit 1 (replay .records) (replay .lines)
+      (stateBy limit (freshOf limit) turns .reader1)
 
 -- of all turns on a capture of up to 2^62 bytes, and then finish
 abbrev pub TurnsCorrect : Type 0
@@ -48,8 +50,8 @@ TurnsCorrect =
     → (w : List ℕ) → Finishes (stateBy limit (freshOf limit) turns) (leftBy limit (freshOf limit) capture turns) w
     → DirectionsCorrect limit capture turns w
 
--- ---- frames-printed: of every replay, the frames printed of a direction are the frames of its joined bytes, each once,
--- in order; so with all decisions
+-- ---- frames-printed: of every replay, the frames printed of a direction are the frames of its joined bytes, each
+-- once, in order; so with all decisions
 pub record FramesPrinted (limit direction : ℕ) (records : List (List ℕ)) (lines : List Printed) : Type 0 where
   pub decisions : ListsDecisions limit (heardOf direction records) (decisionsIn direction lines)
   pub frames : framesIn (decisionsIn direction lines) ≡ framesOf limit (heardOf direction records)
