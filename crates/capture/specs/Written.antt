@@ -2,9 +2,11 @@
 use Prim.Native.Nat.{ℕ, _+_, _≤_}
 use mathlib.Core.Path.{_≡_}
 use mathlib.Core.List.{List, [], _∷_, _++_, map}
-use lib.ListN.{length}
+use lib.ListN.{length, take}
 use Rattle.frame.specs.Offers.{joined}
+use Rattle.base.specs.Outcomes.{Output, writtenIn}
 use Rattle.capture.specs.Format.{head, directionOf, millisecondsOf, payloadOf, recordBytes}
+use Rattle.capture.specs.Format.{headWriteOf, recordWriteOf}
 use Rattle.capture.specs.Captures.{Reads}
 
 -- what is to be recorded
@@ -43,3 +45,40 @@ abbrev pub WrittenBack : Type 0
 WrittenBack =
     (items : List Item) → Directed items
     → Reads (captureOf items) (map bytesOf items) 2 (length (captureOf items))
+
+-- ---- recorder-back: what a recorder's calls put at the fronts of its buffers, joined in order, is a capture that holds
+-- just its items, if no call was refused
+
+-- an item, and the buffer of the call that writes it
+pub record Recorded : Type 0 where
+  pub item : Item
+  pub out : List ℕ
+
+-- the call
+abbrev pub recordCall : Recorded → Output
+recordCall r = recordWriteOf (r .item .direction) (r .item .milliseconds) (r .item .payload) (r .out)
+
+-- what a call put at the front of its buffer
+abbrev pub putBy : Output → List ℕ
+putBy o = take (writtenIn (o .row)) (o .out)
+
+-- no call was refused
+abbrev pub AllWritten : List Recorded → Type 0
+AllWritten [] = Unit {0}
+AllWritten (r ∷ rs) = (recordCall r .row .number ≡ 0) × AllWritten rs
+
+-- what the calls put, in order
+unfoldable pub recordedBytes : List Recorded → List ℕ
+recordedBytes [] = []
+recordedBytes (r ∷ rs) = putBy (recordCall r) ++ recordedBytes rs
+
+-- the items
+abbrev pub itemsOf : List Recorded → List Item
+itemsOf [] = []
+itemsOf (r ∷ rs) = r .item ∷ itemsOf rs
+
+-- of a head and any records
+abbrev pub RecorderBack : Type 0
+RecorderBack =
+    (out : List ℕ) (rs : List Recorded) → headWriteOf out .row .number ≡ 0 → AllWritten rs
+    → putBy (headWriteOf out) ++ recordedBytes rs ≡ captureOf (itemsOf rs)
