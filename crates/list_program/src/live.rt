@@ -1,23 +1,14 @@
 // The bytes as they come: the lines of each read are written before the next read. PROTOCOL 10.7.
-use super::failure::may_repeat;
-use super::output::close;
-use super::output::write_first;
 use frame::Reader;
-use libc::EIO;
-use libc::STDERR_FILENO;
-use libc::STDIN_FILENO;
+use standard_io::close;
+use standard_io::give_up;
+use standard_io::write_first;
 
 // The reader after some bytes, whether to continue, and whether the listing is whole.
 struct Turn {
     reader: Reader,
     keep_going: bool,
     is_whole: bool,
-}
-
-// A call that uses no byte would be made again for ever; this happens only where more than 2^62 bytes come in all.
-fn give_up() -> bool {
-    io::write_all(STDERR_FILENO, b"standard input: too many bytes\n");
-    false
 }
 
 // Lists some bytes, in one call unless their lines are more than the buffer holds.
@@ -75,31 +66,20 @@ fn end(reader: Reader, out: &mut [u8]) -> Turn {
     }
 }
 
-// A read that failed. A terminal that is hung up fails with EIO, and this counts as its end: PROTOCOL 10.7.
-fn broken(reader: Reader, is_terminal: bool, out: &mut [u8]) -> Turn {
-    if is_terminal {
-        if os::errno() == EIO {
-            return end(reader, out);
-        }
-    }
-    Turn {
-        reader,
-        keep_going: may_repeat(b"standard input"),
-        is_whole: false,
-    }
-}
-
 // One read, and the lines of what it returns.
 fn one_read(reader: Reader, is_terminal: bool, input: &mut [u8], out: &mut [u8]) -> Turn {
-    let got = libc::read(STDIN_FILENO, input);
-    if got < 0 {
-        return broken(reader, is_terminal, out);
-    }
-    let n = io::count(got, input);
-    if n == 0 {
+    let got = standard_io::read(is_terminal, input);
+    if got.is_end {
         return end(reader, out);
     }
-    list_all(reader, &input[..n], out)
+    if !got.keep_going {
+        return Turn {
+            reader,
+            keep_going: false,
+            is_whole: false,
+        };
+    }
+    list_all(reader, base::part(input, 0, got.count), out)
 }
 
 // Whether the listing was written whole. A proved loop must end, and nothing says that the input does: so the turns are
@@ -108,7 +88,7 @@ pub(crate) fn list(input: &mut [u8], out: &mut [u8]) -> bool {
     if !heading(out) {
         return false;
     }
-    let is_terminal = libc::isatty(STDIN_FILENO) == 1;
+    let is_terminal = standard_io::is_terminal();
     let mut reader = Reader::new();
     let mut turns = u64::MAX;
     while turns > 0 {

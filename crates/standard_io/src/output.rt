@@ -1,6 +1,6 @@
 // Standard output: all of some bytes, or one line on standard error that says why not.
-use super::failure::may_repeat;
-use libc::STDERR_FILENO;
+use super::reports::may_repeat;
+use super::reports::stuck;
 use libc::STDOUT_FILENO;
 ghost use Prim.Native.Nat.{_≤_};
 ghost use lib.ListN.{length};
@@ -9,12 +9,6 @@ ghost use lib.ListN.{length};
 struct Step {
     count: usize,
     keep_going: bool,
-}
-
-// No device should write nothing and report success; with one that does, the loop would never end.
-fn stuck() -> bool {
-    io::write_all(STDERR_FILENO, b"standard output: takes no byte\n");
-    false
 }
 
 fn write_some(bytes: &[u8]) -> Step
@@ -59,7 +53,7 @@ fn write_whole(bytes: &[u8]) -> bool {
 }
 
 // The first bytes of a buffer.
-pub(crate) fn write_first(out: &[u8], count: usize) -> bool {
+pub fn write_first(out: &[u8], count: usize) -> bool {
     if out.len() < count {
         return false;
     }
@@ -67,7 +61,7 @@ pub(crate) fn write_first(out: &[u8], count: usize) -> bool {
 }
 
 // Some file systems report a failed write only here.
-pub(crate) fn close() -> bool {
+pub fn close() -> bool {
     if libc::close(STDOUT_FILENO) == 0 {
         return true;
     }

@@ -2,8 +2,8 @@
 use native.Mathlib.Omega.{arith}
 use lib.ListN.{length-take}
 use borrow.Author.Needs.{needs}
-use Rattle.list_program.proofs.output.write_first.Statement.{statement}
-use Rattle.list_program.proofs.output.write_first.Tie as tie
+use Rattle.standard_io.proofs.output.write_first.Statement.{statement}
+use Rattle.standard_io.proofs.output.write_first.Tie as tie
 
 slice-aggregate-write-whole : tie.Need-slice-aggregate-write-whole
 slice-aggregate-write-whole c = simp length-take (omega arith)

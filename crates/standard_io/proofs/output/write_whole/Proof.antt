@@ -5,8 +5,8 @@ use mathlib.Core.List.{List}
 use native.Mathlib.Omega.{arith}
 use lib.ListN.{length, drop, length-take}
 use borrow.Author.Needs.{needs}
-use Rattle.list_program.proofs.output.write_whole.Statement.{statement}
-use Rattle.list_program.proofs.output.write_whole.Tie as tie
+use Rattle.standard_io.proofs.output.write_whole.Statement.{statement}
+use Rattle.standard_io.proofs.output.write_whole.Tie as tie
 
 abbrev Inv-loop : tie.InvT-loop
 Inv-loop bytes at₀ turns₀ at turns = at ≤ length bytes
