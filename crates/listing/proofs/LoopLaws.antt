@@ -3,7 +3,7 @@ use Prim.Native.Nat.{ℕ, zero, suc, _+_, _-_, _^_, _≤_, _<_}
 use mathlib.Core.Path.{_≡_, refl, sym, ap, _∙_}
 use mathlib.Core.Bool.{true, false, true≢false}
 use mathlib.Core.Logic.{_≢_}
-use mathlib.Core.List.{List, [], _++_}
+use mathlib.Core.List.{List, [], _∷_, _++_}
 use native.Mathlib.Nat.{sub-zero}
 use native.Mathlib.Omega.{arith}
 use borrow.Author.Tests.{eq-eqb, ne-eqb, lt-ltb, le-ltb, leb-true, eqb-false}
@@ -11,7 +11,8 @@ use lib.ListN.{length, take, drop, length-append, length-drop}
 use lib.Seq.{sets, length-sets, drop-drop, take-all}
 use lib.Dec.{eqb, ltb, leb}
 use Rattle.base.specs.Runs.{Run, stopped, onward, leftBy}
-use Rattle.base.specs.Outcomes.{Outcome}
+use Rattle.base.specs.Rows.{row}
+use Rattle.base.specs.Outcomes.{Outcome, outcome}
 use Rattle.base.specs.Stores.{PutAt}
 use Rattle.frame.specs.Rules.{inRangeOf}
 use Rattle.frame.specs.State.{State}
@@ -20,7 +21,7 @@ use Rattle.frame.specs.Calls.{feedOf}
 use Rattle.frame.specs.declared.scan.Verdict.{Verdict}
 use Rattle.frame.specs.declared.scan.Verdict.the-variants.{Frame, Short, Long, Stuff, Cut, Sum}
 use Rattle.frame.proofs.EachCall.{within as count-most}
-use Rattle.frame.proofs.EachCall.{progress}
+use Rattle.frame.proofs.EachCall.{progress, empty-call, state-kept}
 use Rattle.base.proofs.Tests.{either-way, cond-equal}
 use Rattle.base.proofs.Runs.{Rest, rest-onward, rest-stopped}
 use Rattle.listing.specs.Lines.{lineRoom}
@@ -223,3 +224,14 @@ module _ (limit : ℕ) (prefix bytes out : List ℕ) (r : State) (y : Outcome St
   pub all-fed : refuses (y .row .number) ≡ false
       → loopOf limit prefix r bytes (length out) ≡ listOf limit prefix r bytes (length out)
   all-fed f = rw (← e, f)
+
+-- with bytes and room for a line, the loop's own first feed finds a reader that is out of range
+pub fed-at-once : (limit : ℕ) (prefix : List ℕ) (r : State) (bytes : List ℕ) (room : ℕ)
+    → 1 ≤ length bytes → length prefix + lineRoom ≤ room
+    → loopOf limit prefix r bytes room ≡ listOf limit prefix r bytes room
+fed-at-once limit prefix r bytes room some h =
+    either-way (inRangeOf limit (r .scan)) (λ a. rw (empty-call limit r a))
+    (λ a.
+    let refused : feedOf limit r bytes ≡ outcome (row 17 (0 ∷ [])) r = state-kept limit r bytes a .0 in
+    let none : feedOf limit r [] ≡ outcome (row 17 (0 ∷ [])) r = state-kept limit r [] a .0 in
+    step-refused limit prefix r bytes room some h (outcome (row 17 (0 ∷ [])) r) (sym refused) refl ∙ rw none)

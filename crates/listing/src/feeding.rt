@@ -112,12 +112,17 @@ fn feed_all(reader: Reader, prefix: &[u8], bytes: &[u8], out: &mut [u8]) -> List
 }
 
 // Feeds bytes and puts the line of each answer. Where it stops for room, the caller writes the text and calls again
-// with the bytes that are left. Room is tested before a feed, so that no answer is lost. The feed with no data at the
-// beginning finds a reader that is out of range, even where there are no bytes.
+// with the bytes that are left. Room is tested before a feed, so that no answer is lost. Where the loop would not feed at
+// all, a feed with no data finds a reader that is out of range.
 pub fn list(reader: Reader, prefix: &[u8], bytes: &[u8], out: &mut [u8]) -> Listed
     ensures { λ r. ⌜ leftOf r (now (out .exit)) ≡ leftBy (listOf frameLimit (now (prefix .entry)) (stateOf reader)
         (now (bytes .entry)) (length (now (out .entry)))) (now (out .entry)) ⌝ }
 {
+    if 0 < bytes.len() {
+        if prefix.len() + LINE_ROOM <= out.len() {
+            return feed_all(reader, prefix, bytes, out);
+        }
+    }
     let probed = frame::feed(reader, b"");
     let answer = probed.answer;
     if is_refusal(answer) {
