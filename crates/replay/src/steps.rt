@@ -70,22 +70,18 @@ fn with_reader(
     ensures { λ r. ⌜ stateOf r
         ≡ withReader (directionNumber direction) (readerStateOf reader) (cursor .place) fed (stateOf replay) ⌝ }
 {
-    let from_module = replay.from_module;
-    let from_box = replay.from_box;
+    let mut after = replay;
+    after.cursor = cursor;
+    after.fed = fed;
     match direction {
-        Direction::FromModule => Replay {
-            cursor,
-            fed,
-            from_module: reader,
-            from_box,
-        },
-        Direction::FromBox => Replay {
-            cursor,
-            fed,
-            from_module,
-            from_box: reader,
-        },
+        Direction::FromModule => {
+            after.from_module = reader;
+        }
+        Direction::FromBox => {
+            after.from_box = reader;
+        }
     }
+    after
 }
 
 // Whether all bytes of a record are listed.

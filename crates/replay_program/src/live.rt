@@ -186,8 +186,8 @@ fn reads_on(next: Next) -> bool {
     }
 }
 
-// Turn after turn, until one is the last. A proved loop must end, and nothing says that the input does: so the turns are
-// counted down from a number that no run uses up.
+// Turn after turn, until one is the last. A proved loop must end, and nothing says that the input does: so the turns
+// are counted down from a number that no run uses up.
 fn read_all(window: &mut [u8], out: &mut [u8]) -> Turn {
     let is_terminal = standard_io::is_terminal();
     let mut state = Replay::new();
