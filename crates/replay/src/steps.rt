@@ -70,18 +70,22 @@ fn with_reader(
     ensures { λ r. ⌜ stateOf r
         ≡ withReader (directionNumber direction) (readerStateOf reader) (cursor .place) fed (stateOf replay) ⌝ }
 {
-    let mut after = replay;
-    after.cursor = cursor;
-    after.fed = fed;
+    let from_module = replay.from_module;
+    let from_box = replay.from_box;
     match direction {
-        Direction::FromModule => {
-            after.from_module = reader;
-        }
-        Direction::FromBox => {
-            after.from_box = reader;
-        }
+        Direction::FromModule => Replay {
+            cursor,
+            fed,
+            from_module: reader,
+            from_box,
+        },
+        Direction::FromBox => Replay {
+            cursor,
+            fed,
+            from_module,
+            from_box: reader,
+        },
     }
-    after
 }
 
 // Whether all bytes of a record are listed.
