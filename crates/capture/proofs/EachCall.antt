@@ -1,4 +1,4 @@
--- rows-injective, cursor-ranges, each-next, each-finish, more-later, count-within and write-exactly. Assumes nothing.
+-- What each call answers, and exactly when. Assumes nothing.
 use Prim.Native.Nat.{ℕ, zero, suc, _+_, _^_, _≤_, _<_}
 use mathlib.Core.Path.{_≡_, refl, sym, ap, _∙_}
 use mathlib.Core.Logic.{_≢_}
@@ -17,7 +17,7 @@ use Rattle.capture.specs.Reading.{nextOf, endIn, endOf}
 use Rattle.capture.specs.Windows.{countOf}
 use Rattle.capture.specs.Table.{nextRowOf, endRowOf}
 use Rattle.capture.specs.EachCall.{RowsInjective, OutOfRange, CursorRanges, CountsWithin, EachNextAlways}
-use Rattle.capture.specs.EachCall.{EachFinishAlways, MoreLater, WritesExactly}
+use Rattle.capture.specs.EachCall.{EachFinishAlways, MoreLater, WritesExactly, AllAnswerRows, WindowEnough}
 use Rattle.capture.specs.declared.reading.EndResult.{EndResult}
 use Rattle.capture.specs.declared.reading.EndResult.the-variants as end
 use Rattle.capture.specs.declared.reading.NextResult.{NextResult}
@@ -31,7 +31,7 @@ use Rattle.capture.proofs.Records.{first-there, fields-later, fields-be
 use Rattle.capture.proofs.Records.{none-lacks, none-begins}
 use Rattle.capture.proofs.Heads.{mark-at, mark-whole}
 use Rattle.capture.proofs.NextCases.{outside, inside, next-first, next-later, head-cases, record-cases}
-use Rattle.capture.proofs.NextCases.{next-cases}
+use Rattle.capture.proofs.NextCases.{next-cases, later-cases}
 use Rattle.capture.proofs.Answers.{mark-differs, version-differs, head-few, head-whole, direction-wrong}
 use Rattle.capture.proofs.Answers.{record-few, record-whole}
 
@@ -241,3 +241,34 @@ write-exactly d t p out =
       room = λ h k. rw (le-ltb 65535 (length p) h, lt-ltb (length out) (length r) (omega arith));
       fits = λ h k. rw (size, le-ltb 65535 (length p) h, le-ltb (length out) (length r) (omega arith));
     }
+
+-- ---- answer-rows
+
+pub answer-rows : AllAnswerRows
+answer-rows count place t =
+    record {
+      more = refl;
+      module-record = λ time. refl;
+      box-record = λ time. refl;
+      mark = refl;
+      ended = refl;
+      state = refl;
+      used = refl;
+      taken-row = refl;
+      taken-place = refl;
+      end-more = refl;
+      end-whole = refl;
+      end-version = refl;
+      end-direction = refl;
+      end-state = refl;
+      end-used = refl;
+    }
+
+-- ---- window-enough
+
+pub window-enough : WindowEnough
+window-enough place b low fits bytes enough =
+    later-cases b (λ (y : Outcome ℕ). y .row ≡ row 0 (0 ∷ []) → ⊥) place low fits
+    (λ h e. omega (arith, ap (λ (r : Row). r .number) e))
+    (λ h k e. omega (arith, bytes 5, bytes 6))
+    (λ h k e. omega (arith, ap (λ (r : Row). r .number) e))

@@ -8,17 +8,45 @@ use Rattle.base.specs.Rows.{row}
 use Rattle.base.specs.Outcomes.{outcome, output}
 use Rattle.capture.specs.Format.{head, directionOf, millisecondsOf, sizeOf, IsRecord, recordBytes}
 use Rattle.capture.specs.Format.{headWriteOf, recordWriteOf}
-use Rattle.capture.specs.Table.{nextRowOf, endRowOf}
+use Rattle.capture.specs.Table.{nextRowOf, takenOf, endRowOf}
 use Rattle.capture.specs.Captures.{Begins}
 use Rattle.capture.specs.Reading.{nextOf, endOf}
 use Rattle.capture.specs.Windows.{countOf}
 use Rattle.capture.specs.declared.reading.EndResult.{EndResult}
+use Rattle.capture.specs.declared.reading.EndResult.the-variants as end
 use Rattle.capture.specs.declared.reading.NextResult.{NextResult}
+use Rattle.capture.specs.declared.reading.NextResult.the-variants as next
+use Rattle.capture.specs.declared.reading.Refusal.the-variants as refusal
+use Rattle.capture.specs.declared.reading.Taken.{Taken}
+use Rattle.capture.specs.declared.record.Direction.the-variants as direction
 
 -- ---- rows-injective: two answers never have the same number and values
 pub record RowsInjective : Type 0 where
   pub nexts : (a b : NextResult) → nextRowOf a ≡ nextRowOf b → a ≡ b
   pub ends : (a b : EndResult) → endRowOf a ≡ endRowOf b → a ≡ b
+
+-- ---- answer-rows: the number and the values of each answer, and what a contract says of the cursor: PROTOCOL 13.10
+pub record AnswerRows (count place : ℕ) (t : Taken) : Type 0 where
+  pub more : nextRowOf (next.More count) ≡ row 0 (count ∷ [])
+  pub module-record : (time : ℕ)
+      → nextRowOf (next.Record count direction.FromModule time) ≡ row 1 (count ∷ 0 ∷ time ∷ [])
+  pub box-record : (time : ℕ) → nextRowOf (next.Record count direction.FromBox time) ≡ row 1 (count ∷ 1 ∷ time ∷ [])
+  pub mark : nextRowOf (next.Refused refusal.Mark place) ≡ row 51 (place ∷ [])
+  pub ended : nextRowOf (next.Refused refusal.Ended place) ≡ row 54 (place ∷ [])
+  pub state : nextRowOf next.State ≡ row 17 (0 ∷ [])
+  pub used : nextRowOf next.Used ≡ row 18 (0 ∷ [])
+  pub taken-row : takenOf t .row ≡ nextRowOf (t .answer)
+  pub taken-place : takenOf t .state ≡ t .cursor .place
+  pub end-more : endRowOf end.More ≡ row 0 (0 ∷ [])
+  pub end-whole : endRowOf (end.Whole place) ≡ row 2 (place ∷ [])
+  pub end-version : endRowOf (end.Refused refusal.Version place) ≡ row 52 (place ∷ [])
+  pub end-direction : endRowOf (end.Refused refusal.Direction place) ≡ row 53 (place ∷ [])
+  pub end-state : endRowOf end.State ≡ row 17 (0 ∷ [])
+  pub end-used : endRowOf end.Used ≡ row 18 (0 ∷ [])
+
+-- of all values
+abbrev pub AllAnswerRows : Type 0
+AllAnswerRows = (count place : ℕ) (t : Taken) → AnswerRows count place t
 
 -- ---- cursor-ranges: STATE exactly when the place is 1 to 4 or beyond 2^62, before all others, in both calls; USED
 -- exactly when a cursor in range is offered bytes beyond 2^62; nothing is taken: PROTOCOL 13.9
@@ -121,6 +149,12 @@ pub record CountWithin (place : ℕ) (b : List ℕ) : Type 0 where
 -- of every cursor and all bytes
 abbrev pub CountsWithin : Type 0
 CountsWithin = (place : ℕ) (b : List ℕ) → CountWithin place b
+
+-- ---- window-enough: after the head, a window of 65,542 bytes always has a whole record, or is refused
+abbrev pub WindowEnough : Type 0
+WindowEnough =
+    (place : ℕ) (b : List ℕ) → 5 ≤ place → place + length b ≤ 4611686018427387904
+    → ((i : ℕ) → getD b i 0 < 256) → 65542 ≤ length b → nextOf place b .row ≡ row 0 (0 ∷ []) → ⊥
 
 -- ---- write-exactly: what the writing calls answer, and the buffer after them; PAYLOAD comes before ROOM:
 -- PROTOCOL 13.11, 13.12

@@ -36,6 +36,7 @@ lines-spelled prefix body c s e =
       clean = simp append-nil;
       left-open = simp append-nil;
       heading = simp append-nil;
+      refusal = simp (append-assoc, append-nil);
     }
 
 -- ---- longest

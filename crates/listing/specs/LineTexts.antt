@@ -5,7 +5,7 @@ use mathlib.Core.List.{List, [], _∷_, _++_}
 use lib.ListN.{length, getD}
 use Rattle.base.specs.Rows.{Row, row}
 use Rattle.listing.specs.Digits.{decimalOf}
-use Rattle.listing.specs.Lines.{ascii, headingText, textOf, placesOf, answerText, lastOf}
+use Rattle.listing.specs.Lines.{ascii, headingText, textOf, placesOf, answerText, lastOf, refusalText}
 
 -- ---- frame-columns: of any body that has the bytes that its length says, by their places: PROTOCOL 10.4
 abbrev pub FrameColumns : Type 0
@@ -17,7 +17,7 @@ FrameColumns =
     ∷ (getD body 0 0 * 256 + getD body 1 0 - 5) ∷ [])
     (ascii "\n")
 
--- ---- lines-spelled: every line by its pieces, for all numbers: PROTOCOL 10.2 to 10.6
+-- ---- lines-spelled: every line by its pieces, for all numbers: PROTOCOL 10.2 to 10.6, 10.11
 
 -- a refused frame's line, after its word and a space
 abbrev pub refusedRest : ℕ → ℕ → List ℕ
@@ -39,6 +39,7 @@ pub record LinesSpelled (prefix body : List ℕ) (c s e : ℕ) : Type 0 where
   pub clean : lastOf prefix (row 2 (c ∷ [])) ≡ prefix ++ (ascii "clean " ++ (decimalOf c ++ ascii "\n"))
   pub left-open : lastOf prefix (row 16 (c ∷ s ∷ [])) ≡ prefix ++ (ascii "open " ++ (decimalOf s ++ ascii "\n"))
   pub heading : headingText prefix ≡ prefix ++ ascii "kind start end cmd sn flags payload\n"
+  pub refusal : refusalText c s ≡ ascii "refused " ++ (decimalOf c ++ (ascii " " ++ (decimalOf s ++ ascii "\n")))
 
 -- of all values
 abbrev pub AllLinesSpelled : Type 0

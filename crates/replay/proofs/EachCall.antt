@@ -26,7 +26,7 @@ use Rattle.replay.specs.State.{State, inRangeOf}
 use Rattle.replay.specs.Table.{closingRowOf}
 use Rattle.replay.specs.EachCall.{TextsSpelled, StatesInjective, RowsInjective, StopNumbers, LeftFieldsAlways}
 use Rattle.replay.specs.EachCall.{ReplayRanges, PlayStops, PlayStopsAlways}
-use Rattle.replay.specs.EachCall.{ClosesExactlyAlways, KeepsExactlyAlways}
+use Rattle.replay.specs.EachCall.{ClosesExactlyAlways, KeepsExactlyAlways, AllNamedStates, AllAnswerRows}
 use Rattle.replay.specs.declared.closing.ClosingResult.{ClosingResult}
 use Rattle.replay.specs.declared.closing.ClosingResult.the-variants as closing
 use Rattle.replay.specs.declared.state.Replay.{Replay}
@@ -37,6 +37,34 @@ use Rattle.replay.proofs.RangeLaws.{loop-goes}
 pub texts-spelled : TextsSpelled
 unfolding columnsOf
 texts-spelled = record { heading = refl; from-module = refl; from-box = refl }
+
+pub named-states : AllNamedStates
+named-states r s q place fed =
+    record {
+      place-is = refl;
+      fed-is = refl;
+      from-module = refl;
+      from-box = refl;
+      fresh = refl;
+      reader-of-0 = refl;
+      reader-of-1 = refl;
+      with-0 = refl;
+      with-1 = refl;
+    }
+
+pub answer-rows : AllAnswerRows
+answer-rows count place =
+    record {
+      more = refl;
+      whole = refl;
+      mark = refl;
+      version = refl;
+      direction = refl;
+      ended = refl;
+      room = refl;
+      state = refl;
+      used = refl;
+    }
 
 -- ---- states-injective
 

@@ -139,7 +139,7 @@ module _ (limit : ℕ) (small : limit ≤ widest) (capture : List ℕ) (size : l
   stays number stops = record { within = omega arith; told = rw (append-nil text) t; stops = stops }
 
   -- the cursor is in range, and what is left is within 2^62 bytes
-  next-stops : TurnStops (nextOf (s .place) w .row .number)
+  pub next-stops : TurnStops (nextOf (s .place) w .row .number)
   next-stops =
       let bound : s .place + length w ≤ 4611686018427387904 =
       omega (arith, t .size-is, ap length front, length-append w rest) in
@@ -509,7 +509,7 @@ module _ (limit : ℕ) (small : limit ≤ widest) (capture : List ℕ) (size : l
       (λ _. first)
 
   -- the replay is in range
-  in-range : (s : State) (left text : List ℕ) → Told limit capture s left text → inRangeOf limit s ≡ true
+  pub in-range : (s : State) (left text : List ℕ) → Told limit capture s left text → inRangeOf limit s ≡ true
   in-range s left text t =
       rw (cursor (t .at), side-range limit small (t .side0), side-range limit small (t .side1))
     where

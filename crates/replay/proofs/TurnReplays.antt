@@ -1,18 +1,20 @@
 -- The capture's bytes alone decide the text, however windows and rooms cut it. Assumes nothing.
 use Prim.Native.Nat.{ℕ, _+_, _≤_, _<_}
 use mathlib.Core.Path.{_≡_, refl, sym, ap, subst, _∙_}
-use mathlib.Core.Bool.{cond}
+use mathlib.Core.Bool.{true, cond}
 use mathlib.Core.Logic.{_≢_, _⊎_, inl, inr, Dec·not-not}
 use mathlib.Core.List.{List, [], _∷_, _++_, append-nil, append-assoc, List-discrete}
 use native.Mathlib.Decide.{ℕ-discrete}
 use native.Mathlib.Omega.{arith}
-use borrow.Author.Tests.{eqb-true, eqb-false, eq-eqb, ne-eqb, lt-ltb}
+use borrow.Author.Tests.{eqb-true, eqb-false, eq-eqb, ne-eqb, lt-ltb, le-ltb}
 use lib.ListN.{length, getD}
-use lib.Dec.{eqb}
+use lib.Dec.{eqb, ltb}
+use Rattle.base.specs.Keys.{among}
 use Rattle.base.specs.Rows.{Row, row}
 use Rattle.base.specs.Outcomes.{Outcome}
 use Rattle.base.proofs.Lists.{append-cancel}
-use Rattle.base.proofs.Tests.{either-way}
+use Rattle.base.proofs.Keys.{among-holds}
+use Rattle.base.proofs.Tests.{by-test, either-way}
 use Rattle.frame.specs.Wire.{widest}
 use Rattle.frame.specs.State.{State as Reader}
 use Rattle.frame.specs.Calls.{finishOf}
@@ -23,20 +25,21 @@ use Rattle.listing.specs.Lines.{lastOf, refusalText}
 use Rattle.listing.specs.Listing.{decisionsText}
 use Rattle.capture.specs.Format.{directionOf}
 use Rattle.capture.specs.Captures.{Stops, Reads, no-mark, no-version, with-head, whole, direction, ended}
-use Rattle.capture.specs.Reading.{nextOf, endOf}
+use Rattle.capture.specs.Reading.{nextOf, endIn, endOf}
 use Rattle.capture.specs.ReadingExact.{Reading}
 use Rattle.capture.specs.Windows.{countOf, recordsBy}
 use Rattle.capture.proofs.EachCall.{more-later}
 use Rattle.capture.proofs.NextSays.{next-says}
 use Rattle.capture.proofs.ReadingExact.{windows-read, one-reading}
 use Rattle.replay.specs.Lines.{Printed, printedText, linesOf, prefixOf, replayHeading}
-use Rattle.replay.specs.State.{State, freshOf}
+use Rattle.replay.specs.State.{State, freshOf, inRangeOf}
 use Rattle.replay.specs.Replays.{heardOf, Adds, AreLines, IsEndLine, IsEnding, IsReplay}
-use Rattle.replay.specs.Closing.{endLine, closingText}
+use Rattle.replay.specs.Closing.{endLine, closingText, closed}
 use Rattle.replay.specs.Turns.{Turn, stateBy, textBy, leftBy, AreWindows, Finishes, writtenBy}
-use Rattle.replay.specs.TurnReplays.{TurnsReplay, OneReplay, AnyTurns, TurnsStop}
+use Rattle.replay.specs.TurnReplays.{TurnsReplay, OneReplay, AnyTurns, TurnStops, TurnsStop, TurnsFinish}
 use Rattle.replay.proofs.Sides.{Side}
-use Rattle.replay.proofs.Told.{Within, Told, none-fed, told-nothing, told-more, told-turns}
+use Rattle.replay.proofs.Told.{Within, Told, none-fed, told-nothing, told-more, told-turns, next-stops, in-range}
+use Rattle.replay.proofs.NextAnswers.{next-cases}
 
 -- ---- the end of a replay
 
@@ -168,6 +171,75 @@ turns-stop limit small capture size turns a w rest front room =
     told-more limit small capture size (stateBy limit (freshOf limit) turns)
     (leftBy limit (freshOf limit) capture turns) (textBy limit (freshOf limit) turns) w rest room
     (told-turns limit small capture size turns (freshOf limit) capture [] (told-nothing limit capture) a) front .stops
+
+-- ---- turns-finish
+
+-- the numbers of finish's answers where nothing is out of range
+abbrev closings : List ℕ
+closings = 0 ∷ 2 ∷ 51 ∷ 52 ∷ 53 ∷ 54 ∷ []
+
+-- the numbers of next's
+abbrev Known : ℕ → Type 0
+Known n = among n (0 ∷ 1 ∷ 51 ∷ 52 ∷ 53 ∷ []) ≡ true
+
+next-known : (place : ℕ) (b : List ℕ) → TurnStops (nextOf place b .row .number) → Known (nextOf place b .row .number)
+unfolding among
+next-known place b =
+    next-cases place b (λ (y : Outcome ℕ). TurnStops (y .row .number) → Known (y .row .number))
+    (λ o s. absurd (s .never-state refl)) (λ s. absurd (s .never-used refl)) (λ s. refl) (λ s. refl) (λ s. refl)
+    (λ p s. refl) (λ z h s. refl) (λ l f h s. refl)
+
+-- those of the capture's end
+Closing : ℕ → Type 0
+Closing n = among n closings ≡ true
+
+refused-known : (n : ℕ) → Known n → n ≢ 0 → n ≢ 1 → Closing n
+unfolding among Closing
+refused-known n =
+    among-holds (λ (m : ℕ). m ≢ 0 → m ≢ 1 → Closing m) n (0 ∷ 1 ∷ 51 ∷ 52 ∷ 53 ∷ []) (
+      (λ z o. absurd (z refl)),
+      ((λ z o. absurd (o refl)), ((λ z o. refl), ((λ z o. refl), ((λ z o. refl), tt)))),
+    )
+
+end-known : (r : Row) (place : ℕ) (b : List ℕ) → Known (r .number) → Closing (endIn r place b .number)
+unfolding among Closing
+end-known r place b k =
+    by-test P (eqb (r .number) 0)
+    (λ z. by-test P (eqb (getD (r .values) 0 0) 0)
+    (λ v. by-test P (eqb place 0)
+    (λ p. by-test P (ltb (length b) 3) (λ l. refl) (λ l. refl))
+    (λ p. by-test P (eqb (length b) 0) (λ l. refl) (λ l. refl)))
+    (λ v. refl))
+    (λ z. by-test P (eqb (r .number) 1) (λ o. refl)
+    (λ o. refused-known (r .number) k (eqb-false (r .number) 0 z) (eqb-false (r .number) 1 o)))
+  where
+    P : Row → Type 0
+    P q = Closing (q .number)
+
+-- and of finish, where its text fits
+closed-known : (end : Row) (text out : List ℕ) → length text ≤ length out → Closing (end .number)
+    → Closing (closed end text out .row .number)
+unfolding Closing among
+closed-known end text out h k =
+    rw (le-ltb (length out) (length text) h)
+    (by-test P (eqb (end .number) 2) (λ t. refl) (λ t. by-test P (ltb 50 (end .number)) (λ u. k) (λ u. k)))
+  where
+    P : Row → Type 0
+    P q = Closing (q .number)
+
+pub turns-finish : TurnsFinish
+unfolding Closing
+turns-finish limit small capture size turns a w rest front out h =
+    let s : State = stateBy limit (freshOf limit) turns in
+    let left : List ℕ = leftBy limit (freshOf limit) capture turns in
+    let text : List ℕ = textBy limit (freshOf limit) turns in
+    let t : Told limit capture s left text =
+    told-turns limit small capture size turns (freshOf limit) capture [] (told-nothing limit capture) a in
+    let known : Closing (endOf (s .place) w .number) =
+    end-known (nextOf (s .place) w .row) (s .place) w
+    (next-known (s .place) w (next-stops limit small capture size s left text t w rest front)) in
+    let inside : inRangeOf limit s ≡ true = in-range limit small capture size s left text t in
+    rw inside (closed-known (endOf (s .place) w) (closingText limit s (endOf (s .place) w)) out h known)
 
 -- ---- a capture has one replay
 

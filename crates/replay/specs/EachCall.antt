@@ -1,4 +1,4 @@
--- Claims: what each call answers and leaves, and exactly when. PROTOCOL 14.4 to 14.8.
+-- Claims: what each call answers and leaves, and exactly when. PROTOCOL 14.2, 14.4 to 14.7.
 use Prim.Native.Nat.{ℕ, _+_, _≤_, _<_}
 use mathlib.Core.Path.{_≡_}
 use mathlib.Core.Logic.{_≢_, _⊎_}
@@ -11,16 +11,19 @@ use Rattle.base.specs.Outcomes.{output}
 use Rattle.base.specs.Runs.{Run, stopped}
 use Rattle.frame.specs.Wire.{frameLimit}
 use Rattle.frame.specs.Ranges.{OutOfRange as ReaderOut}
+use Rattle.frame.specs.State.{State as Reader, stateOf as readerStateOf}
+use Rattle.frame.specs.Calls.{freshOf as freshReader}
 use Rattle.listing.specs.Lines.{ascii, refusalText}
 use Rattle.capture.specs.EachCall.{OutOfRange as CursorOut}
 use Rattle.capture.specs.Reading.{nextOf, endOf}
 use Rattle.replay.specs.Lines.{replayHeading, prefixOf}
-use Rattle.replay.specs.State.{State, stateOf}
+use Rattle.replay.specs.State.{State, stateOf, freshOf, readerOf, withReader}
 use Rattle.replay.specs.Table.{stopOf, closingRowOf}
 use Rattle.replay.specs.Playing.{playOf, leftOf}
 use Rattle.replay.specs.Closing.{endLines, closeOf}
 use Rattle.replay.specs.Window.{keptOf}
 use Rattle.replay.specs.declared.closing.ClosingResult.{ClosingResult}
+use Rattle.replay.specs.declared.closing.ClosingResult.the-variants as closing
 use Rattle.replay.specs.declared.playing.Played.{Played}
 use Rattle.replay.specs.declared.state.Replay.{Replay}
 use Rattle.replay.specs.declared.steps.Stop.the-variants as stop
@@ -35,6 +38,44 @@ pub record TextsSpelled : Type 0 where
 -- ---- states-injective: the specification's state says all of the code's record
 abbrev pub StatesInjective : Type 0
 StatesInjective = (a b : Replay) → stateOf a ≡ stateOf b → a ≡ b
+
+-- ---- named-states: which field of the specification's state each field of the record is; and a fresh one
+pub record NamedStates (r : Replay) (s : State) (q : Reader) (place fed : ℕ) : Type 0 where
+  pub place-is : stateOf r .place ≡ r .cursor .place
+  pub fed-is : stateOf r .fed ≡ r .fed
+  pub from-module : stateOf r .reader0 ≡ readerStateOf (r .«from_module»)
+  pub from-box : stateOf r .reader1 ≡ readerStateOf (r .«from_box»)
+  pub fresh : freshOf frameLimit ≡ record {
+    place = 0;
+    fed = 0;
+    reader0 = freshReader frameLimit;
+    reader1 = freshReader frameLimit;
+  }
+  -- direction 0 has the first reader, direction 1 the second
+  pub reader-of-0 : readerOf 0 s ≡ s .reader0
+  pub reader-of-1 : readerOf 1 s ≡ s .reader1
+  pub with-0 : withReader 0 q place fed s ≡ record { place = place; fed = fed; reader0 = q; reader1 = s .reader1 }
+  pub with-1 : withReader 1 q place fed s ≡ record { place = place; fed = fed; reader0 = s .reader0; reader1 = q }
+
+-- of all
+abbrev pub AllNamedStates : Type 0
+AllNamedStates = (r : Replay) (s : State) (q : Reader) (place fed : ℕ) → NamedStates r s q place fed
+
+-- ---- answer-rows: the number and the values of each answer of finish: PROTOCOL 14.5
+pub record AnswerRows (count place : ℕ) : Type 0 where
+  pub more : closingRowOf closing.More ≡ row 0 (0 ∷ [])
+  pub whole : closingRowOf (closing.Whole count) ≡ row 2 (count ∷ [])
+  pub mark : closingRowOf (closing.Refused count refusal.Mark place) ≡ row 51 (count ∷ place ∷ [])
+  pub version : closingRowOf (closing.Refused count refusal.Version place) ≡ row 52 (count ∷ place ∷ [])
+  pub direction : closingRowOf (closing.Refused count refusal.Direction place) ≡ row 53 (count ∷ place ∷ [])
+  pub ended : closingRowOf (closing.Refused count refusal.Ended place) ≡ row 54 (count ∷ place ∷ [])
+  pub room : closingRowOf closing.Room ≡ row 22 (0 ∷ [])
+  pub state : closingRowOf closing.State ≡ row 17 (0 ∷ [])
+  pub used : closingRowOf closing.Used ≡ row 18 (0 ∷ [])
+
+-- of all values
+abbrev pub AllAnswerRows : Type 0
+AllAnswerRows = (count place : ℕ) → AnswerRows count place
 
 -- ---- rows-injective: two answers of finish never have the same number and values
 abbrev pub RowsInjective : Type 0

@@ -1,12 +1,16 @@
--- Claims: the capture's bytes alone decide the text, however windows and rooms cut it. PROTOCOL 14.1 to 14.6.
+-- Claims: the capture's bytes alone decide the text, however windows and rooms cut it. PROTOCOL 14.1 to 14.6, 14.9.
 use Prim.Native.Nat.{ℕ, _+_, _≤_, _<_}
 use mathlib.Core.Path.{_≡_}
 use mathlib.Core.Logic.{_≢_}
-use mathlib.Core.List.{List, _++_}
+use mathlib.Core.Bool.{true}
+use mathlib.Core.List.{List, [], _∷_, _++_}
 use lib.ListN.{length}
+use Rattle.base.specs.Keys.{among}
 use Rattle.frame.specs.Wire.{widest}
+use Rattle.capture.specs.Reading.{endOf}
 use Rattle.replay.specs.State.{State, freshOf}
 use Rattle.replay.specs.Playing.{playOf}
+use Rattle.replay.specs.Closing.{closingText, closeOf}
 use Rattle.replay.specs.Replays.{IsReplay}
 use Rattle.replay.specs.Turns.{Turn, stateBy, leftBy, AreWindows, Finishes, writtenBy}
 
@@ -44,3 +48,15 @@ TurnsStop =
     → AreWindows limit (freshOf limit) capture turns
     → (w rest : List ℕ) → leftBy limit (freshOf limit) capture turns ≡ w ++ rest → (room : ℕ)
     → TurnStops (playOf limit (stateBy limit (freshOf limit) turns) w room .stop)
+
+-- ---- turns-finish: nor is finish refused for them; and with room for its text it is not refused at all: it has
+-- something to play, or a text
+abbrev pub TurnsFinish : Type 0
+TurnsFinish =
+    (limit : ℕ) → limit ≤ widest → (capture : List ℕ) → length capture ≤ 4611686018427387904 → (turns : List Turn)
+    → AreWindows limit (freshOf limit) capture turns
+    → (w rest : List ℕ) → leftBy limit (freshOf limit) capture turns ≡ w ++ rest → (out : List ℕ)
+    → length (closingText limit (stateBy limit (freshOf limit) turns)
+    (endOf (stateBy limit (freshOf limit) turns .place) w)) ≤ length out
+    → among (closeOf limit (stateBy limit (freshOf limit) turns) w out .row .number) (0 ∷ 2 ∷ 51 ∷ 52 ∷ 53 ∷ 54 ∷ [])
+    ≡ true
