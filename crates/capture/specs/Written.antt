@@ -46,8 +46,8 @@ WrittenBack =
     (items : List Item) → Directed items
     → Reads (captureOf items) (map bytesOf items) 2 (length (captureOf items))
 
--- ---- recorder-back: what a recorder's calls put at the fronts of its buffers, joined in order, is a capture that holds
--- just its items, if no call was refused
+-- ---- recorder-back: what a recorder's calls put at the fronts of its buffers, joined in order, is the capture of its
+-- items, if no call was refused; `written-back` says what that holds
 
 -- an item, and the buffer of the call that writes it
 pub record Recorded : Type 0 where

@@ -112,8 +112,8 @@ fn feed_all(reader: Reader, prefix: &[u8], bytes: &[u8], out: &mut [u8]) -> List
 }
 
 // Feeds bytes and puts the line of each answer. Where it stops for room, the caller writes the text and calls again
-// with the bytes that are left. Room is tested before a feed, so that no answer is lost. Where the loop would not feed at
-// all, a feed with no data finds a reader that is out of range.
+// with the bytes that are left. Room is tested before a feed, so that no answer is lost. Where the loop would not feed
+// at all, a feed with no data finds a reader that is out of range.
 pub fn list(reader: Reader, prefix: &[u8], bytes: &[u8], out: &mut [u8]) -> Listed
     ensures { λ r. ⌜ leftOf r (now (out .exit)) ≡ leftBy (listOf frameLimit (now (prefix .entry)) (stateOf reader)
         (now (bytes .entry)) (length (now (out .entry)))) (now (out .entry)) ⌝ }
