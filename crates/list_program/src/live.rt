@@ -1,8 +1,9 @@
 // The bytes as they come: the lines of each read are written before the next read. PROTOCOL 10.7.
 use frame::Reader;
-use standard_io::close;
+use libc::STDIN_FILENO;
 use standard_io::give_up;
 use standard_io::write_first;
+use standard_io::write_last;
 
 // The reader after some bytes, whether to continue, and whether the listing is whole.
 struct Turn {
@@ -51,10 +52,7 @@ fn last(reader: Reader, out: &mut [u8]) -> bool {
     if count == 0 {
         return false;
     }
-    if !write_first(out, count) {
-        return false;
-    }
-    close()
+    write_last(out, count)
 }
 
 // The input's end.
@@ -88,7 +86,7 @@ pub(crate) fn list(input: &mut [u8], out: &mut [u8]) -> bool {
     if !heading(out) {
         return false;
     }
-    let is_terminal = standard_io::is_terminal();
+    let is_terminal = libc::isatty(STDIN_FILENO) == 1;
     let mut reader = Reader::new();
     let mut turns = u64::MAX;
     while turns > 0 {

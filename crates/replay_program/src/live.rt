@@ -1,11 +1,12 @@
 // The capture as it comes: the lines of the records that a read completes are written before the next read.
-// PROTOCOL 14.7.
+// PROTOCOL 14.8.
+use libc::STDIN_FILENO;
 use replay::ClosingResult;
 use replay::Replay;
 use replay::Stop;
-use standard_io::close;
 use standard_io::give_up;
 use standard_io::write_first;
+use standard_io::write_last;
 
 // How a run ended: with both end lines, with the line of a refusal, or with neither.
 pub(crate) enum Ending {
@@ -100,11 +101,8 @@ fn heading(out: &mut [u8]) -> bool {
 }
 
 // The last text, after which nothing is written.
-fn write_last(out: &[u8], count: usize, ending: Ending) -> Ending {
-    if !write_first(out, count) {
-        return Ending::Broken;
-    }
-    if !close() {
+fn end_with(out: &[u8], count: usize, ending: Ending) -> Ending {
+    if !write_last(out, count) {
         return Ending::Broken;
     }
     ending
@@ -119,12 +117,12 @@ fn broken() -> Ending {
 fn finish(replay: Replay, bytes: &[u8], out: &mut [u8]) -> Ending {
     let closing = replay::finish(replay, bytes, out);
     match closing {
-        ClosingResult::Whole { count } => write_last(out, count, Ending::Whole),
+        ClosingResult::Whole { count } => end_with(out, count, Ending::Whole),
         ClosingResult::Refused {
             count,
             refusal: _,
             place: _,
-        } => write_last(out, count, Ending::Refused),
+        } => end_with(out, count, Ending::Refused),
         ClosingResult::More => broken(),
         ClosingResult::Room => broken(),
         ClosingResult::State => broken(),
@@ -189,7 +187,7 @@ fn reads_on(next: Next) -> bool {
 // Turn after turn, until one is the last. A proved loop must end, and nothing says that the input does: so the turns
 // are counted down from a number that no run uses up.
 fn read_all(window: &mut [u8], out: &mut [u8]) -> Turn {
-    let is_terminal = standard_io::is_terminal();
+    let is_terminal = libc::isatty(STDIN_FILENO) == 1;
     let mut state = Replay::new();
     let mut held = 0;
     let mut turns = u64::MAX;

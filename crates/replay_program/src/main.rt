@@ -2,6 +2,7 @@
 // PROTOCOL 14.
 mod live;
 
+use libc::STDERR_FILENO;
 use live::Ending;
 ghost use mathlib.Core.Path.{_≡_};
 ghost use lib.ListN.{length};
@@ -13,14 +14,21 @@ fn window() -> [u8; 131072]
     [0; 131072]
 }
 
-// A whole replay is marked, and a refused one.
+// A program of Rattle cannot choose its exit status. So with an argument, whatever it is, the program marks on standard
+// error how it ended: a run that ends without a mark ended early.
+fn mark(line: &[u8]) {
+    if os::arg_count() > 1 {
+        io::write_all(STDERR_FILENO, line);
+    }
+}
+
 fn main() {
     let mut window = window();
     let mut out = io::large_buffer();
     let ending = live::play(&mut window, &mut out);
     match ending {
-        Ending::Whole => standard_io::mark(b"whole\n"),
-        Ending::Refused => standard_io::mark(b"refused\n"),
+        Ending::Whole => mark(b"whole\n"),
+        Ending::Refused => mark(b"refused\n"),
         Ending::Broken => {}
     }
 }

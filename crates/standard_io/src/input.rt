@@ -13,11 +13,6 @@ pub struct ReadResult {
     pub keep_going: bool,
 }
 
-// Whether the input is a terminal. One that is hung up is none any more, so this is asked before the first read.
-pub fn is_terminal() -> bool {
-    libc::isatty(STDIN_FILENO) == 1
-}
-
 // Whether a read that failed is the end. A terminal that is hung up fails with EIO: PROTOCOL 10.7.
 fn is_hung_up(is_terminal: bool) -> bool {
     if is_terminal {
@@ -26,7 +21,7 @@ fn is_hung_up(is_terminal: bool) -> bool {
     false
 }
 
-// One read.
+// One read. Whether the input is a terminal is asked before the first one: a terminal that is hung up is none any more.
 pub fn read(is_terminal: bool, buffer: &mut [u8]) -> ReadResult
     ensures { λ r. ⌜ r .count ≤ length (now (buffer .exit)) ⌝ }
 {

@@ -4,9 +4,7 @@ mod output;
 mod reports;
 
 pub use input::ReadResult;
-pub use input::is_terminal;
 pub use input::read;
-pub use output::close;
 pub use output::write_first;
+pub use output::write_last;
 pub use reports::give_up;
-pub use reports::mark;

@@ -2,7 +2,9 @@
 use super::reports::may_repeat;
 use super::reports::stuck;
 use libc::STDOUT_FILENO;
-ghost use Prim.Native.Nat.{_≤_};
+ghost use mathlib.Core.Bool.{false};
+ghost use mathlib.Core.Path.{_≡_};
+ghost use Prim.Native.Nat.{_≤_, _<_};
 ghost use lib.ListN.{length};
 
 // How many bytes a call wrote, and whether to continue.
@@ -52,8 +54,10 @@ fn write_whole(bytes: &[u8]) -> bool {
     false
 }
 
-// The first bytes of a buffer.
-pub fn write_first(out: &[u8], count: usize) -> bool {
+// Whether the first bytes of a buffer were written. A count beyond the buffer writes nothing.
+pub fn write_first(out: &[u8], count: usize) -> bool
+    ensures { λ r. ⌜ (length (now (out .entry)) < count → r ≡ false) ⌝ }
+{
     if out.len() < count {
         return false;
     }
@@ -61,10 +65,20 @@ pub fn write_first(out: &[u8], count: usize) -> bool {
 }
 
 // Some file systems report a failed write only here.
-pub fn close() -> bool {
+fn close() -> bool {
     if libc::close(STDOUT_FILENO) == 0 {
         return true;
     }
     os::fail(b"standard output");
+    false
+}
+
+// The same for the last bytes of all, after which standard output is closed.
+pub fn write_last(out: &[u8], count: usize) -> bool
+    ensures { λ r. ⌜ (length (now (out .entry)) < count → r ≡ false) ⌝ }
+{
+    if write_first(out, count) {
+        return close();
+    }
     false
 }

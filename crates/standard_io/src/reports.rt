@@ -1,7 +1,9 @@
-// What a program says on standard error: one line where it cannot go on, or its mark.
+// What a program says on standard error: one line where it cannot go on.
 use libc::EAGAIN;
 use libc::EINTR;
 use libc::STDERR_FILENO;
+ghost use mathlib.Core.Bool.{false};
+ghost use mathlib.Core.Path.{_≡_};
 
 // Whether to make a call again that failed; if not, one line says what failed. The kit has no call that waits until a
 // descriptor is ready, so a call that would have to wait is made again and again, after other processes had their turn.
@@ -26,15 +28,9 @@ pub(crate) fn stuck() -> bool {
 
 // A call of a library that uses no byte would be made again for ever; this happens only where more than 2^62 bytes come
 // in all.
-pub fn give_up() -> bool {
+pub fn give_up() -> bool
+    ensures { λ r. ⌜ r ≡ false ⌝ }
+{
     io::write_all(STDERR_FILENO, b"standard input: too many bytes\n");
     false
-}
-
-// A program of Rattle cannot choose its exit status. So with an argument, whatever it is, a program marks how it ended:
-// a run that ends without a mark ended early.
-pub fn mark(line: &[u8]) {
-    if os::arg_count() > 1 {
-        io::write_all(STDERR_FILENO, line);
-    }
 }
