@@ -7,7 +7,7 @@ use Rattle.base.specs.Rows.{Row, row}
 use Rattle.base.specs.Outcomes.{outcome}
 use Rattle.capture.specs.Format.{recordBytes}
 use Rattle.capture.specs.Reading.{nextOf, endOf}
-use Rattle.capture.specs.Windows.{recordsBy, placeBy}
+use Rattle.capture.specs.Windows.{recordsBy, placeBy, leftBy, AreWindows, Closes}
 
 -- ---- worked-refusals: each refusal, with its place, at the end and as soon as a byte decides it
 pub record WorkedRefusals : Type 0 where
@@ -57,3 +57,25 @@ pub record WorkedCapture : Type 0 where
   pub place : placeBy 0 (workedHead ∷ [] ∷ (boxRecord ++ 0x00 ∷ []) ∷ (0x00 ∷ []) ∷ emptyRecord ∷ [] ∷ []) ≡ 21
   pub end : endOf 21 [] ≡ row 2 (21 ∷ [])
   pub written : recordBytes 1 16909060 (0xAA ∷ 0xBB ∷ []) ≡ boxRecord
+
+-- ---- worked-windows: windows on the worked capture, which are fronts of what is left; what they leave, and what closes
+-- it. A byte that comes again, one that is left out, and an early end are refused
+
+-- the worked capture
+abbrev pub workedBytes : List ℕ
+workedBytes = workedHead ++ (boxRecord ++ emptyRecord)
+
+-- the head; a record and a byte more; that byte again, alone; the rest
+abbrev pub workedWindows : List (List ℕ)
+workedWindows = (workedHead ++ 0x01 ∷ []) ∷ (boxRecord ++ 0x00 ∷ []) ∷ (0x00 ∷ []) ∷ emptyRecord ∷ []
+
+-- right windows, and wrong ones
+pub record WorkedWindows : Type 0 where
+  pub are : AreWindows 0 workedBytes workedWindows
+  pub left : leftBy 0 workedBytes workedWindows ≡ []
+  pub taken : recordsBy 0 workedWindows ≡ boxRecord ∷ emptyRecord ∷ []
+  pub closes : Closes 21 [] []
+  pub closes-refused : Closes 5 (0x02 ∷ 0x00 ∷ []) (0x02 ∷ [])
+  pub not-early : Closes 5 boxRecord (0x01 ∷ []) → ⊥
+  pub not-again : AreWindows 0 workedBytes (workedHead ∷ workedHead ∷ []) → ⊥
+  pub not-left-out : AreWindows 0 workedBytes (workedHead ∷ (0x01 ∷ 0x02 ∷ []) ∷ []) → ⊥

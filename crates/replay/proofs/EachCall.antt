@@ -27,6 +27,7 @@ use Rattle.replay.specs.Table.{closingRowOf}
 use Rattle.replay.specs.EachCall.{TextsSpelled, StatesInjective, RowsInjective, StopNumbers, LeftFieldsAlways}
 use Rattle.replay.specs.EachCall.{ReplayRanges, PlayStops, PlayStopsAlways}
 use Rattle.replay.specs.EachCall.{ClosesExactlyAlways, KeepsExactlyAlways, AllNamedStates, AllAnswerRows}
+use Rattle.replay.specs.EachCall.{ClosingWhole}
 use Rattle.replay.specs.declared.closing.ClosingResult.{ClosingResult}
 use Rattle.replay.specs.declared.closing.ClosingResult.the-variants as closing
 use Rattle.replay.specs.declared.state.Replay.{Replay}
@@ -227,3 +228,8 @@ keeps-exactly start end b =
       each = λ i h g. getD-drop start (take end b) i 0 ∙ getD-take end b (start + i) 0 h;
       beyond = λ h. rw (take-all end b h);
     }
+
+-- ---- closing-whole
+
+pub closing-whole : ClosingWhole
+closing-whole r after w e = (ap (λ (o : Output). o .row) e, ap (λ (o : Output). o .out) e)

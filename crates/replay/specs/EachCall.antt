@@ -7,7 +7,7 @@ use mathlib.Core.List.{List, [], _∷_, _++_}
 use lib.ListN.{length, getD, drop}
 use Rattle.base.specs.Keys.{among}
 use Rattle.base.specs.Rows.{row}
-use Rattle.base.specs.Outcomes.{output}
+use Rattle.base.specs.Outcomes.{Output, output}
 use Rattle.base.specs.Runs.{Run, stopped}
 use Rattle.frame.specs.Wire.{frameLimit}
 use Rattle.frame.specs.Ranges.{OutOfRange as ReaderOut}
@@ -20,7 +20,7 @@ use Rattle.replay.specs.Lines.{replayHeading, prefixOf}
 use Rattle.replay.specs.State.{State, stateOf, freshOf, readerOf, withReader}
 use Rattle.replay.specs.Table.{stopOf, closingRowOf}
 use Rattle.replay.specs.Playing.{playOf, leftOf}
-use Rattle.replay.specs.Closing.{endLines, closeOf}
+use Rattle.replay.specs.Closing.{endLines, closeOf, Closes}
 use Rattle.replay.specs.Window.{keptOf}
 use Rattle.replay.specs.declared.closing.ClosingResult.{ClosingResult}
 use Rattle.replay.specs.declared.closing.ClosingResult.the-variants as closing
@@ -159,6 +159,12 @@ pub record ClosesExactly (s : State) (b out : List ℕ) : Type 0 where
 -- of every replay in range
 abbrev pub ClosesExactlyAlways : Type 0
 ClosesExactlyAlways = (s : State) (b out : List ℕ) → (OutOfRange s → ⊥) → ClosesExactly s b out
+
+-- ---- closing-whole: what the contract of `finish` fixes: the answer's row, and the whole buffer
+abbrev pub ClosingWhole : Type 0
+ClosingWhole =
+    (r : ClosingResult) (after : List ℕ) (w : Output) → Closes r after w
+    → (closingRowOf r ≡ w .row) × (after ≡ w .out)
 
 -- ---- keeps-exactly: the bytes kept, one by one: PROTOCOL 14.7
 pub record KeepsExactly (start end : ℕ) (b : List ℕ) : Type 0 where
