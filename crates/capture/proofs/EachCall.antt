@@ -1,7 +1,7 @@
 -- What each call answers, and exactly when. Assumes nothing.
 use Prim.Native.Nat.{ℕ, zero, suc, _+_, _^_, _≤_, _<_}
 use mathlib.Core.Path.{_≡_, refl, sym, ap, _∙_}
-use mathlib.Core.Logic.{_≢_}
+use mathlib.Core.Logic.{_≢_, inl, inr}
 use mathlib.Core.List.{List, [], _∷_, _++_}
 use native.Mathlib.Omega.{arith}
 use borrow.Author.Tests.{lt-ltb, le-ltb, lt-leb, ne-eqb, eq-eqb}
@@ -11,13 +11,13 @@ use Rattle.base.specs.Rows.{Row, row}
 use Rattle.base.specs.Outcomes.{Outcome, outcome}
 use Rattle.base.proofs.Tests.{either-way}
 use Rattle.base.proofs.Rows.{injective-by, under, value}
-use Rattle.capture.specs.Format.{mark, head, directionOf, millisecondsOf, IsRecord, recordBytes}
+use Rattle.capture.specs.Format.{mark, head, directionOf, millisecondsOf, sizeOf, IsRecord, recordBytes}
 use Rattle.capture.specs.Captures.{Begins}
 use Rattle.capture.specs.Reading.{nextOf, endIn, endOf}
 use Rattle.capture.specs.Windows.{countOf}
 use Rattle.capture.specs.Table.{nextRowOf, endRowOf}
 use Rattle.capture.specs.EachCall.{RowsInjective, OutOfRange, CursorRanges, CountsWithin, EachNextAlways}
-use Rattle.capture.specs.EachCall.{EachFinishAlways, MoreLater, WritesExactly, AllAnswerRows, WindowEnough}
+use Rattle.capture.specs.EachCall.{EachFinishAlways, MoreLater, WritesExactly, AllAnswerRows, WindowEnough, CursorKept}
 use Rattle.capture.specs.declared.reading.EndResult.{EndResult}
 use Rattle.capture.specs.declared.reading.EndResult.the-variants as end
 use Rattle.capture.specs.declared.reading.NextResult.{NextResult}
@@ -250,16 +250,14 @@ answer-rows count place t =
       more = refl;
       module-record = λ time. refl;
       box-record = λ time. refl;
-      mark = refl;
-      ended = refl;
+      refused = λ r. refl;
       state = refl;
       used = refl;
       taken-row = refl;
       taken-place = refl;
       end-more = refl;
       end-whole = refl;
-      end-version = refl;
-      end-direction = refl;
+      end-refused = λ r. refl;
       end-state = refl;
       end-used = refl;
     }
@@ -272,3 +270,23 @@ window-enough place b low fits bytes enough =
     (λ h e. omega (arith, ap (λ (r : Row). r .number) e))
     (λ h k e. omega (arith, bytes 5, bytes 6))
     (λ h k e. omega (arith, ap (λ (r : Row). r .number) e))
+
+-- ---- cursor-kept
+
+pub cursor-kept : CursorKept
+cursor-kept place b k =
+    next-cases b P place (λ o. absurd (k o)) (λ o h. k)
+    (λ z h. head-cases b P (λ d. low 0 (omega arith)) (λ m d. low 0 (omega arith)) (λ m l. low 0 (omega arith))
+    (λ m l. high 5 (omega arith) (omega arith)))
+    (λ l h. record-cases b P place (λ d. k) (λ d f. k) (λ d f. high (place + sizeOf b) (omega arith) (omega arith)))
+  where
+    P : Outcome ℕ → Type 0
+    P y = OutOfRange (y .state) → ⊥
+
+    low : (n : ℕ) → n ≡ 0 → OutOfRange n → ⊥
+    low n z (inl h) = omega arith
+    low n z (inr h) = omega arith
+
+    high : (n : ℕ) → 5 ≤ n → n ≤ 2 ^ 62 → OutOfRange n → ⊥
+    high n f g (inl h) = omega arith
+    high n f g (inr h) = omega arith

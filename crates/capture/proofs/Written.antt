@@ -14,6 +14,7 @@ use Rattle.base.proofs.Numbers.{two-back}
 use Rattle.capture.specs.Captures.{AllRecords, whole, with-head}
 use Rattle.capture.specs.Written.{Item, bytesOf, Directed, FieldsBackAlways, WrittenBack}
 use Rattle.capture.specs.Written.{Recorded, recordCall, putBy, AllWritten, recordedBytes, itemsOf, RecorderBack}
+use Rattle.capture.specs.Written.{RecorderRead}
 
 pub fields-back : FieldsBackAlways
 fields-back i =
@@ -59,3 +60,6 @@ pub recorder-back : RecorderBack
 recorder-back out rs h a =
     ap (λ (l : List ℕ). l ++ recordedBytes rs) (put-placed head out h)
     ∙ ap (λ (l : List ℕ). head ++ l) (recorded rs a)
+
+pub recorder-read : RecorderRead
+recorder-read out rs h a d = rw (recorder-back out rs h a) (written-back (itemsOf rs) d)

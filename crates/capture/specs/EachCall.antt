@@ -8,7 +8,7 @@ use Rattle.base.specs.Rows.{row}
 use Rattle.base.specs.Outcomes.{outcome, output}
 use Rattle.capture.specs.Format.{head, directionOf, millisecondsOf, sizeOf, IsRecord, recordBytes}
 use Rattle.capture.specs.Format.{headWriteOf, recordWriteOf}
-use Rattle.capture.specs.Table.{nextRowOf, takenOf, endRowOf}
+use Rattle.capture.specs.Table.{refusalNumber, nextRowOf, takenOf, endRowOf}
 use Rattle.capture.specs.Captures.{Begins}
 use Rattle.capture.specs.Reading.{nextOf, endOf}
 use Rattle.capture.specs.Windows.{countOf}
@@ -16,7 +16,7 @@ use Rattle.capture.specs.declared.reading.EndResult.{EndResult}
 use Rattle.capture.specs.declared.reading.EndResult.the-variants as end
 use Rattle.capture.specs.declared.reading.NextResult.{NextResult}
 use Rattle.capture.specs.declared.reading.NextResult.the-variants as next
-use Rattle.capture.specs.declared.reading.Refusal.the-variants as refusal
+use Rattle.capture.specs.declared.reading.Refusal.{Refusal}
 use Rattle.capture.specs.declared.reading.Taken.{Taken}
 use Rattle.capture.specs.declared.record.Direction.the-variants as direction
 
@@ -31,16 +31,15 @@ pub record AnswerRows (count place : ℕ) (t : Taken) : Type 0 where
   pub module-record : (time : ℕ)
       → nextRowOf (next.Record count direction.FromModule time) ≡ row 1 (count ∷ 0 ∷ time ∷ [])
   pub box-record : (time : ℕ) → nextRowOf (next.Record count direction.FromBox time) ≡ row 1 (count ∷ 1 ∷ time ∷ [])
-  pub mark : nextRowOf (next.Refused refusal.Mark place) ≡ row 51 (place ∷ [])
-  pub ended : nextRowOf (next.Refused refusal.Ended place) ≡ row 54 (place ∷ [])
+  -- `numbers` has the numbers of refusals
+  pub refused : (r : Refusal) → nextRowOf (next.Refused r place) ≡ row (refusalNumber r) (place ∷ [])
   pub state : nextRowOf next.State ≡ row 17 (0 ∷ [])
   pub used : nextRowOf next.Used ≡ row 18 (0 ∷ [])
   pub taken-row : takenOf t .row ≡ nextRowOf (t .answer)
   pub taken-place : takenOf t .state ≡ t .cursor .place
   pub end-more : endRowOf end.More ≡ row 0 (0 ∷ [])
   pub end-whole : endRowOf (end.Whole place) ≡ row 2 (place ∷ [])
-  pub end-version : endRowOf (end.Refused refusal.Version place) ≡ row 52 (place ∷ [])
-  pub end-direction : endRowOf (end.Refused refusal.Direction place) ≡ row 53 (place ∷ [])
+  pub end-refused : (r : Refusal) → endRowOf (end.Refused r place) ≡ row (refusalNumber r) (place ∷ [])
   pub end-state : endRowOf end.State ≡ row 17 (0 ∷ [])
   pub end-used : endRowOf end.Used ≡ row 18 (0 ∷ [])
 
@@ -155,6 +154,10 @@ abbrev pub WindowEnough : Type 0
 WindowEnough =
     (place : ℕ) (b : List ℕ) → 5 ≤ place → place + length b ≤ 4611686018427387904
     → ((i : ℕ) → getD b i 0 < 256) → 65542 ≤ length b → nextOf place b .row ≡ row 0 (0 ∷ []) → ⊥
+
+-- ---- cursor-kept: no call moves a cursor out of range
+abbrev pub CursorKept : Type 0
+CursorKept = (place : ℕ) (b : List ℕ) → (OutOfRange place → ⊥) → OutOfRange (nextOf place b .state) → ⊥
 
 -- ---- write-exactly: what the writing calls answer, and the buffer after them; PAYLOAD comes before ROOM:
 -- PROTOCOL 13.11, 13.12

@@ -25,8 +25,8 @@ refusalNumber refusal.Version = 52
 refusalNumber refusal.Direction = 53
 refusalNumber refusal.Ended = 54
 
--- the answers to `next`: the count taken under 0, or a record's count, direction and milliseconds under 1, which here
--- are not MORE and FRAME; a refusal has its place
+-- the answers to `next`: MORE with the count taken, or a record's count, direction and milliseconds under 1, which here
+-- is not FRAME; a refusal has its place
 abbrev pub nextRowOf : NextResult → Row
 nextRowOf (next.More count) = row 0 (count ∷ [])
 nextRowOf (next.Record count d milliseconds) = row 1 (count ∷ directionNumber d ∷ milliseconds ∷ [])

@@ -82,3 +82,10 @@ abbrev pub RecorderBack : Type 0
 RecorderBack =
     (out : List ℕ) (rs : List Recorded) → headWriteOf out .row .number ≡ 0 → AllWritten rs
     → putBy (headWriteOf out) ++ recordedBytes rs ≡ captureOf (itemsOf rs)
+
+-- ---- recorder-read: so it is read back: it holds the records of the items, in their order, and has no refusal
+abbrev pub RecorderRead : Type 0
+RecorderRead =
+    (out : List ℕ) (rs : List Recorded) → headWriteOf out .row .number ≡ 0 → AllWritten rs → Directed (itemsOf rs)
+    → Reads (putBy (headWriteOf out) ++ recordedBytes rs) (map bytesOf (itemsOf rs)) 2
+    (length (putBy (headWriteOf out) ++ recordedBytes rs))

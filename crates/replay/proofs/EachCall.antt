@@ -17,14 +17,14 @@ use Rattle.base.proofs.Tests.{by-test}
 use Rattle.frame.specs.Wire.{frameLimit}
 use Rattle.frame.specs.declared.reader.Reader.{Reader as CodeReader}
 use Rattle.frame.proofs.Injective.{states-injective as readers-injective}
-use Rattle.listing.specs.Lines.{columnsOf, refusalText}
+use Rattle.listing.specs.Lines.{refusalText}
 use Rattle.capture.specs.Reading.{endIn, endOf, inRangeOf as cursorInRange}
 use Rattle.capture.specs.declared.reading.Refusal.{Refusal}
 use Rattle.capture.specs.declared.reading.Refusal.the-variants as refusal
 use Rattle.replay.specs.Closing.{endLines, closingText, closingRow}
 use Rattle.replay.specs.State.{State, inRangeOf}
 use Rattle.replay.specs.Table.{closingRowOf}
-use Rattle.replay.specs.EachCall.{TextsSpelled, StatesInjective, RowsInjective, StopNumbers, LeftFieldsAlways}
+use Rattle.replay.specs.EachCall.{StatesInjective, RowsInjective, StopNumbers, LeftFieldsAlways}
 use Rattle.replay.specs.EachCall.{ReplayRanges, PlayStops, PlayStopsAlways}
 use Rattle.replay.specs.EachCall.{ClosesExactlyAlways, KeepsExactlyAlways, AllNamedStates, AllAnswerRows}
 use Rattle.replay.specs.EachCall.{ClosingWhole}
@@ -34,10 +34,6 @@ use Rattle.replay.specs.declared.state.Replay.{Replay}
 use Rattle.replay.proofs.NextAnswers.{next-cases, replay-outside, replay-inside, each-inside}
 use Rattle.replay.proofs.StopLaws.{loop-stops}
 use Rattle.replay.proofs.RangeLaws.{loop-goes}
-
-pub texts-spelled : TextsSpelled
-unfolding columnsOf
-texts-spelled = record { heading = refl; from-module = refl; from-box = refl }
 
 pub named-states : AllNamedStates
 named-states r s q place fed =

@@ -13,6 +13,7 @@ pub mod RangeLaws
 pub mod EachCall
 -- turns
 pub mod LineLaws
+pub mod TextsSpelled
 pub mod WindowLaws
 pub mod Sides
 pub mod Told

@@ -1,4 +1,4 @@
--- Claims: what each call answers and leaves, and exactly when. PROTOCOL 14.2, 14.4 to 14.7.
+-- Claims: what each call answers and leaves, and exactly when. PROTOCOL 14.4 to 14.7.
 use Prim.Native.Nat.{ℕ, _+_, _≤_, _<_}
 use mathlib.Core.Path.{_≡_}
 use mathlib.Core.Logic.{_≢_, _⊎_}
@@ -13,10 +13,9 @@ use Rattle.frame.specs.Wire.{frameLimit}
 use Rattle.frame.specs.Ranges.{OutOfRange as ReaderOut}
 use Rattle.frame.specs.State.{State as Reader, stateOf as readerStateOf}
 use Rattle.frame.specs.Calls.{freshOf as freshReader}
-use Rattle.listing.specs.Lines.{ascii, refusalText}
+use Rattle.listing.specs.Lines.{refusalText}
 use Rattle.capture.specs.EachCall.{OutOfRange as CursorOut}
 use Rattle.capture.specs.Reading.{nextOf, endOf}
-use Rattle.replay.specs.Lines.{replayHeading, prefixOf}
 use Rattle.replay.specs.State.{State, stateOf, freshOf, readerOf, withReader}
 use Rattle.replay.specs.Table.{stopOf, closingRowOf}
 use Rattle.replay.specs.Playing.{playOf, leftOf}
@@ -28,12 +27,6 @@ use Rattle.replay.specs.declared.playing.Played.{Played}
 use Rattle.replay.specs.declared.state.Replay.{Replay}
 use Rattle.replay.specs.declared.steps.Stop.the-variants as stop
 use Rattle.capture.specs.declared.reading.Refusal.the-variants as refusal
-
--- ---- texts-spelled: the heading, and what stands before a line's word: PROTOCOL 14.2
-pub record TextsSpelled : Type 0 where
-  pub heading : replayHeading ≡ ascii "dir kind start end cmd sn flags payload\n"
-  pub from-module : prefixOf 0 ≡ ascii "0 "
-  pub from-box : prefixOf 1 ≡ ascii "1 "
 
 -- ---- states-injective: the specification's state says all of the code's record
 abbrev pub StatesInjective : Type 0

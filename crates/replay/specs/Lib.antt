@@ -11,6 +11,7 @@ pub mod Playing
 pub mod Closing
 pub mod Window
 -- Claims: what is proved
+pub mod TextsSpelled
 pub mod TurnReplays
 pub mod Directions
 pub mod EachCall

@@ -1,4 +1,4 @@
--- Statement: the heading, the lines and the end of a replay's text. PROTOCOL 14.2, 14.3, 14.5.
+-- Statement: the heading and the lines of a replay's text. PROTOCOL 14.2.
 use Prim.Native.Nat.{ℕ}
 use mathlib.Core.Bool.{cond}
 use mathlib.Core.List.{List, [], _∷_, _++_}

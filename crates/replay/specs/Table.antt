@@ -1,4 +1,4 @@
--- Statement: the number and the values of each answer. PROTOCOL 14.4 to 14.8.
+-- Statement: the number and the values of each answer. PROTOCOL 14.4, 14.5.
 use Prim.Native.Nat.{ℕ}
 use mathlib.Core.List.{[], _∷_}
 use Rattle.base.specs.Rows.{Row, row}
