@@ -1,6 +1,7 @@
 """The driver's records: operation in 1 byte, size of its data in 2, the data. docs/TEST_DRIVER.md has them."""
 
 FRESH, FEED, FINISH, SET, WRITE, STREAM, WRITE_MESSAGE, REPLY, NAMES = range(9)
+WRITE_HEAD, WRITE_RECORD, NEXT, FINISH_CAPTURE = range(9, 13)  # of a capture
 LINK = 128  # and above: the link's operations
 MAX_DATA = 4096  # bytes of a record's data
 

@@ -10,6 +10,7 @@ import pathlib
 import sys
 
 sys.path.insert(1, str(pathlib.Path(__file__).resolve().parents[1] / "lib"))
+import check_captures
 import check_comparison
 import check_device
 import check_examples
@@ -34,6 +35,7 @@ def main():
     check_streams.check_model(checks, seed, 8 * count)
     check_messages.check_model(checks)
     check_link.check_model(checks)
+    check_captures.check_model(checks, seed, count)
     check_replay.check_model(checks, seed, 2 * count)
     check_sample.check(checks)
     check_stored.check_files(checks, (stdin, stdout))
@@ -43,6 +45,7 @@ def main():
         check_streams.check_program(checks, program, seed, 8 * count)
         check_messages.check_program(checks, program, seed, count)
         check_link.check_program(checks, program, seed, count)
+        check_captures.check_program(checks, program, seed, count)
         check_device.check_program(checks, program, seed)
         check_stored.check_program(checks, program)
     with checks.unless_dead():

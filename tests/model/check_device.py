@@ -1,6 +1,7 @@
 """The driver as a device drives it: the lines of a record are there before the next record is sent."""
 import random
 
+import stated_calls
 from device import drive
 from driver import FRESH_LINK, stream_pieces
 from random_link import Script, any_state, near_the_wrap
@@ -21,7 +22,7 @@ def message_steps():
     for _, data, *lines in STATED:
         yield record(FRESH), ["fresh"]
         yield record(STREAM, bytes.fromhex(data)), lines
-    for _, step, _ in steps():
+    for _, step, _ in [*steps(), *stated_calls.steps()]:
         yield step
     yield NAMED
 

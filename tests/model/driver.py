@@ -2,11 +2,13 @@
 
 A step is a record and its lines; a script is a list of steps.
 """
+import capture
 from answers import DONE, FRAME, PAYLOAD, ROOM, SUM
 from link import Link, elapsed, is_due
 from message import INFORMATION_SIZES, QUERY, parts_of, read_message, write_message
 from reader import Reader, decided
-from records import FEED, FINISH, FRESH, LINK, MAX_DATA, REPLY, SET, STREAM, WRITE, WRITE_MESSAGE, record
+from records import FEED, FINISH, FINISH_CAPTURE, FRESH, LINK, MAX_DATA, NEXT, REPLY, SET, STREAM, WRITE, WRITE_HEAD
+from records import WRITE_MESSAGE, WRITE_RECORD, record
 from reply import NOTHING, REJECTION, WANTED, cause_of, reply_to
 from wire import MAX_WIRE, in_bytes, number_of, write_frame
 
@@ -146,6 +148,41 @@ def reply_step(command, number, payload, room):
     answer, values = read_message(command, payload)
     line = reply_line(answer, values, command, number, empty_output(REPLY_ROOM), room)
     return record(REPLY, in_bytes(2, room) + bytes([command, number]) + payload), [line]
+
+
+# Calls of captures. A payload or a window may be longer than a record's data: then its last zeros are not given.
+
+MAX_ROOM = 65544  # also the most bytes of a payload or of a window
+GIVEN = 4000  # bytes
+
+
+def sized(data):
+    given = data if len(data) <= GIVEN else data.rstrip(b"\0")
+    assert len(data) <= MAX_ROOM and len(given) <= GIVEN, "no record gives these bytes"
+    return in_bytes(4, len(data)) + given
+
+
+def head_step(room):
+    output = empty_output(room)
+    written = capture.write_head(output)
+    return record(WRITE_HEAD, in_bytes(4, room)), [words("write", *written) + in_hex(output)]
+
+
+def record_step(direction, milliseconds, payload, room):
+    output = empty_output(room)
+    written = capture.write_record(direction, milliseconds, payload, output)
+    data = in_bytes(4, room) + bytes([direction]) + in_bytes(4, milliseconds) + sized(payload)
+    return record(WRITE_RECORD, data), [words("write", *written) + in_hex(output)]
+
+
+def next_step(place, window):
+    answer, after = capture.next_of(place, window)
+    line = words("next", *answer, after) + in_hex(capture.payload_of(window))
+    return record(NEXT, in_bytes(8, place) + sized(window)), [line]
+
+
+def finish_step(place, window):
+    return record(FINISH_CAPTURE, in_bytes(8, place) + sized(window)), [words("finish", *capture.finish(place, window))]
 
 
 # The link. The data of a record is four bytes and the clock.

@@ -10,6 +10,7 @@ import pathlib
 import sys
 
 sys.path.insert(1, str(pathlib.Path(__file__).resolve().parents[1] / "lib"))
+import stated_calls
 import stated_examples
 import stated_link
 import stated_messages
@@ -32,6 +33,7 @@ def steps():
         if is_whole(b"".join(record for record, _ in script)):
             yield stated_link.FRESH_STEP
             yield from script
+    yield from (step for _, step, _ in stated_calls.steps())
 
 
 def script():

@@ -103,14 +103,19 @@ pub(crate) fn finish(reader: Reader) -> ReaderAfter {
     }
 }
 
+// A number in eight bytes of a record.
+pub(crate) fn eight_at(data: &[u8], at: usize) -> u64 {
+    let high = base::four_at(data, at) as u64;
+    let low = base::four_at(base::part(data, at, 8), 4) as u64;
+    high * 4294967296 + low
+}
+
 // A fresh reader, but for the bytes consumed so far.
 pub(crate) fn having_consumed(data: &[u8]) -> Reader {
-    let high = base::four_at(data, 0) as u64;
-    let low = base::four_at(data, 4) as u64;
     Reader {
         scan: Scan {
             phase: Phase::Idle,
-            consumed: WirePlace(high * 4294967296 + low),
+            consumed: WirePlace(eight_at(data, 0)),
             start: WirePlace(0),
             filled: BodyPlace(0),
             length: 0,
@@ -126,6 +131,15 @@ pub(crate) fn front(out: &mut [u8], room: usize) -> &mut [u8] {
     &mut out[..size]
 }
 
+// The row of a writing call and its buffer.
+pub(crate) fn wrote(w: WriteResult, shown: &[u8]) -> bool {
+    match w {
+        WriteResult::Wrote { count } => text::line_with(b"write 0", &[count as u64], shown),
+        WriteResult::Payload => text::line_with(b"write 21 0", &[], shown),
+        WriteResult::Room => text::line_with(b"write 22 0", &[], shown),
+    }
+}
+
 // The data is command, number, flags, room and the payload; a room above 2,100 counts as that.
 pub(crate) fn write(data: &[u8]) -> bool {
     let room = base::two_at(data, 4) as usize;
@@ -137,10 +151,5 @@ pub(crate) fn write(data: &[u8]) -> bool {
         base::part(data, 6, data.len()),
         front(&mut out, room),
     );
-    let shown = base::part(&out, 0, room);
-    match w {
-        WriteResult::Wrote { count } => text::line_with(b"write 0", &[count as u64], shown),
-        WriteResult::Payload => text::line_with(b"write 21 0", &[], shown),
-        WriteResult::Room => text::line_with(b"write 22 0", &[], shown),
-    }
+    wrote(w, base::part(&out, 0, room))
 }

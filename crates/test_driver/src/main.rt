@@ -1,4 +1,6 @@
-// A driver for tests: plays standard input, record by record, on one reader, one link, the writer and the messages.
+// A driver for tests: plays standard input, record by record, on one reader, one link, the writers, the messages and
+// captures.
+mod capture_records;
 mod frame_records;
 mod in_place;
 mod link_records;

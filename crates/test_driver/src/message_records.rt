@@ -1,5 +1,6 @@
 // Records of the message calls. A message is made of the record's bytes, so also one that the writer refuses, which no
 // stream carries; the buffer may be too short.
+use super::frame_records::eight_at;
 use super::frame_records::front;
 use super::message_lines;
 use super::text;
@@ -109,7 +110,7 @@ fn time(data: &[u8]) -> Time {
 }
 
 fn extra(data: &[u8]) -> Extra {
-    let attributes = four_at(data, 6) as u64 * 4294967296 + four_at(data, 10) as u64;
+    let attributes = eight_at(data, 6);
     match byte_at(data, 5) {
         0 => Extra::Absent,
         1 => Extra::Attributes { attributes },

@@ -1,4 +1,5 @@
 // The records of standard input, one by one, on the reader and the link that the program holds.
+use super::capture_records;
 use super::frame_records;
 use super::frame_records::ReaderAfter;
 use super::frame_records::front;
@@ -22,7 +23,7 @@ fn holding(reader: Reader, written: bool) -> ReaderAfter {
     ReaderAfter { reader, written }
 }
 
-// A record of the reader, the writers or the messages.
+// A record of the reader, the writers, the messages or captures.
 fn act(reader: Reader, operation: u8, data: &[u8]) -> ReaderAfter {
     match operation {
         1 => frame_records::feed(reader, data),
@@ -33,6 +34,10 @@ fn act(reader: Reader, operation: u8, data: &[u8]) -> ReaderAfter {
         6 => holding(reader, message_records::write(data)),
         7 => holding(reader, message_records::reply(data)),
         8 => holding(reader, message_records::names()),
+        9 => holding(reader, capture_records::write_head(data)),
+        10 => holding(reader, capture_records::write_record(data)),
+        11 => holding(reader, capture_records::read(false, data)),
+        12 => holding(reader, capture_records::read(true, data)),
         _ => holding(Reader::new(), text::text(b"fresh\n")),
     }
 }

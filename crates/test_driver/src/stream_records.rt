@@ -40,7 +40,7 @@ fn joined(front: &[u8], back: &[u8], at: usize) -> u8 {
 }
 
 // The texts and the key lie together, and the secret apart: as the caller's data it follows them (PROTOCOL 7.24).
-fn join(front: &[u8], back: &[u8], out: &mut [u8]) {
+pub(crate) fn join(front: &[u8], back: &[u8], out: &mut [u8]) {
     let mut i = 0;
     while i < out.len() {
         out[i] = joined(front, back, i);

@@ -28,8 +28,8 @@ fn digit(d: u8) -> u8 {
     87 + d % 16
 }
 
-// A colon and bytes, each as two digits after a space; in one piece, since each piece is a call of the system.
-pub(crate) fn bytes(b: &[u8]) -> bool {
+// Up to 2,100 bytes, each as two digits after a space; in one piece, since each piece is a call of the system.
+fn piece(b: &[u8]) -> bool {
     let mut line = [32u8; 6300];
     let mut i = 0;
     while i < b.len() {
@@ -40,7 +40,23 @@ pub(crate) fn bytes(b: &[u8]) -> bool {
         line[3 * i + 2] = digit(b[i] % 16);
         i += 1;
     }
-    text(b" :") && text(&line[..3 * i])
+    text(&line[..3 * i])
+}
+
+fn pieces(b: &[u8]) -> bool {
+    let mut i = 0;
+    while i < b.len() {
+        if !piece(base::part(b, i, 2100)) {
+            return false;
+        }
+        i += base::min(2100, b.len() - i);
+    }
+    true
+}
+
+// A colon and bytes.
+pub(crate) fn bytes(b: &[u8]) -> bool {
+    text(b" :") && pieces(b)
 }
 
 // A word and numbers, with no line end.

@@ -1,5 +1,5 @@
-//! The program `test_driver`: records played on one reader, one link and the writer. Messages to write are not
-//! played here.
+//! The program `test_driver`: records played on one reader, one link and the writer. Messages to write and the calls of
+//! captures are not played here.
 
 use crate::link::Link;
 use crate::links;
@@ -9,7 +9,7 @@ use crate::transcript;
 use crate::writer;
 use std::io::{self, Read, Write};
 
-/// Operations of a script; any other below LINK makes a fresh reader.
+/// Operations of a script; any other below LINK that `test_driver` does not know either makes a fresh reader.
 pub const FEED: u8 = 1;
 pub const FINISH: u8 = 2;
 pub const SET: u8 = 3;

@@ -143,7 +143,7 @@ fn replace_reader(script: &mut Script, rng: &mut Rng) {
         0 => script.set(near_limit(rng)),
         1 => script.set(rng.below(1 << 40)),
         2 => short_set(script, rng),
-        _ => script.fresh(rng.pick(&[0, 9, 100, 127])),
+        _ => script.fresh(rng.pick(&[0, 13, 100, 127])),
     }
 }
 
