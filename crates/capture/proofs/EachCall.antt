@@ -17,7 +17,8 @@ use Rattle.capture.specs.Reading.{nextOf, endIn, endOf}
 use Rattle.capture.specs.Windows.{countOf}
 use Rattle.capture.specs.Table.{nextRowOf, endRowOf}
 use Rattle.capture.specs.EachCall.{RowsInjective, OutOfRange, CursorRanges, CountsWithin, EachNextAlways}
-use Rattle.capture.specs.EachCall.{EachFinishAlways, MoreLater, WritesExactly, AllAnswerRows, WindowEnough, CursorKept}
+use Rattle.capture.specs.EachCall.{EachFinishAlways, MoreLater, WritesExactly, AllAnswerRows, WindowEnough}
+use Rattle.capture.specs.EachCall.{CursorKept}
 use Rattle.capture.specs.declared.reading.EndResult.{EndResult}
 use Rattle.capture.specs.declared.reading.EndResult.the-variants as end
 use Rattle.capture.specs.declared.reading.NextResult.{NextResult}

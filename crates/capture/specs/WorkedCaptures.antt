@@ -58,8 +58,8 @@ pub record WorkedCapture : Type 0 where
   pub end : endOf 21 [] ≡ row 2 (21 ∷ [])
   pub written : recordBytes 1 16909060 (0xAA ∷ 0xBB ∷ []) ≡ boxRecord
 
--- ---- worked-windows: windows on the worked capture, which are fronts of what is left; what they leave, and what closes
--- it. A byte that comes again, one that is left out, and an early end are refused
+-- ---- worked-windows: windows on the worked capture, which are fronts of what is left; what they leave, and what
+-- closes it. A byte that comes again, one that is left out, and an early end are refused
 
 -- the worked capture
 abbrev pub workedBytes : List ℕ

@@ -34,8 +34,8 @@ abbrev pub AllHeardSpelled : Type 0
 AllHeardSpelled =
     (d e t u v w a b : ℕ) (p : List ℕ) (rs : List (List ℕ)) → HeardSpelled d e t u v w a b p rs
 
--- ---- printed-joined: the text of lines is that of each, in order, none left out; those of a direction's decisions have
--- the listing's text with the direction before it, and are found again: PROTOCOL 14.2
+-- ---- printed-joined: the text of lines is that of each, in order, none left out; those of a direction's decisions
+-- have the listing's text with the direction before it, and are found again: PROTOCOL 14.2
 pub record PrintedJoined (a b : List Printed) (d e : ℕ) (ds : List Decision) : Type 0 where
   pub joined : printedText (a ++ b) ≡ printedText a ++ printedText b
   pub lines : printedText (linesOf d ds) ≡ decisionsText (prefixOf d) ds
