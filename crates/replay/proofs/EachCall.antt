@@ -177,6 +177,7 @@ play-stops limit s b room =
       stops = refl;
       done = λ z. absurd (omega arith);
       room-left = λ z. absurd (omega arith);
+      used = λ z. absurd (omega arith);
       refused = λ z. absurd (omega arith);
     })
 

@@ -2,7 +2,7 @@
 use Prim.Native.Nat.{ℕ, zero, suc, _+_, _-_, _≤_, _<_}
 use mathlib.Core.Path.{_≡_, refl, sym, ap, _∙_}
 use mathlib.Core.Bool.{true}
-use mathlib.Core.Logic.{_≢_}
+use mathlib.Core.Logic.{_≢_, inl, inr}
 use mathlib.Core.List.{List, [], _∷_}
 use native.Mathlib.Omega.{arith}
 use borrow.Author.Tests.{eqb-true, eqb-false}
@@ -67,6 +67,7 @@ module _ (s : State) (b : List ℕ) (room : ℕ) where
           stops = known;
           done = λ z. e ∙ rw (z, lacks z);
           room-left = λ z. absurd (no-room z);
+          used = λ z. inl (ap (λ (r : Row). r .number) e ∙ z);
           refused = λ z. e ∙ ap (λ (r : Row). row n (getD (r .values) 0 0 ∷ [])) (sym e);
         };
       }
@@ -101,6 +102,7 @@ module _ (s : State) (b : List ℕ) (room : ℕ) where
           stops = known .0;
           done = λ y. absurd (eqb-false (run .stop) 0 z y);
           room-left = λ y. (there, omega (arith, lists .room-left y .1));
+          used = λ y. inr there;
           refused = λ y. absurd (omega (arith, known .1));
         };
       })
@@ -137,6 +139,7 @@ one-more s t b room used text run h e l =
       stops = l .stops;
       done = λ z. rw drop-drop at (l .done z);
       room-left = λ z. (rw drop-drop at (l .room-left z .0), omega (arith, l .room-left z .1));
+      used = λ z. rw drop-drop at (l .used z);
       refused = λ z. rw drop-drop at (l .refused z);
     }
 

@@ -8,7 +8,7 @@ use native.Mathlib.Nat.{add-zero}
 use native.Mathlib.Omega.{arith}
 use borrow.Author.Tests.{eqb-true, eqb-false, eq-eqb, ne-eqb, le-leb}
 use lib.ListN.{length, getD, take, drop, length-append, length-take, length-drop, take-append-drop}
-use lib.Seq.{take-add, take-all, drop-drop, drop-append-le}
+use lib.Seq.{take-add, take-all, drop-drop, take-append-le, drop-append-le}
 use lib.Dec.{eqb}
 use Rattle.base.specs.Rows.{Row, row}
 use Rattle.base.specs.Outcomes.{Outcome, outcome}
@@ -22,7 +22,8 @@ use Rattle.listing.specs.TurnListings.{TurnStops as ListStops}
 use Rattle.listing.proofs.LoopRuns.{loop-lists}
 use Rattle.listing.proofs.RunAdds.{lines-joined}
 use Rattle.capture.specs.Format.{head, directionOf, millisecondsOf, payloadSizeOf, payloadOf, sizeOf}
-use Rattle.capture.specs.Captures.{Begins}
+use Rattle.frame.specs.Offers.{joined}
+use Rattle.capture.specs.Captures.{AllRecords, Begins}
 use Rattle.capture.specs.EachCall.{OutOfRange, RecordSaid}
 use Rattle.capture.specs.Reading.{nextOf, inRangeOf as cursorInRange}
 use Rattle.capture.specs.Windows.{countOf, addRecord, recordsBy, placeBy, leftBy, AreWindows}
@@ -37,7 +38,7 @@ use Rattle.replay.specs.Turns.{Turn, stateBy, textBy, leftBy as turnsLef
 use Rattle.replay.proofs.LineLaws.{heard-more, adds-join, linesOf-text, printed-both, lines-more}
 use Rattle.replay.proofs.Sides.{Side, fresh-side, adds-none, Fed, feed-side, side-stops, side-range}
 use Rattle.replay.proofs.WindowLaws.{records-more, place-more, left-more, windows-more, SameRecord, same-record}
-use Rattle.replay.proofs.WindowLaws.{taken-record}
+use Rattle.replay.proofs.WindowLaws.{taken-record, joined-more, all-more}
 
 -- the bytes of the record at the front that are fed, where it is of this direction
 abbrev pub fedIn : ℕ → ℕ → List ℕ → List ℕ
@@ -50,6 +51,11 @@ Within limit past s left new =
     ⊎ ((nextOf (s .place) left .row .number ≡ 1)
     × Adds limit (heardOf (directionOf left) past) (take (s .fed) (payloadOf left)) new)
 
+-- nothing is taken of a capture; or its head and these records are, and this is left
+abbrev pub SplitAt : List ℕ → List (List ℕ) → List ℕ → Type 0
+SplitAt capture past left =
+    ((past ≡ []) × (left ≡ capture)) ⊎ ((capture ≡ head ++ (joined past ++ left)) × AllRecords past)
+
 -- what is told of a capture, of which this is left
 pub record Told (limit : ℕ) (capture : List ℕ) (s : State) (left text : List ℕ) : Type 0 where
   pub windows : List (List ℕ)
@@ -58,6 +64,7 @@ pub record Told (limit : ℕ) (capture : List ℕ) (s : State) (left text : List
   pub left-is : leftBy 0 capture windows ≡ left
   pub size-is : s .place + length left ≡ length capture
   pub at : (s .place ≡ 0) ⊎ (5 ≤ s .place)
+  pub split : SplitAt capture (recordsBy 0 windows) left
   pub heard : (e : ℕ) → length (heardOf e (recordsBy 0 windows)) ≤ s .place
   pub lines : List Printed
   pub are-lines : AreLines limit [] (recordsBy 0 windows) lines
@@ -82,6 +89,7 @@ told-nothing limit capture =
       left-is = refl;
       size-is = omega arith;
       at = inl refl;
+      split = inl (refl, refl);
       heard = λ e. omega arith;
       lines = [];
       are-lines = refl;
@@ -184,6 +192,27 @@ module _ (limit : ℕ) (small : limit ≤ widest) (capture : List ℕ) (size : l
             ))) ∙ said .2 in
             absurd (omega (arith, h .0, ap (λ (y : Outcome ℕ). y .row .number) other))
 
+    -- nothing was taken before the head
+    head-split : SplitAt capture past left → (capture ≡ head ++ (joined past ++ drop 5 left)) × AllRecords past
+    unfolding joined
+    head-split (inl h) =
+        let begins : left ≡ head ++ drop 5 left =
+        front
+        ∙ (ap (λ (l : List ℕ). l ++ rest) (said .1 .1)
+        ∙ (append-assoc head (said .1 .0) rest
+        ∙ ap (λ (l : List ℕ). head ++ l)
+        (sym (ap (λ (l : List ℕ). drop 5 l) (front ∙ ap (λ (l : List ℕ). l ++ rest) (said .1 .1)))))) in
+        rw (h .0) (sym (h .1) ∙ begins, tt)
+    head-split (inr h) =
+        absurd (omega (
+          arith,
+          t .size-is,
+          said .0,
+          ap length (h .0),
+          length-append head (joined past ++ left),
+          length-append (joined past) left,
+        ))
+
     head-stepped : Stepped limit capture left text w (headIn 5 5 s)
     unfolding decisionsText
     head-stepped =
@@ -210,6 +239,7 @@ module _ (limit : ℕ) (small : limit ≤ widest) (capture : List ℕ) (size : l
               length-append w rest,
             );
             at = inr (omega arith);
+            split = rw records (inr (head-split (t .split)));
             heard = λ e. rw records (omega (arith, t .heard e, said .0));
             lines = t .lines;
             are-lines = rw records (t .are-lines);
@@ -315,6 +345,24 @@ module _ (limit : ℕ) (small : limit ≤ widest) (capture : List ℕ) (size : l
         .side))
         (t .side0) (t .side1)
 
+    -- the record is taken from what is left
+    raw-left : left ≡ raw ++ drop (sizeOf w) left
+    raw-left =
+        sym (take-append-drop (sizeOf w) left)
+        ∙ ap (λ (l : List ℕ). l ++ drop (sizeOf w) left)
+        (ap (λ (l : List ℕ). take (sizeOf w) l) front ∙ take-append-le (sizeOf w) w rest (said-of .within))
+
+    record-split : SplitAt capture past left
+        → (capture ≡ head ++ (joined (past ++ raw ∷ []) ++ drop (sizeOf w) left)) × AllRecords (past ++ raw ∷ [])
+    record-split (inl h) = absurd (omega (arith, said-of .after-head, t .size-is, ap length (h .1)))
+    record-split (inr h) = (
+      h .0
+          ∙ ap (λ (l : List ℕ). head ++ l) (ap (λ (l : List ℕ). joined past ++ l) raw-left
+          ∙ (sym (append-assoc (joined past) raw (drop (sizeOf w) left))
+          ∙ ap (λ (l : List ℕ). l ++ drop (sizeOf w) left) (sym (joined-more past raw)))),
+      all-more past raw (h .1) (said-of .is-record),
+    )
+
     payload-within : length payload + 7 ≤ sizeOf w
     payload-within = omega (arith, length-take (payloadSizeOf w) (drop 7 w))
 
@@ -345,6 +393,7 @@ module _ (limit : ℕ) (small : limit ≤ widest) (capture : List ℕ) (size : l
             left-is = t .left-is;
             size-is = t .size-is;
             at = t .at;
+            split = t .split;
             heard = t .heard;
             lines = t .lines;
             are-lines = t .are-lines;
@@ -426,6 +475,7 @@ module _ (limit : ℕ) (small : limit ≤ widest) (capture : List ℕ) (size : l
               length-append w rest,
             );
             at = inr (omega (arith, said-of .after-head));
+            split = rw records (inr (record-split (t .split)));
             heard = λ k. rw (records, heard-more k past raw) (omega (
               arith,
               length-append (heardOf k past) (cond (eqb (directionOf raw) k) (payloadOf raw) []),

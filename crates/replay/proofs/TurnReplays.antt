@@ -7,7 +7,7 @@ use mathlib.Core.List.{List, [], _∷_, _++_, append-nil, append-assoc, List-dis
 use native.Mathlib.Decide.{ℕ-discrete}
 use native.Mathlib.Omega.{arith}
 use borrow.Author.Tests.{eqb-true, eqb-false, eq-eqb, ne-eqb, lt-ltb, le-ltb}
-use lib.ListN.{length, getD}
+use lib.ListN.{length, getD, take}
 use lib.Dec.{eqb, ltb}
 use Rattle.base.specs.Keys.{among}
 use Rattle.base.specs.Rows.{Row, row}
@@ -23,7 +23,7 @@ use Rattle.frame.proofs.Decisions.{finish-correct}
 use Rattle.frame.proofs.Unique.{one-decisions}
 use Rattle.listing.specs.Lines.{lastOf, refusalText}
 use Rattle.listing.specs.Listing.{decisionsText}
-use Rattle.capture.specs.Format.{directionOf}
+use Rattle.capture.specs.Format.{directionOf, payloadOf, sizeOf, IsRecord}
 use Rattle.capture.specs.Captures.{Stops, Reads, no-mark, no-version, with-head, whole, direction, ended}
 use Rattle.capture.specs.Reading.{nextOf, endIn, endOf}
 use Rattle.capture.specs.ReadingExact.{Reading}
@@ -37,6 +37,8 @@ use Rattle.replay.specs.Replays.{heardOf, Adds, AreLines, IsEndLine, IsE
 use Rattle.replay.specs.Closing.{endLine, closingText, closed}
 use Rattle.replay.specs.Turns.{Turn, stateBy, textBy, leftBy, AreWindows, Finishes, writtenBy}
 use Rattle.replay.specs.TurnReplays.{TurnsReplay, OneReplay, AnyTurns, TurnStops, TurnsStop, TurnsFinish}
+use Rattle.replay.specs.TurnReplays.{TurnsSoFar}
+use Rattle.replay.proofs.LineLaws.{printed-both, linesOf-text}
 use Rattle.replay.proofs.Sides.{Side}
 use Rattle.replay.proofs.Told.{Within, Told, none-fed, told-nothing, told-more, told-turns, next-stops, in-range}
 use Rattle.replay.proofs.NextAnswers.{next-cases}
@@ -165,6 +167,33 @@ turns-replay limit small capture size turns a w f =
     is-ended limit small capture size (stateBy limit (freshOf limit) turns) (leftBy limit (freshOf limit) capture turns)
     (textBy limit (freshOf limit) turns)
     (told-turns limit small capture size turns (freshOf limit) capture [] (told-nothing limit capture) a) w f .replay
+
+-- ---- turns-so-far
+
+part-told : (limit : ℕ) (past : List (List ℕ)) (s : State) (left : List ℕ) (new : List Decision)
+    → Within limit past s left new
+    → (new ≡ []) ⊎ (IsRecord (take (sizeOf left) left)
+    × Adds limit (heardOf (directionOf left) past) (take (s .fed) (payloadOf left)) new)
+part-told limit past s left new (inl h) = inl (h .1)
+part-told limit past s left new (inr h) = inr (next-says (s .place) left .record-said (h .0) .is-record, h .1)
+
+pub turns-so-far : TurnsSoFar
+turns-so-far limit small capture size turns a =
+    let s : State = stateBy limit (freshOf limit) turns in
+    let left : List ℕ = leftBy limit (freshOf limit) capture turns in
+    let t : Told limit capture s left (textBy limit (freshOf limit) turns) =
+    told-turns limit small capture size turns (freshOf limit) capture [] (told-nothing limit capture) a in
+    record {
+      records = recordsBy 0 (t .windows);
+      lines = t .lines;
+      part = t .new;
+      taken = t .split;
+      are-lines = t .are-lines;
+      part-of = part-told limit (recordsBy 0 (t .windows)) s left (t .new) (t .within);
+      text-is = t .text-is
+          ∙ sym (printed-both (t .lines) (linesOf (directionOf left) (t .new))
+          ∙ ap (λ (l : List ℕ). printedText (t .lines) ++ l) (linesOf-text (directionOf left) (t .new)));
+    }
 
 pub turns-stop : TurnsStop
 turns-stop limit small capture size turns a w rest front room =

@@ -1,13 +1,15 @@
 -- Windows on a capture, with one call more; and the record at the front of a window. Assumes nothing.
 use Prim.Native.Nat.{ℕ, _+_, _-_, _≤_, _<_}
 use mathlib.Core.Path.{_≡_, refl, sym, ap, _∙_}
-use mathlib.Core.List.{List, [], _∷_, _++_}
+use mathlib.Core.List.{List, [], _∷_, _++_, append-nil, append-assoc}
 use native.Mathlib.Omega.{arith}
 use lib.ListN.{length, getD, take, drop, length-append, length-drop, take-append-drop, List·getD-append}
 use lib.Seq.{take-append-le, drop-append-le, take-at}
 use lib.Dec.{eqb}
 use Rattle.base.specs.Rows.{Row}
 use Rattle.capture.specs.Format.{directionOf, payloadSizeOf, payloadOf, sizeOf, IsRecord}
+use Rattle.frame.specs.Offers.{joined}
+use Rattle.capture.specs.Captures.{AllRecords}
 use Rattle.capture.specs.Reading.{nextOf}
 use Rattle.capture.specs.Windows.{countOf, addRecord, recordsBy, placeBy, leftBy, AreWindows}
 use Rattle.replay.proofs.LineLaws.{front-first}
@@ -67,3 +69,15 @@ pub taken-record : (b : List ℕ) → IsRecord (take (sizeOf b) b) → SameRecor
 taken-record b is =
     let r : List ℕ = take (sizeOf b) b in
     rw take-append-drop at (same-record r (drop (sizeOf b) b) (omega (arith, is .size)))
+
+-- ---- a record more
+
+pub joined-more : (rs : List (List ℕ)) (r : List ℕ) → joined (rs ++ r ∷ []) ≡ joined rs ++ r
+unfolding joined
+joined-more [] r = append-nil r
+joined-more (q ∷ rs) r =
+    ap (λ (l : List ℕ). q ++ l) (joined-more rs r) ∙ sym (append-assoc q (joined rs) r)
+
+pub all-more : (rs : List (List ℕ)) (r : List ℕ) → AllRecords rs → IsRecord r → AllRecords (rs ++ r ∷ [])
+all-more [] r a i = (i, tt)
+all-more (q ∷ rs) r a i = (a .0, all-more rs r (a .1) i)

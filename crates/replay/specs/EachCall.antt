@@ -8,7 +8,7 @@ use lib.ListN.{length, getD, drop}
 use Rattle.base.specs.Keys.{among}
 use Rattle.base.specs.Rows.{row}
 use Rattle.base.specs.Outcomes.{Output, output}
-use Rattle.base.specs.Runs.{Run, stopped}
+use Rattle.base.specs.Runs.{Run}
 use Rattle.frame.specs.Wire.{frameLimit}
 use Rattle.frame.specs.Ranges.{OutOfRange as ReaderOut}
 use Rattle.frame.specs.State.{State as Reader, stateOf as readerStateOf}
@@ -103,7 +103,7 @@ OutOfRange s = CursorOut (s .place) ⊎ (ReaderOut (s .reader0) ⊎ ReaderOut (s
 
 -- of both calls
 pub record ReplayRange (s : State) (b out : List ℕ) (room : ℕ) : Type 0 where
-  pub played : OutOfRange s → playOf frameLimit s b room ≡ stopped s 17
+  pub played : OutOfRange s → playOf frameLimit s b room ≡ record { state = s; used = 0; text = []; stop = 17 }
   pub played-only : (OutOfRange s → ⊥) → playOf frameLimit s b room .stop ≢ 17
   pub closed : OutOfRange s → closeOf frameLimit s b out ≡ output (row 17 (0 ∷ [])) out
   pub closed-only : (OutOfRange s → ⊥) → closeOf frameLimit s b out .row .number ≢ 17
@@ -122,6 +122,10 @@ pub record PlayStops (s : State) (b : List ℕ) (room : ℕ) (run : Run State) :
   -- a record is there that is not listed to its end, and less room is left than a line may need
   pub room-left : run .stop ≡ 22
       → (nextOf (run .state .place) (drop (run .used) b) .row .number ≡ 1) × (room < length (run .text) + 134)
+  -- the window ends beyond 2^62, or the reader of a record that is there has come so far
+  pub used : run .stop ≡ 18
+      → (nextOf (run .state .place) (drop (run .used) b) .row .number ≡ 18)
+      ⊎ (nextOf (run .state .place) (drop (run .used) b) .row .number ≡ 1)
   pub refused : 50 < run .stop → nextOf (run .state .place) (drop (run .used) b) .row ≡ row (run .stop)
       (getD (nextOf (run .state .place) (drop (run .used) b) .row .values) 0 0 ∷ [])
 

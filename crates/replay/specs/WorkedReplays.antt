@@ -1,11 +1,12 @@
--- Claims: worked replays, by computation. PROTOCOL 14.1 to 14.8.
+-- Claims: worked replays, by computation. PROTOCOL 14.1 to 14.5.
 use Prim.Native.Nat.{ℕ}
 use mathlib.Core.Path.{_≡_}
 use mathlib.Core.List.{List, [], _∷_, _++_}
 use lib.ListN.{take, drop}
 use Rattle.frame.specs.Wire.{frameLimit}
 use Rattle.listing.specs.Lines.{ascii}
-use Rattle.capture.specs.Format.{head}
+use Rattle.listing.specs.WorkedListings.{exampleStream}
+use Rattle.capture.specs.Format.{head, recordBytes}
 use Rattle.replay.specs.Lines.{replayHeading}
 use Rattle.replay.specs.State.{State, freshOf}
 use Rattle.replay.specs.Turns.{Turn, stateBy, leftBy, AreWindows, Finishes, writtenBy}
@@ -112,3 +113,21 @@ pub record WorkedRefusals : Type 0 where
 -- ---- worked-empty: a capture without records
 abbrev pub WorkedEmpty : Type 0
 WorkedEmpty = replayOf head ≡ replayHeading ++ ascii "0 clean 0\n1 clean 0\n"
+
+-- ---- worked-lines: a line of each kind in both directions; both kinds of end line, and places above 0
+pub record WorkedLines : Type 0 where
+  -- the listing's example in direction 0, and noise and an open frame in direction 1
+  pub ends : replayOf
+      (head ++ (recordBytes 0 0 exampleStream
+      ++ recordBytes 1 0 (0 ∷ 0 ∷ 0 ∷ 0 ∷ 0 ∷ 0 ∷ 0 ∷ 0xFF ∷ 0xFF ∷ 0x00 ∷ [])))
+      ≡ replayHeading ++ ascii "0 frame 1 10 7 1 0 0\n0 cut 10 17 - - - -\n0 frame 15 25 7 243 0 0\n"
+      ++ ascii "0 clean 25\n1 open 7\n"
+  pub kinds : replayOf
+      (head ++ (recordBytes 1 0 (0xFF ∷ 0xFF ∷ 0x00 ∷ 0x04 ∷ 0xFF ∷ 0xFF ∷ 0x04 ∷ 0x01 ∷ [])
+      ++ recordBytes 1 0 (0xFF ∷ 0xFF ∷ 0x00 ∷ 0x05 ∷ 0x07 ∷ 0xFF ∷ 0x00 ∷ [])
+      ++ recordBytes 1 0 (0xFF ∷ 0xFF ∷ 0x00 ∷ 0x05 ∷ 0x07 ∷ 0x01 ∷ 0x00 ∷ 0x00 ∷ 0x0E ∷ [])
+      ++ recordBytes 1 0 (0xFF ∷ 0xFF ∷ 0x00 ∷ 0xFF ∷ 0xFF ∷ [])
+      ++ recordBytes 0 0 (0xFF ∷ 0xFF ∷ [])))
+      ≡ replayHeading
+      ++ ascii "1 short 0 4 - - - -\n1 long 4 8 - - - -\n1 stuff 8 15 - - - -\n1 sum 15 24 - - - -\n"
+      ++ ascii "1 cut 24 29 - - - -\n0 open 0\n1 open 27\n"
