@@ -18,9 +18,12 @@ use Rattle.base.proofs.Stores.{part-left, put-onto}
 use Rattle.capture.specs.Format.{mark, head, directionOf, sizeOf}
 use Rattle.capture.specs.Reading.{agrees, inRangeOf as cursorInRange, nextOf}
 use Rattle.capture.specs.declared.reading.Refusal.the-variants as refusal
-use Rattle.replay.specs.State.{State, stateOf}
+use Rattle.capture.specs.declared.record.Direction.the-variants as direction
+use Rattle.frame.specs.State.{stateOf as readerStateOf}
+use Rattle.frame.specs.declared.reader.Reader.{Reader as CodeReader}
+use Rattle.replay.specs.State.{State}
 use Rattle.replay.specs.Table.{stopOf}
-use Rattle.replay.specs.Playing.{goesOn, recordRun, stepOf, playIn, loopOf, stepLeft}
+use Rattle.replay.specs.Playing.{goesOn, recordRun, stepOf, playIn, loopOf, stepState, stepLeft}
 use Rattle.replay.specs.declared.steps.Step.{Step}
 use Rattle.replay.specs.declared.steps.Stop.{Stop}
 use Rattle.replay.specs.declared.steps.Stop.the-variants as stop
@@ -179,14 +182,14 @@ abbrev pub joinedAt : ℕ → List ℕ → List ℕ → List ℕ
 joinedAt at l after = take at l ++ (after ++ drop (length l - at) (drop at l))
 
 -- after a step the loop stops, or goes on: `joined` is the buffer then
-pub record Stepped (limit : ℕ) (bytes out₀ : List ℕ) (s₀ : State) (out : List ℕ) (used written : ℕ) (l : Step)
-    (joined : List ℕ) : Type 0 where
+pub record Stepped (limit : ℕ) (bytes out₀ : List ℕ) (s₀ : State) (out : List ℕ) (s : State) (used written : ℕ)
+    (l : Step) (joined : List ℕ) : Type 0 where
   pub used-within : used + l .used ≤ length bytes
   pub written-within : written + l .written ≤ length out
   -- it was the last: what the loop leaves is what the whole run leaves
   pub last : l .«is_last» ≡ true
       → record {
-        state = stateOf (l .replay);
+        state = stepState s l;
         used = used + l .used;
         written = written + l .written;
         stop = stopOf (l .stop);
@@ -195,13 +198,13 @@ pub record Stepped (limit : ℕ) (bytes out₀ : List ℕ) (s₀ : State) (out :
   -- otherwise it used a byte, and the invariant holds after it
   pub some : l .«is_last» ≡ false → 1 ≤ l .used
   pub again : l .«is_last» ≡ false
-      → At limit bytes out₀ s₀ joined (stateOf (l .replay)) (used + l .used) (written + l .written)
+      → At limit bytes out₀ s₀ joined (stepState s l) (used + l .used) (written + l .written)
 
 -- a step over what is left of both: `after` is the part of the buffer after it
 module _ {limit : ℕ} {bytes out₀ out : List ℕ} {s₀ s : State} {used written : ℕ}
     (at : At limit bytes out₀ s₀ out s used written) (l : Step) (after : List ℕ) (y : Run State)
     (is : y ≡ stepOf limit s (leftFrom used bytes) (length (leftFrom written out)))
-    (left : stepLeft l after ≡ leftBy y (leftFrom written out))
+    (left : stepLeft s l after ≡ leftBy y (leftFrom written out))
     (kept : length after ≡ length (leftFrom written out)) where
   -- the whole buffer after it
   abbrev joined : List ℕ
@@ -217,7 +220,7 @@ module _ {limit : ℕ} {bytes out₀ out : List ℕ} {s₀ s : State} {used writ
   step-is = rw (part-left bytes used, room-left) at is
 
   -- what the code returns
-  state-is : stateOf (l .replay) ≡ y .state
+  state-is : stepState s l ≡ y .state
   state-is = ap (λ (w : Left State). w .state) left
 
   used-is : l .used ≡ y .used
@@ -253,7 +256,7 @@ module _ {limit : ℕ} {bytes out₀ out : List ℕ} {s₀ s : State} {used writ
   -- it is the last: what the loop leaves is what the whole run leaves
   at-last : l .«is_last» ≡ true
       → record {
-        state = stateOf (l .replay);
+        state = stepState s l;
         used = used + l .used;
         written = written + l .written;
         stop = stopOf (l .stop);
@@ -279,7 +282,7 @@ module _ {limit : ℕ} {bytes out₀ out : List ℕ} {s₀ s : State} {used writ
     used-some : 1 ≤ l .used
     used-some = omega (arith, used-is, uses .1 goes)
 
-    at-again : At limit bytes out₀ s₀ joined (stateOf (l .replay)) (used + l .used) (written + l .written)
+    at-again : At limit bytes out₀ s₀ joined (stepState s l) (used + l .used) (written + l .written)
     at-again =
         let long : length joined ≡ length out = ap length put ∙ length-sets out written (y .text) in
         let room : length out - written - length (y .text) ≡ length joined - (written + l .written) =
@@ -296,7 +299,7 @@ module _ {limit : ℕ} {bytes out₀ out : List ℕ} {s₀ s : State} {used writ
           rest = rw (drop-drop, room, ← put, ← state-is, ← used-is, ← written-is) at rest;
         }
 
-  pub at-step : Stepped limit bytes out₀ s₀ out used written l joined
+  pub at-step : Stepped limit bytes out₀ s₀ out s used written l joined
   at-step =
       record {
         used-within = used-within;
@@ -305,3 +308,23 @@ module _ {limit : ℕ} {bytes out₀ out : List ℕ} {s₀ s : State} {used writ
         some = used-some;
         again = at-again;
       }
+
+-- ---- the readers after a step, one of which is another one
+
+module _ (s : State) (l : Step) (first second : CodeReader) where
+  abbrev readers : State
+  readers =
+      record {
+        place = l .cursor .place;
+        fed = l .fed;
+        reader0 = readerStateOf first;
+        reader1 = readerStateOf second;
+      }
+
+  pub met-module : l .direction ≡ direction.FromModule → first ≡ l .reader → readerStateOf second ≡ s .reader1
+      → readers ≡ stepState s l
+  met-module told new old = rw (told, new, old)
+
+  pub met-box : l .direction ≡ direction.FromBox → readerStateOf first ≡ s .reader0 → second ≡ l .reader
+      → readers ≡ stepState s l
+  met-box told old new = rw (told, new, old)

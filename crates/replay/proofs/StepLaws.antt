@@ -70,39 +70,48 @@ module _ (limit direction : ℕ) (s : State) (b : List ℕ) (room : ℕ) where
         omega (arith, same, used, part, most)
 
     -- all of it is listed
-    pub record-done : eqb (listStopOf (l .stop)) 0 ≡ true → (q : State)
-        → q ≡ withReader direction (readerStateOf (l .reader)) place 0 s
-        → record { state = q; used = count; written = l .written; stop = goesOn; out = after }
+    pub record-done : eqb (listStopOf (l .stop)) 0 ≡ true
+        → record {
+          state = withReader direction (readerStateOf (l .reader)) place 0 s;
+          used = count;
+          written = l .written;
+          stop = goesOn;
+          out = after;
+        }
         ≡ leftBy (recordIn run direction count place s) out
-    record-done t q made =
+    record-done t =
         let done : eqb (run .stop) 0 ≡ true = rw (ap (λ (w : Left Reader). w .stop) e) at t in
         let state : readerStateOf (l .reader) ≡ run .state = ap (λ (w : Left Reader). w .state) e in
         let written : l .written ≡ length (run .text) = ap (λ (w : Left Reader). w .written) e in
         let put : after ≡ onto (run .text) out = ap (λ (w : Left Reader). w .out) e in
-        rw (done, made, state, written, put)
+        rw (done, state, written, put)
 
     -- some of it is not
-    pub record-left : eqb (listStopOf (l .stop)) 0 ≡ false → (q : State) (number : ℕ)
-        → q ≡ withReader direction (readerStateOf (l .reader)) (s .place) (s .fed + l .used) s
-        → number ≡ listStopOf (l .stop)
-        → record { state = q; used = 0; written = l .written; stop = number; out = after }
+    pub record-left : eqb (listStopOf (l .stop)) 0 ≡ false → (number : ℕ) → number ≡ listStopOf (l .stop)
+        → record {
+          state = withReader direction (readerStateOf (l .reader)) (s .place) (s .fed + l .used) s;
+          used = 0;
+          written = l .written;
+          stop = number;
+          out = after;
+        }
         ≡ leftBy (recordIn run direction count place s) out
-    record-left t q number made told =
+    record-left t number told =
         let left : eqb (run .stop) 0 ≡ false = rw (ap (λ (w : Left Reader). w .stop) e) at t in
         let state : readerStateOf (l .reader) ≡ run .state = ap (λ (w : Left Reader). w .state) e in
         let used : l .used ≡ run .used = ap (λ (w : Left Reader). w .used) e in
         let written : l .written ≡ length (run .text) = ap (λ (w : Left Reader). w .written) e in
         let stop : listStopOf (l .stop) ≡ run .stop = ap (λ (w : Left Reader). w .stop) e in
         let put : after ≡ onto (run .text) out = ap (λ (w : Left Reader). w .out) e in
-        rw (left, made, told, state, used, written, stop, put)
+        rw (left, told, state, used, written, stop, put)
 
 -- ---- a step, by the answer of `next`
 
 -- what makes no text leaves every buffer as it was
-pub no-text : (l : Step) (s : State) (used stop : ℕ) (out : List ℕ)
-    → stepLeft l [] ≡ leftBy (record { state = s; used = used; text = []; stop = stop }) []
-    → stepLeft l out ≡ leftBy (record { state = s; used = used; text = []; stop = stop }) out
-no-text l s used stop out e =
+pub no-text : (q : State) (l : Step) (s : State) (used stop : ℕ) (out : List ℕ)
+    → stepLeft q l [] ≡ leftBy (record { state = s; used = used; text = []; stop = stop }) []
+    → stepLeft q l out ≡ leftBy (record { state = s; used = used; text = []; stop = stop }) out
+no-text q l s used stop out e =
     ap (λ (w : Left State).
     record { state = w .state; used = w .used; written = w .written; stop = w .stop; out = out }) e
 

@@ -7,10 +7,11 @@ use lib.ListN.{length, getD, drop}
 use lib.Dec.{eqb}
 use Rattle.base.specs.Outcomes.{Outcome}
 use Rattle.base.specs.Runs.{Run, stopped, onward, Left}
-use Rattle.frame.specs.State.{State as Reader}
+use Rattle.frame.specs.State.{State as Reader, stateOf as readerStateOf}
 use Rattle.listing.specs.Feeding.{listOf}
 use Rattle.capture.specs.Format.{payloadOf}
 use Rattle.capture.specs.Reading.{nextOf}
+use Rattle.capture.specs.Table.{directionNumber}
 use Rattle.replay.specs.Lines.{prefixOf}
 use Rattle.replay.specs.State.{State, stateOf, inRangeOf, readerOf, withReader}
 use Rattle.replay.specs.Table.{stopOf}
@@ -89,11 +90,15 @@ loopOf limit s b room = playIn limit (suc (length b)) s b room
 abbrev pub playOf : ℕ → State → List ℕ → ℕ → Run State
 playOf limit s b room = cond (inRangeOf limit s) (loopOf limit s b room) (stopped s 17)
 
+-- the state after the code's step: the reader of its direction is another one
+abbrev pub stepState : State → Step → State
+stepState s l = withReader (directionNumber (l .direction)) (readerStateOf (l .reader)) (l .cursor .place) (l .fed) s
+
 -- what the code's step returns, and the buffer after it
-abbrev pub stepLeft : Step → List ℕ → Left State
-stepLeft l after =
+abbrev pub stepLeft : State → Step → List ℕ → Left State
+stepLeft s l after =
     record {
-      state = stateOf (l .replay);
+      state = stepState s l;
       used = l .used;
       written = l .written;
       stop = cond (l .«is_last») (stopOf (l .stop)) goesOn;

@@ -3,6 +3,7 @@ use super::state::Replay;
 use super::state::in_range;
 use super::steps::Stop;
 use super::steps::play_one;
+use capture::Direction;
 use listing::LineResult;
 ghost use mathlib.Core.Path.{_≡_};
 ghost use lib.ListN.{length};
@@ -33,20 +34,45 @@ fn play_all(replay: Replay, bytes: &[u8], out: &mut [u8]) -> Played
     ensures { λ r. ⌜ leftOf r (now (out .exit)) ≡ leftBy (loopOf frameLimit (stateOf replay)
         (now (bytes .entry)) (length (now (out .entry)))) (now (out .entry)) ⌝ }
 {
-    let mut next = replay;
+    let mut cursor = replay.cursor;
+    let mut fed = replay.fed;
+    let mut from_module = replay.from_module;
+    let mut from_box = replay.from_box;
     let mut used = 0;
     let mut written = 0;
     let stop = loop {
+        let next = Replay {
+            cursor,
+            fed,
+            from_module,
+            from_box,
+        };
         let done = play_one(next, &bytes[used..], &mut out[written..]);
-        next = done.replay;
+        let direction = done.direction;
+        let reader = done.reader;
+        cursor = done.cursor;
+        fed = done.fed;
         used += done.used;
         written += done.written;
+        match direction {
+            Direction::FromModule => {
+                from_module = reader;
+            }
+            Direction::FromBox => {
+                from_box = reader;
+            }
+        }
         if done.is_last {
             break done.stop;
         }
     };
     Played {
-        replay: next,
+        replay: Replay {
+            cursor,
+            fed,
+            from_module,
+            from_box,
+        },
         used,
         written,
         stop,

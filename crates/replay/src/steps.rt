@@ -12,11 +12,10 @@ ghost use lib.ListN.{length};
 ghost use lib.Dec.{eqb};
 ghost use Rattle.base.specs.Runs.{stopped, leftBy};
 ghost use Rattle.frame.specs.Wire.{frameLimit};
-ghost use Rattle.frame.specs.State.{stateOf as readerStateOf};
 ghost use Rattle.listing.specs.Feeding.{listOf, leftOf as listedLeft};
 ghost use Rattle.listing.specs.Table.{stopOf as listStopOf};
 ghost use Rattle.capture.specs.Table.{directionNumber};
-ghost use Rattle.replay.specs.State.{stateOf, readerOf, withReader};
+ghost use Rattle.replay.specs.State.{stateOf, readerOf};
 ghost use Rattle.replay.specs.Lines.{prefixOf};
 ghost use Rattle.replay.specs.Table.{stopOf};
 ghost use Rattle.replay.specs.Playing.{recordRun, recordIn, headIn, stepOf, stepLeft};
@@ -31,10 +30,13 @@ pub enum Stop {
     Used,
 }
 
-// What a step leaves: the replay, the bytes used, the bytes of text at the front of the buffer; and why the play stops
-// after it, if it is the last.
+// What a step leaves: the reader of a direction, the cursor, the bytes fed of the record there; the bytes used, the
+// bytes of text at the front of the buffer; and why the play stops after it, if it is the last. The other reader stays.
 pub(crate) struct Step {
-    pub(crate) replay: Replay,
+    pub(crate) direction: Direction,
+    pub(crate) reader: Reader,
+    pub(crate) cursor: Cursor,
+    pub(crate) fed: u16,
     pub(crate) used: usize,
     pub(crate) written: usize,
     pub(crate) is_last: bool,
@@ -56,35 +58,6 @@ fn list_part(replay: Replay, direction: Direction, part: &[u8], out: &mut [u8]) 
             let reader = replay.from_box;
             listing::list(reader, b"1 ", part, out)
         }
-    }
-}
-
-// The replay with another reader of a direction, at this place, with so many bytes fed.
-fn with_reader(
-    replay: Replay,
-    direction: Direction,
-    reader: Reader,
-    cursor: Cursor,
-    fed: u16,
-) -> Replay
-    ensures { λ r. ⌜ stateOf r
-        ≡ withReader (directionNumber direction) (readerStateOf reader) (cursor .place) fed (stateOf replay) ⌝ }
-{
-    let from_module = replay.from_module;
-    let from_box = replay.from_box;
-    match direction {
-        Direction::FromModule => Replay {
-            cursor,
-            fed,
-            from_module: reader,
-            from_box,
-        },
-        Direction::FromBox => Replay {
-            cursor,
-            fed,
-            from_module,
-            from_box: reader,
-        },
     }
 }
 
@@ -121,11 +94,12 @@ fn play_record(
     bytes: &[u8],
     out: &mut [u8],
 ) -> Step
-    ensures { λ r. ⌜ stepLeft r (now (out .exit)) ≡ leftBy (recordIn (recordRun frameLimit (directionNumber direction)
+    ensures { λ r. ⌜ stepLeft (stateOf replay) r (now (out .exit)) ≡ leftBy (recordIn (recordRun frameLimit (directionNumber direction)
         (stateOf replay) (now (bytes .entry)) (length (now (out .entry)))) (directionNumber direction) count
         (next .place) (stateOf replay)) (now (out .entry)) ⌝ }
 {
     let fed = replay.fed as usize;
+    let here = replay.cursor;
     let payload = capture::payload(bytes);
     let part = base::part(payload, fed, payload.len());
     let listed = list_part(replay, direction, part, out);
@@ -134,7 +108,10 @@ fn play_record(
     let written = listed.written;
     if is_done(stop) {
         return Step {
-            replay: with_reader(replay, direction, reader, next, 0),
+            direction,
+            reader,
+            cursor: next,
+            fed: 0,
             used: count,
             written,
             is_last: false,
@@ -143,7 +120,10 @@ fn play_record(
     }
     let more = (fed + listed.used) as u16;
     Step {
-        replay: with_reader(replay, direction, reader, replay.cursor, more),
+        direction,
+        reader,
+        cursor: here,
+        fed: more,
         used: 0,
         written,
         is_last: true,
@@ -151,12 +131,17 @@ fn play_record(
     }
 }
 
-// Nothing is done, and the play stops; whatever the buffer holds, nothing is put in it.
+// Nothing is done, and the play stops.
 fn last(replay: Replay, stop: Stop) -> Step
-    ensures { λ r. ⌜ stepLeft r [] ≡ leftBy (stopped (stateOf replay) (stopOf stop)) [] ⌝ }
+    ensures { λ r. ⌜ stepLeft (stateOf replay) r [] ≡ leftBy (stopped (stateOf replay) (stopOf stop)) [] ⌝ }
 {
+    let reader = replay.from_module;
+    let cursor = replay.cursor;
     Step {
-        replay,
+        direction: Direction::FromModule,
+        reader,
+        cursor,
+        fed: replay.fed,
         used: 0,
         written: 0,
         is_last: true,
@@ -164,19 +149,16 @@ fn last(replay: Replay, stop: Stop) -> Step
     }
 }
 
-// The head is taken. It has no text.
+// The head is taken.
 fn play_head(replay: Replay, count: usize, next: Cursor) -> Step
-    ensures { λ r. ⌜ stepLeft r [] ≡ leftBy (headIn count (next .place) (stateOf replay)) [] ⌝ }
+    ensures { λ r. ⌜ stepLeft (stateOf replay) r [] ≡ leftBy (headIn count (next .place) (stateOf replay)) [] ⌝ }
 {
-    let from_module = replay.from_module;
-    let from_box = replay.from_box;
+    let reader = replay.from_module;
     Step {
-        replay: Replay {
-            cursor: next,
-            fed: replay.fed,
-            from_module,
-            from_box,
-        },
+        direction: Direction::FromModule,
+        reader,
+        cursor: next,
+        fed: replay.fed,
         used: count,
         written: 0,
         is_last: false,
@@ -186,7 +168,7 @@ fn play_head(replay: Replay, count: usize, next: Cursor) -> Step
 
 // One step, by what is at the front.
 pub(crate) fn play_one(replay: Replay, bytes: &[u8], out: &mut [u8]) -> Step
-    ensures { λ r. ⌜ stepLeft r (now (out .exit)) ≡ leftBy (stepOf frameLimit (stateOf replay) (now (bytes .entry))
+    ensures { λ r. ⌜ stepLeft (stateOf replay) r (now (out .exit)) ≡ leftBy (stepOf frameLimit (stateOf replay) (now (bytes .entry))
         (length (now (out .entry)))) (now (out .entry)) ⌝ }
 {
     let taken = capture::next(replay.cursor, bytes);

@@ -31,7 +31,7 @@ returns c =
     let told = c .before .before .before in
     let next = told .before .before .before in
     let args = start next .args in
-    no-text (c .last .result) _ _ _ (args .out .now) (c .last .ensures)
+    no-text (stateOf (args .replay)) (c .last .result) _ _ _ (args .out .now) (c .last .ensures)
     ∙ rw (← by-next next (told .answer .given .1), eq-eqb _ 0 (c .before .if1 .taken))
 
 returns-2 : tie.Need-returns-2
@@ -39,7 +39,7 @@ returns-2 c =
     let told = c .before .before .before in
     let next = told .before .before .before in
     let args = start next .args in
-    no-text (c .play-head .result) _ _ _ (args .out .now) (c .play-head .ensures)
+    no-text (stateOf (args .replay)) (c .play-head .result) _ _ _ (args .out .now) (c .play-head .ensures)
     ∙ rw (← by-next next (told .answer .given .1), ne-eqb _ 0 (c .before .if1 .left))
 
 returns-3 : tie.Need-returns-3
@@ -55,21 +55,21 @@ returns-4 c =
     let next = told .before .before .before in
     let args = start next .args in
     let refused = told .answer3 .given in
-    no-text (c .last2 .result) _ _ _ (args .out .now) (c .last2 .ensures)
+    no-text (stateOf (args .replay)) (c .last2 .result) _ _ _ (args .out .now) (c .last2 .ensures)
     ∙ rw (← by-next next (refused .1), step-refused)
 
 returns-5 : tie.Need-returns-5
 returns-5 c =
     let next = c .before .before .before .before in
     let args = start next .args in
-    no-text (c .last3 .result) _ _ _ (args .out .now) (c .last3 .ensures)
+    no-text (stateOf (args .replay)) (c .last3 .result) _ _ _ (args .out .now) (c .last3 .ensures)
     ∙ rw (← by-next next (c .before .enum-told .given .1))
 
 returns-6 : tie.Need-returns-6
 returns-6 c =
     let next = c .before .before .before .before in
     let args = start next .args in
-    no-text (c .last4 .result) _ _ _ (args .out .now) (c .last4 .ensures)
+    no-text (stateOf (args .replay)) (c .last4 .result) _ _ _ (args .out .now) (c .last4 .ensures)
     ∙ rw (← by-next next (c .before .enum-told2 .given .1))
 
 pub play-one-spec : {M : Type 1} → statement M

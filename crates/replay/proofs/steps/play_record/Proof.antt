@@ -20,7 +20,7 @@ module _ (c : tie.After-list-part) where
   begun = c .before .before .before
 
   abbrev start : tie.Start
-  start = begun .before .before .before .before
+  start = begun .before .before .before .before .before
 
   listed : listedLeft (c .list-part .result) (c .list-part .last .1 .1 .1 .0)
       ≡ leftBy (recordRun frameLimit (directionNumber (start .args .direction)) (stateOf (start .args .replay))
@@ -32,8 +32,8 @@ module _ (c : tie.After-list-part) where
   fits : start .args .replay .fed + c .list-part .result .used < 65536
   fits =
       let known = begun .before in
-      let byte = known .before .before .shared-slice-known .given in
-      let fed : start .args .replay .fed < 65536 = omega (arith, known .struct-known .given) in
+      let byte = known .before .before .before .shared-slice-known .given in
+      let fed : start .args .replay .fed < 65536 = omega (arith, known .before .struct-known .given) in
       let high : getD (start .args .bytes .now) 5 0 < 256 = omega (arith, byte 5) in
       let low : getD (start .args .bytes .now) 6 0 < 256 = omega (arith, byte 6) in
       fed-within frameLimit (directionNumber (start .args .direction)) (stateOf (start .args .replay))
@@ -46,12 +46,12 @@ list s = s .before .before .before .before
 
 returns : tie.Need-returns
 returns c =
-    let s = c .before .before in
+    let s = c .before in
     let l = list s in
     let args = start l .args in
     record-done frameLimit (directionNumber (args .direction)) (stateOf (args .replay)) (args .bytes .now)
     (length (args .out .now)) (args .count) (args .next .place) (args .out .now) (l .list-part .last .1 .1 .1 .0)
-    (l .list-part .result) (listed l) (sym (s .is-done .ensures) ∙ c .before .if1 .taken) _ (c .with-reader .ensures)
+    (l .list-part .result) (listed l) (sym (s .is-done .ensures) ∙ c .if1 .taken)
 
 add-more : tie.Need-add-more
 add-more c = omega (arith, fits (list (c .before .before)))
@@ -61,22 +61,22 @@ cast-more c = omega (arith, fits (list (c .before .before)))
 
 returns-2 : tie.Need-returns-2
 returns-2 c =
-    let s = c .before .before .before .before in
+    let s = c .before .before .before in
     let l = list s in
     let args = start l .args in
     record-left frameLimit (directionNumber (args .direction)) (stateOf (args .replay)) (args .bytes .now)
     (length (args .out .now)) (args .count) (args .next .place) (args .out .now) (l .list-part .last .1 .1 .1 .0)
-    (l .list-part .result) (listed l) (sym (s .is-done .ensures) ∙ c .before .before .before .if1 .left) _ _
-    (c .before .with-reader2 .ensures) (c .stop-in-record .ensures)
+    (l .list-part .result) (listed l) (sym (s .is-done .ensures) ∙ c .before .before .if1 .left) _
+    (c .stop-in-record .ensures)
 
 pub play-record-spec : {M : Type 1} → statement M
 play-record-spec =
     tie.close
     (tie.spec
     (λ c. search needs) (λ c κs. search needs) (λ c κs. search needs) (λ c κs. search needs)
-    (λ c κs. search needs) (λ c κs. search needs) (λ c. search needs)
+    (λ c κs. search needs) (λ c. search needs)
     returns
     add-more
     cast-more
-    (λ c κs. search needs) (λ c κs. search needs) (λ c. search needs)
+    (λ c κs. search needs) (λ c. search needs)
     returns-2)
