@@ -94,9 +94,9 @@ fn play_record(
     bytes: &[u8],
     out: &mut [u8],
 ) -> Step
-    ensures { λ r. ⌜ stepLeft (stateOf replay) r (now (out .exit)) ≡ leftBy (recordIn (recordRun frameLimit (directionNumber direction)
-        (stateOf replay) (now (bytes .entry)) (length (now (out .entry)))) (directionNumber direction) count
-        (next .place) (stateOf replay)) (now (out .entry)) ⌝ }
+    ensures { λ r. ⌜ stepLeft (stateOf replay) r (now (out .exit)) ≡ leftBy (recordIn (recordRun frameLimit
+        (directionNumber direction) (stateOf replay) (now (bytes .entry)) (length (now (out .entry))))
+        (directionNumber direction) count (next .place) (stateOf replay)) (now (out .entry)) ⌝ }
 {
     let fed = replay.fed as usize;
     let here = replay.cursor;
@@ -131,7 +131,7 @@ fn play_record(
     }
 }
 
-// Nothing is done, and the play stops.
+// Nothing is done, and the play stops; whatever the buffer holds, nothing is put in it.
 fn last(replay: Replay, stop: Stop) -> Step
     ensures { λ r. ⌜ stepLeft (stateOf replay) r [] ≡ leftBy (stopped (stateOf replay) (stopOf stop)) [] ⌝ }
 {
@@ -168,8 +168,8 @@ fn play_head(replay: Replay, count: usize, next: Cursor) -> Step
 
 // One step, by what is at the front.
 pub(crate) fn play_one(replay: Replay, bytes: &[u8], out: &mut [u8]) -> Step
-    ensures { λ r. ⌜ stepLeft (stateOf replay) r (now (out .exit)) ≡ leftBy (stepOf frameLimit (stateOf replay) (now (bytes .entry))
-        (length (now (out .entry)))) (now (out .entry)) ⌝ }
+    ensures { λ r. ⌜ stepLeft (stateOf replay) r (now (out .exit)) ≡ leftBy (stepOf frameLimit (stateOf replay)
+        (now (bytes .entry)) (length (now (out .entry)))) (now (out .entry)) ⌝ }
 {
     let taken = capture::next(replay.cursor, bytes);
     let answer = taken.answer;

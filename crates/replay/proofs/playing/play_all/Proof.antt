@@ -15,23 +15,23 @@ use Rattle.replay.proofs.playing.play_all.Statement.{statement}
 use Rattle.replay.proofs.playing.play_all.Tie as tie
 
 abbrev Inv-loop : tie.InvT-loop
-Inv-loop bytes out₀ cursor₀ fed₀ from-module₀ from-box₀ used₀ written₀ out cursor fed from-module from-box used written =
+Inv-loop bytes out₀ cursor₀ fed₀ module₀ box₀ used₀ written₀ out cursor fed module′ box used written =
     At frameLimit bytes out₀
     (record {
       place = cursor₀ .place;
       fed = fed₀;
-      reader0 = readerStateOf from-module₀;
-      reader1 = readerStateOf from-box₀;
+      reader0 = readerStateOf module₀;
+      reader1 = readerStateOf box₀;
     }) out
     (record {
       place = cursor .place;
       fed = fed;
-      reader0 = readerStateOf from-module;
-      reader1 = readerStateOf from-box;
+      reader0 = readerStateOf module′;
+      reader1 = readerStateOf box;
     }) used written
 
 abbrev μ-loop : tie.MeasureT-loop
-μ-loop bytes out₀ cursor₀ fed₀ from-module₀ from-box₀ used₀ written₀ out cursor fed from-module from-box used written =
+μ-loop bytes out₀ cursor₀ fed₀ module₀ box₀ used₀ written₀ out cursor fed module′ box used written =
     length bytes - used
 
 loop-holds : tie.Need-loop-holds Inv-loop μ-loop
