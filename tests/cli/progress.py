@@ -175,14 +175,17 @@ def passes_over(test, fresh):
 
 
 def needed(crates, name):
-    """A crate and what it needs, as rt proves them: those that need the fewest levels below them first."""
+    """A crate and what it needs, as rt proves them: those that need the fewest levels below them first.
+
+    Where two need as many, that of crates.txt comes first.
+    """
     def level(crate):
         return 1 + max((level(dependency) for dependency in crates[crate] if dependency in crates), default=-1)
 
     def reached(crate):
         return {crate}.union(*(reached(dependency) for dependency in crates[crate] if dependency in crates))
 
-    return sorted(reached(name), key=level)
+    return sorted((crate for crate in crates if crate in reached(name)), key=level)
 
 
 def real_crates(test, root, fresh):
