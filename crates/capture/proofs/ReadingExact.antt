@@ -6,8 +6,8 @@ use mathlib.Core.List.{List, [], _∷_, _++_, append-assoc}
 use native.Mathlib.Nat.{add-zero}
 use native.Mathlib.Omega.{arith}
 use borrow.Author.Tests.{ltb-true, ltb-false}
-use lib.ListN.{length, getD, drop, length-append, length-drop}
-use lib.Seq.{getD-append-add}
+use lib.ListN.{length, getD, take, drop, length-append, length-drop}
+use lib.Seq.{getD-append-add, take-append-le, take-length}
 use lib.Dec.{ltb}
 use Rattle.base.specs.Rows.{Row, row}
 use Rattle.base.specs.Outcomes.{Outcome}
@@ -150,15 +150,22 @@ one-reading capture =
 
 -- a mark or a head that lacks
 module _ (c : List ℕ) (records : List (List ℕ)) (number place : ℕ) where
-  exact-no-mark : number ≡ 51 → place ≡ 0 → (Begins mark c → ⊥) → StopsExactly c records number place
-  exact-no-mark n p none =
+  -- none was taken
+  no-records : records ≡ [] → AllRecords records
+  no-records r = rw r tt
+
+  exact-no-mark : records ≡ [] → number ≡ 51 → place ≡ 0 → (Begins mark c → ⊥) → StopsExactly c records number place
+  exact-no-mark r n p none =
       let never : HasMark c → ⊥ = λ m. none (mark-of c m) in
       record {
         no-mark = λ k. (n, p);
         no-mark-only = λ e. never;
         no-version = λ m k. absurd (never m);
         no-version-only = λ e. absurd (omega arith);
-        behind-records = λ h. absurd (never (h .mark));
+        none-taken = λ k. r;
+        record-bytes = λ h. absurd (never (h .mark));
+        each-record = no-records r;
+        after-records = λ h. absurd (never (h .mark));
         direction = λ h k d. absurd (never (h .mark));
         direction-only = λ e. absurd (omega arith);
         ended = λ h k d. absurd (never (h .mark));
@@ -168,14 +175,18 @@ module _ (c : List ℕ) (records : List (List ℕ)) (number place : ℕ) where
         whole-only = λ e. absurd (omega arith);
       }
 
-  exact-no-version : number ≡ 52 → place ≡ 3 → HasMark c → (HasHead c → ⊥) → StopsExactly c records number place
-  exact-no-version n p m never =
+  exact-no-version : records ≡ [] → number ≡ 52 → place ≡ 3 → HasMark c → (HasHead c → ⊥)
+      → StopsExactly c records number place
+  exact-no-version r n p m never =
       record {
         no-mark = λ k. absurd (k m);
         no-mark-only = λ e k. omega arith;
         no-version = λ m k. (n, p);
         no-version-only = λ e. (m, never);
-        behind-records = λ h. absurd (never h);
+        none-taken = λ k. r;
+        record-bytes = λ h. absurd (never h);
+        each-record = no-records r;
+        after-records = λ h. absurd (never h);
         direction = λ h k d. absurd (never h);
         direction-only = λ e. absurd (omega arith);
         ended = λ h k d. absurd (never h);
@@ -187,50 +198,55 @@ module _ (c : List ℕ) (records : List (List ℕ)) (number place : ℕ) where
 
 -- behind a head
 module _ (c : List ℕ) (records : List (List ℕ)) (number place : ℕ) (rest : List ℕ)
-    (e : c ≡ head ++ (joined records ++ rest)) (p : place ≡ 5 + length (joined records)) (x : StopExactly rest number)
-  where
-    behind : c ≡ (head ++ joined records) ++ rest
-    behind = e ∙ sym (append-assoc head (joined records) rest)
+    (e : c ≡ head ++ (joined records ++ rest)) (p : place ≡ 5 + length (joined records)) (all : AllRecords records)
+    (x : StopExactly rest number) where
+  behind : c ≡ (head ++ joined records) ++ rest
+  behind = e ∙ sym (append-assoc head (joined records) rest)
 
-    size-behind : length c ≡ place + length rest
-    size-behind = omega (arith, ap length behind, length-append (head ++ joined records) rest)
+  size-behind : length c ≡ place + length rest
+  size-behind = omega (arith, ap length behind, length-append (head ++ joined records) rest)
 
-    byte-behind : (i : ℕ) → getD c (place + i) 0 ≡ getD rest i 0
-    byte-behind i =
-        let q : place ≡ length (head ++ joined records) = omega arith in
-        rw (behind, q) (getD-append-add (head ++ joined records) rest i 0)
+  byte-behind : (i : ℕ) → getD c (place + i) 0 ≡ getD rest i 0
+  byte-behind i =
+      let q : place ≡ length (head ++ joined records) = omega arith in
+      rw (behind, q) (getD-append-add (head ++ joined records) rest i 0)
 
-    first-behind : getD c place 0 ≡ directionOf rest
-    first-behind = rw add-zero at (byte-behind 0)
+  first-behind : getD c place 0 ≡ directionOf rest
+  first-behind = rw add-zero at (byte-behind 0)
 
-    exact-head : StopsExactly c records number place
-    exact-head =
-        let there : HasHead c = has-head c (joined records ++ rest, e) in
-        let size = size-behind in
-        let first = first-behind in
-        record {
-          no-mark = λ k. absurd (k (there .mark));
-          no-mark-only = λ q m. x .behind (inl q);
-          no-version = λ m k. absurd (k there);
-          no-version-only = λ q. absurd (x .behind (inr q));
-          behind-records = λ h. p;
-          direction = λ h k two. x .direction (omega arith) (omega arith);
-          direction-only = λ q.
-              let d = x .direction-only q in
-              (there, omega (arith, d .0), omega (arith, d .1));
-          ended = λ h k one. x .ended (omega arith) (omega arith);
-          ended-only = λ q.
-              let d = x .ended-only q in
-              (there, omega (arith, d .0), omega (arith, d .1));
-          ended-lacks = λ q. omega (arith, x .ended-only q .2, byte-behind 5, byte-behind 6);
-          whole = λ h q. x .whole (omega arith);
-          whole-only = λ q. (there, omega (arith, x .whole-only q));
-        }
+  exact-head : StopsExactly c records number place
+  exact-head =
+      let there : HasHead c = has-head c (joined records ++ rest, e) in
+      let size = size-behind in
+      let first = first-behind in
+      record {
+        no-mark = λ k. absurd (k (there .mark));
+        no-mark-only = λ q m. x .behind (inl q);
+        no-version = λ m k. absurd (k there);
+        no-version-only = λ q. absurd (x .behind (inr q));
+        none-taken = λ k. absurd (k there);
+        record-bytes = λ h. ap (λ (l : List ℕ). take (length (joined records)) (drop 5 l)) e
+            ∙ (take-append-le (length (joined records)) (joined records) rest (omega arith)
+            ∙ take-length (joined records));
+        each-record = all;
+        after-records = λ h. p;
+        direction = λ h k two. x .direction (omega arith) (omega arith);
+        direction-only = λ q.
+            let d = x .direction-only q in
+            (there, omega (arith, d .0), omega (arith, d .1));
+        ended = λ h k one. x .ended (omega arith) (omega arith);
+        ended-only = λ q.
+            let d = x .ended-only q in
+            (there, omega (arith, d .0), omega (arith, d .1));
+        ended-lacks = λ q. omega (arith, x .ended-only q .2, byte-behind 5, byte-behind 6);
+        whole = λ h q. x .whole (omega arith);
+        whole-only = λ q. (there, omega (arith, x .whole-only q));
+      }
 
 pub stops-exactly : StopsExactlyAlways
-stops-exactly c records number place (no-mark r n p none) = exact-no-mark c records number place n p none
+stops-exactly c records number place (no-mark r n p none) = exact-no-mark c records number place r n p none
 stops-exactly c records number place (no-version rest r n p e none) =
-    exact-no-version c records number place n p (has-mark c (rest, e))
+    exact-no-version c records number place r n p (has-mark c (rest, e))
     (λ h. version-lacks c rest e none (head-of c h))
 stops-exactly c records number place (with-head rest e p all s) =
-    exact-head c records number place rest e p (stop-exactly s)
+    exact-head c records number place rest e p all (stop-exactly s)

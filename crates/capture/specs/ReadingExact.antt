@@ -3,10 +3,10 @@ use Prim.Native.Nat.{ℕ, _+_, _*_, _≤_, _<_}
 use mathlib.Core.Path.{_≡_}
 use mathlib.Core.Logic.{_≢_}
 use mathlib.Core.List.{List, [], _∷_}
-use lib.ListN.{length, getD}
+use lib.ListN.{length, getD, take, drop}
 use Rattle.base.specs.Rows.{row}
 use Rattle.frame.specs.Offers.{joined}
-use Rattle.capture.specs.Captures.{Reads}
+use Rattle.capture.specs.Captures.{AllRecords, Reads}
 use Rattle.capture.specs.Reading.{endOf}
 use Rattle.capture.specs.Windows.{recordsBy, placeBy, leftBy, AreWindows, Closes}
 
@@ -65,7 +65,11 @@ pub record StopsExactly (c : List ℕ) (records : List (List ℕ)) (number place
   pub no-mark-only : number ≡ 51 → HasMark c → ⊥
   pub no-version : HasMark c → (HasHead c → ⊥) → (number ≡ 52) × (place ≡ 3)
   pub no-version-only : number ≡ 52 → HasMark c × (HasHead c → ⊥)
-  pub behind-records : HasHead c → place ≡ 5 + length (joined records)
+  -- the records are the bytes after the head, and reading stops after them
+  pub none-taken : (HasHead c → ⊥) → records ≡ []
+  pub record-bytes : HasHead c → take (length (joined records)) (drop 5 c) ≡ joined records
+  pub each-record : AllRecords records
+  pub after-records : HasHead c → place ≡ 5 + length (joined records)
   pub direction : HasHead c → place < length c → 2 ≤ getD c place 0 → number ≡ 53
   pub direction-only : number ≡ 53 → HasHead c × (place < length c) × (2 ≤ getD c place 0)
   pub ended : HasHead c → place < length c → getD c place 0 ≤ 1 → number ≡ 54

@@ -6,17 +6,19 @@ use mathlib.Core.Logic.{_≢_}
 use mathlib.Core.List.{List, _++_, append-nil}
 use native.Mathlib.Nat.{add-zero, sub-zero}
 use native.Mathlib.Omega.{arith}
-use borrow.Author.Tests.{eq-eqb, ne-eqb, eqb-true, eqb-false, ltb-false}
+use borrow.Author.Tests.{eq-eqb, ne-eqb, eqb-true, eqb-false}
 use lib.ListN.{length, getD, take, drop, length-append, length-drop}
 use lib.Seq.{sets, length-sets, drop-drop}
-use lib.Dec.{eqb, ltb, leb}
+use lib.Dec.{eqb}
 use Rattle.base.specs.Runs.{Run, stopped, onward, Left, leftBy}
 use Rattle.base.specs.Outcomes.{Outcome}
 use Rattle.base.proofs.Tests.{by-test, cond-equal}
 use Rattle.base.proofs.Runs.{Rest, rest-onward, rest-stopped}
 use Rattle.base.proofs.Stores.{part-left, put-onto}
-use Rattle.capture.specs.Format.{mark, head, directionOf, sizeOf}
-use Rattle.capture.specs.Reading.{agrees, inRangeOf as cursorInRange, nextOf}
+use Rattle.capture.specs.Format.{sizeOf}
+use Rattle.capture.specs.Reading.{nextOf}
+use Rattle.capture.proofs.EachCall.{count-within}
+use Rattle.capture.proofs.NextSays.{next-says}
 use Rattle.capture.specs.declared.reading.Refusal.the-variants as refusal
 use Rattle.capture.specs.declared.record.Direction.the-variants as direction
 use Rattle.frame.specs.State.{stateOf as readerStateOf}
@@ -38,30 +40,14 @@ Counts n y =
     × (y .row .number ≡ 1 → (1 ≤ getD (y .row .values) 0 0) × (getD (y .row .values) 0 0 ≤ n))
 
 next-counts : (place : ℕ) (b : List ℕ) → Counts (length b) (nextOf place b)
-next-counts place b =
-    by-test P (cursorInRange place)
-    (λ _. by-test P (leb (place + length b) (2 ^ 62))
-    (λ _. by-test P (eqb place 0)
-    (λ _. by-test P (agrees mark b)
-    (λ _. by-test P (agrees head b)
-    (λ _. by-test P (ltb (length b) 5)
-    (λ _. (λ e. omega arith, λ e. absurd (omega arith)))
-    (λ h. (λ e. ltb-false (length b) 5 h, λ e. absurd (omega arith))))
-    (λ _. other (omega arith) (omega arith)))
-    (λ _. other (omega arith) (omega arith)))
-    (λ _. by-test P (ltb 1 (directionOf b))
-    (λ _. other (omega arith) (omega arith))
-    (λ _. by-test P (ltb (length b) (sizeOf b))
-    (λ _. (λ e. omega arith, λ e. absurd (omega arith)))
-    (λ h. (λ e. absurd (omega arith), λ e. (omega arith, ltb-false (length b) (sizeOf b) h))))))
-    (λ _. other (omega arith) (omega arith)))
-    (λ _. other (omega arith) (omega arith))
-  where
-    P : Outcome ℕ → Type 0
-    P = Counts (length b)
-
-    other : {number : ℕ} {A B : Type 0} → number ≢ 0 → number ≢ 1 → (number ≡ 0 → A) × (number ≡ 1 → B)
-    other f g = (λ e. absurd (f e), λ e. absurd (g e))
+next-counts place b = (
+  λ z. rw (eq-eqb (nextOf place b .row .number) 0 z) at (count-within place b .within),
+  λ o.
+      let said = next-says place b .record-said o in
+      let size : getD (nextOf place b .row .values) 0 0 ≡ sizeOf b =
+      ap (λ (y : Outcome ℕ). getD (y .row .values) 0 0) (said .answer) in
+      (omega (arith, size), omega (arith, size, said .within)),
+)
 
 -- a run of a step over n bytes uses no more than them, and at least one where the loop goes on
 abbrev pub Uses : ℕ → Run State → Type 0

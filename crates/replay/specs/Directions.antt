@@ -22,7 +22,8 @@ use Rattle.replay.specs.Turns.{Turn, stateBy, leftBy, AreWindows, Finish
 -- before the stop, joined, and no others; its calls, with finish, are stream-correct: frames, bodies, counts, ends; and
 -- the lines printed of that direction are its decisions
 
--- the calls that led a fresh reader to `reader`, and what they gave
+-- some feeds that lead a fresh reader to the very `reader` that the replay has, and what they gave: a play makes its
+-- feeds itself, cut by records and rooms, and how feeds cut a stream changes no decision
 pub record DirectionCorrect (limit direction : ℕ) (records : List (List ℕ)) (lines : List Printed)
     (reader : Reader) : Type 0 where
   pub calls : List Call
