@@ -5,6 +5,7 @@ check.py ROOT [SEED [COUNT]]: the repository, and COUNT random streams. The last
 """
 import os
 import pathlib
+import re
 import sys
 import tempfile
 
@@ -19,6 +20,7 @@ import version
 import whole
 from commands import COMMANDS
 from door import as_started_by_a_person, run
+from listing import WORDS  # tests/model, whose folder `model` adds
 from model import HEADING
 
 sys.path.insert(0, str(pathlib.Path(__file__).resolve().parent.parent / "lib"))
@@ -27,6 +29,7 @@ from checks import Checks, Dead, seed_and_count
 checks = Checks("cli")
 test = checks.test
 FIRST_BUILD = 3600  # seconds
+REFUSED = {"short", "long", "stuff", "stufflate", "cut", "sum"}  # the kinds of a refused frame
 
 
 # Streams whose listing is written by hand: a name, the bytes, and the lines under the heading.
@@ -59,6 +62,23 @@ STATED = [
     ("long, by a length FF 55", "FF FF FF 55 00", ["long 1 5 - - - -", "clean 5"]),
     ("the greatest length", "FF FF 04 00", ["open 0"]),
     ("stuff", "FF FF 00 05 07 FF 00", ["stuff 0 7 - - - -", "clean 7"]),
+    ("stuff in the length", "FF FF 00 FF 05", ["stuff 0 5 - - - -", "clean 5"]),
+    ("stuff after 5 body bytes", "FF FF 00 05 07 01 00 FF 00", ["stuff 0 9 - - - -", "clean 9"]),
+    ("stuff after 5 body bytes, one stuffed", "FF FF 00 05 07 FF 55 00 FF 01", ["stuff 0 10 - - - -", "clean 10"]),
+    ("stufflate after 6 body bytes", "FF FF 00 06 07 01 00 00 FF 00", ["stufflate 0 10 - - - -", "clean 10"]),
+    ("stufflate after 6, one stuffed", "FF FF 00 06 07 01 00 FF 55 FF 54", ["stufflate 0 11 - - - -", "clean 11"]),
+    ("stufflate at the sum, no payload", "FF FF 00 05 07 01 00 00 FF 00", ["stufflate 0 10 - - - -", "clean 10"]),
+    (
+        "stufflate at the sum of a report, then a frame",
+        f"FF FF 00 0E 05 02 00 00 04 05 00 03 00 00 00 DE 00 FF 0A {HEARTBEAT}",
+        ["stufflate 0 19 - - - -", "frame 19 28 7 1 0 0", "clean 28"],
+    ),
+    (
+        "stufflate in the payload after a stuffed FF",
+        "FF FF 00 0E 05 02 00 00 04 05 00 03 00 00 FF 55 FF 00 1F",
+        ["stufflate 0 18 - - - -", "clean 19"],
+    ),
+    ("cut after 6 body bytes", "FF FF 00 05 07 01 00 00 FF FF", ["cut 0 10 - - - -", "open 8"]),
     ("cut", "FF FF 00 05 FF FF", ["cut 0 6 - - - -", "open 4"]),
     ("sum", "FF FF 00 05 07 01 00 00 0E", ["sum 0 9 - - - -", "clean 9"]),
     ("a frame, then an open one", f"{HEARTBEAT} FF FF 00", ["frame 0 9 7 1 0 0", "open 9"]),
@@ -123,7 +143,7 @@ def sample(door, samples):
     found = door("list", samples / "bench.bin")
     test("the listing of bench.bin", found.is_quiet(expected), str(found))
     kinds = {line.split()[0] for line in expected.decode().splitlines()[1:-1]}
-    test("every kind is in the sample", kinds == {"frame", "short", "long", "stuff", "cut", "sum"}, str(kinds))
+    test("every kind is in the sample", kinds == {"frame", *REFUSED}, str(kinds))
     last = expected.decode().splitlines()[-2]
     test("the sample ends in a frame", last.startswith("frame") and last.split()[2] == str(len(data)), last)
 
@@ -203,6 +223,8 @@ def command_line(door, room):
         found = door(*word.split())
         test(f"{word} is --help", (found.status, found.out, found.err) == (0, usage.out, b""), str(found))
 
+    kinds_explained(door.root, usage.out.decode())
+
     (room / "plain").write_bytes(b"")
     os.mkfifo(room / "fifo")
     refused = [
@@ -225,6 +247,23 @@ def command_line(door, room):
     for name, words, *parts in [*refused, *(case for command in COMMANDS for case in refused_files(command, room))]:
         found = door(*words)
         test(name, found.is_refusal(*parts), str(found))
+
+
+def kinds_explained(root, usage):
+    """What the first word of a line says, in --help and in docs/COMMAND.md."""
+    shown = set(re.findall(r"^([a-z]+) \d", usage, re.MULTILINE))
+    test("--help shows a line of a frame and both ends", {"frame", "clean", "open"} <= shown, str(shown))
+    named = words_in(re.findall(r"^ +([a-z]+(?:, [a-z]+)*)  +\S", usage, re.MULTILINE))
+    test("--help explains every kind of a refused frame", named == REFUSED, str(named))
+    page = (root / "docs" / "COMMAND.md").read_text()
+    table = page.partition("\n| kind | what is known |")[2].partition("\n\n")[0]
+    named = words_in(re.findall(r"^\| (`[^|]*`) \|", table, re.MULTILINE))
+    test("COMMAND.md explains every kind of a refused frame", named == REFUSED, str(named))
+    test("the listing has no other kind", set(WORDS.values()) == {"frame", *REFUSED}, str(WORDS))
+
+
+def words_in(texts):
+    return {word for text in texts for word in re.findall(r"\w+", text)}
 
 
 def refused_files(command, room):

@@ -34,15 +34,22 @@ STEPS = [
     ("01", ["long 38 42 - - - -"]),
     ("FF FF 00 05 07 FF", SILENT),
     ("00", ["stuff 42 49 - - - -"]),
+    # Broken stuffing at the sum; then in the payload, where leaf 255 lacks its 55.
     ("FF FF 00 05 07 01 00 00", SILENT),
-    ("0E", ["sum 49 58 - - - -"]),
+    ("FF", SILENT),
+    ("54", ["stufflate 49 59 - - - -"]),
+    ("FF FF 00 0E 05 02 00 00 04 05 00 03 00 00 00 FF", SILENT),
+    ("00", ["stufflate 59 76 - - - -"]),
+    ("20", SILENT),
+    ("FF FF 00 05 07 01 00 00", SILENT),
+    ("0E", ["sum 77 86 - - - -"]),
     ("11 13 0D 0A 03 04 1A 1C 7F 15 16 FF", SILENT),
     # Volume 3, leaf 255, and nothing after it.
     ("FF 00 0E 05 02 00 00 04 05 00 03 00 00 00 FF 55 00", SILENT),
-    ("20", ["frame 69 88 5 2 0 9"]),
+    ("20", ["frame 97 116 5 2 0 9"]),
     ("", SILENT),
 ]
-STEPS_END = "clean 88"
+STEPS_END = "clean 116"
 
 
 def stated_steps():

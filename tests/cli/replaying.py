@@ -35,6 +35,18 @@ ENDS = ["0 clean 22", "1 open 13"]
 CAPTURE = HEAD + b"".join(data for data, _ in RECORDS)
 LINES = [line for _, lines in RECORDS for line in lines]
 
+# Broken stuffing, each record with its lines: the frame that breaks lies across records of its direction, and a record
+# of the other direction comes between its FF and the byte after that.
+BROKEN = [
+    (record(1, bytes.fromhex("FF FF 00 05 07 01 00 00 FF")), []),
+    (record(0, bytes.fromhex("FF FF 00 05 07 01 00 FF")), []),
+    (record(1, b"\0"), ["1 stufflate 0 10 - - - -"]),
+    (record(0, b"\0"), ["0 stuff 0 9 - - - -"]),
+    (record(0, bytes.fromhex("FF FF 00 07 03 02 00 00 FF 55 FF")), []),
+    (record(1, FRAME + OPENED), ["1 frame 10 19 7 1 0 0"]),
+    (record(0, bytes.fromhex("54 0B") + FRAME), ["0 stufflate 9 21 - - - -", "0 frame 22 31 7 1 0 0"]),
+]
+
 # Captures whose listing is written by hand: a name, the bytes, and the lines under the heading.
 STATED = [
     ("no record", HEAD, ["0 clean 0", "1 clean 0"]),
@@ -58,6 +70,11 @@ STATED = [
         "a count with a high byte",
         HEAD + record(0, bytes(256) + FRAME),
         ["0 frame 256 265 7 1 0 0", "0 clean 265", "1 clean 0"],
+    ),
+    (
+        "broken stuffing in both directions",
+        HEAD + b"".join(data for data, _ in BROKEN),
+        [*(line for _, lines in BROKEN for line in lines), "0 clean 31", "1 open 19"],
     ),
 ]
 
@@ -145,16 +162,20 @@ def refused_output(test, door, room):
 
 def still_written(test, door):
     """The lines of a record come with its last byte, though the frames in it are complete before."""
-    steps = [(b"", [HEADING]), (HEAD[:3], SILENT), (HEAD[3:], SILENT)]
-    for data, lines in RECORDS:
-        steps += [(data[:1], SILENT), (data[1:-1], SILENT), (data[-1:], lines or SILENT)]
-    steps += [(record(0, FRAME + b"\0")[:-1], SILENT), (b"\0", ["0 frame 22 31 7 1 0 0"])]
-    with Live([door, "replay"]) as live:
-        wrong = play(live, steps)
-        test("record by record", not wrong, wrong)
-        live.close_wire()
-        found = live.ended()
-        test("record by record, its end", is_end(found, ["0 clean 32", "1 open 13"]), str(found))
+    last = (record(0, FRAME + b"\0"), ["0 frame 22 31 7 1 0 0"])
+    for name, records, ends in [
+        ("record by record", [*RECORDS, last], ["0 clean 32", "1 open 13"]),
+        ("broken stuffing, record by record", BROKEN, ["0 clean 31", "1 open 19"]),
+    ]:
+        steps = [(b"", [HEADING]), (HEAD[:3], SILENT), (HEAD[3:], SILENT)]
+        for data, lines in records:
+            steps += [(data[:1], SILENT), (data[1:-1], SILENT), (data[-1:], lines or SILENT)]
+        with Live([door, "replay"]) as live:
+            wrong = play(live, steps)
+            test(name, not wrong, wrong)
+            live.close_wire()
+            found = live.ended()
+            test(f"{name}, its end", is_end(found, ends), str(found))
 
 
 def two_writes(test, door):

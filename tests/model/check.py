@@ -10,6 +10,7 @@ import pathlib
 import sys
 
 sys.path.insert(1, str(pathlib.Path(__file__).resolve().parents[1] / "lib"))
+import check_breaks
 import check_captures
 import check_comparison
 import check_device
@@ -33,6 +34,7 @@ def main():
     check_comparison.check(checks)
     check_examples.check_model(checks)
     check_streams.check_model(checks, seed, 8 * count)
+    check_breaks.check_model(checks, seed, count)
     check_messages.check_model(checks)
     check_link.check_model(checks)
     check_captures.check_model(checks, seed, count)
@@ -43,6 +45,7 @@ def main():
         program = Program(f"{folder}/test_driver", PATIENCE)
         check_examples.check_program(checks, program)
         check_streams.check_program(checks, program, seed, 8 * count)
+        check_breaks.check_program(checks, program, seed, count)
         check_messages.check_program(checks, program, seed, count)
         check_link.check_program(checks, program, seed, count)
         check_captures.check_program(checks, program, seed, count)

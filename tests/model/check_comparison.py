@@ -1,4 +1,6 @@
 """That comparing and counting find what is wrong: without them no test of the program could fail."""
+from answers import CLEAN, STUFF, STUFFLATE, SUM
+from check_streams import differs
 from checks import difference
 from counting import miscounted
 
@@ -29,8 +31,36 @@ MISCOUNTED = [
     ("a number used twice", 4, "offer 0 1 : 2 5 1 201 0"),
 ]
 
+# Streams that are one refused frame: its answer, start, end, body and further values; and wrong ones.
+BODY = bytes.fromhex("00 05 07 01 00 00 0E")
+REFUSED = [
+    ("FF FF 00 05 07 FF 09", (STUFF, 0, 7, None, 9)),
+    ("FF FF 00 05 07 01 00 00 FF 09", (STUFFLATE, 0, 10, None, 9)),
+    ("FF FF 00 05 07 01 00 00 0E", (SUM, 0, 9, BODY, 14, 13)),
+]
+MISREAD = [
+    ("STUFFLATE for STUFF", 0, (STUFFLATE, 0, 7, None, 9)),
+    ("another byte of STUFF", 0, (STUFF, 0, 7, None, 8)),
+    ("no byte of STUFF", 0, (STUFF, 0, 7, None)),
+    ("STUFF for STUFFLATE", 1, (STUFF, 0, 10, None, 9)),
+    ("another byte of STUFFLATE", 1, (STUFFLATE, 0, 10, None, 0xFF)),
+    ("another sum found", 2, (SUM, 0, 9, BODY, 15, 13)),
+    ("another sum computed", 2, (SUM, 0, 9, BODY, 14, 12)),
+    ("the sums exchanged", 2, (SUM, 0, 9, BODY, 13, 14)),
+]
+
+
+def misread(place, decision):
+    """Whether the reader differs from this decision on a stream of REFUSED."""
+    data = bytes.fromhex(REFUSED[place][0])
+    return differs(None, data, lambda *_: [lambda at: len(data)], ([decision], [CLEAN, len(data)])) != ""
+
 
 def check(checks):
+    for place, (data, decision) in enumerate(REFUSED):
+        checks.test(f"the right decision on {data}", not misread(place, decision))
+    for name, place, decision in MISREAD:
+        checks.test(f"{name}: found by the comparison with the definitions", misread(place, decision))
     checks.test("the right text has no difference", difference(PIECES, TEXT) == "")
     for name, text in WRONG:
         checks.test(f"{name}: found in a text", difference(PIECES, text) != "")

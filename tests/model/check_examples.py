@@ -3,18 +3,23 @@ from checks import lines_of, text_of
 from driver import empty_output
 from listing import listing
 from reader import Reader, decided
-from stated_examples import HEADING, LIMITS, LISTED, LISTING, LISTINGS, READ, WIRE, WRITTEN, limit_steps, scripts
+from stated_examples import BREAKS, BROKEN, HEADING, LIMITS, LISTED, LISTING, LISTINGS, READ, REFUSED, WIRE, WRITTEN
+from stated_examples import limit_steps, played, scripts
 from wire import write_frame
 
 
 def model_reads(test):
-    for name, data, answer, *span in READ:
+    for name, data, answer, *values in READ:
         data = bytes.fromhex(data)
         found = Reader().feed(data)
-        test(f"the model reads {name}", found == [answer, len(data), *span], str(found))
-    reader = Reader()
-    found = [(answer, start, end) for answer, start, end, _ in decided(bytes.fromhex(LISTING), reader)]
-    test("the model reads the listing's example", found == LISTED and reader.finish() == [2, 25], str(found))
+        test(f"the model reads {name}", found == [answer, len(data), *values], str(found))
+    for data, *lines in REFUSED:
+        found = lines_of(played(bytes.fromhex(data), len(data)))
+        test(f"the model's lines of {data}", found == ["fresh", *lines], str(found))
+    for name, data, should in (("the listing's example", LISTING, LISTED), ("refused frames", BREAKS, BROKEN)):
+        reader, data = Reader(), bytes.fromhex(data)
+        found = [(answer, start, end, *values) for answer, start, end, _, *values in decided(data, reader)]
+        test(f"the model reads {name}", found == should and reader.finish() == [2, len(data)], str(found))
     for consumed, data, *lines in LIMITS:
         data = bytes.fromhex(data)
         found = lines_of(limit_steps(consumed, data))

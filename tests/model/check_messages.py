@@ -1,12 +1,15 @@
 """Messages: the model and the program against lines worked out by hand, then the program against the model."""
 import collections
 
+from answers import STUFF, STUFFLATE
 from checks import lines_of
 from driver import reply_step, stream_lines, stream_pieces, stream_script
 from message import LISTED
-from random_messages import STEPS, STREAMS, stream_of
+from random_messages import STEPS, STREAMS, broken_stuffing, stream_of
+from reader import Reader, decided
 from records import MAX_DATA
-from stated_messages import NAMED, STATED, steps, streams
+from reply import NOTHING, reply_to
+from stated_messages import NAMED, NO_REPLY, STATED, steps, streams
 
 
 def check_model(checks):
@@ -15,6 +18,9 @@ def check_model(checks):
         checks.test(f"the model: {name}", found == lines, str(found))
     for name, (_, lines), found in steps():
         checks.test(f"the model: {name}", [found] == lines, found)
+    for answer in NO_REPLY:
+        replied = [command for command in range(256) if reply_to(answer, [], command)[0] != NOTHING]
+        checks.test(f"the model: no reply to a frame refused by {answer}", not replied, str(replied))
 
 
 def stated(checks, program):
@@ -39,6 +45,8 @@ def random_streams(checks, program, seed, count):
                 seen[word] += 1
             elif word == "read":
                 seen["read", *rest.split(" ")[:2]] += 1
+        if family is broken_stuffing:
+            seen.update(answer for answer, *_ in decided(stream, Reader()))
         # The reader stays from record to record, wherever the stream is cut.
         _, wrong = program.compared(stream_script(stream, rand.choice([37, 500, MAX_DATA])), pieces)
         checks.test_random(f"the program: {place}", wrong)
@@ -49,6 +57,7 @@ def random_streams(checks, program, seed, count):
     missing = [command for command in LISTED if not seen["read", "0", str(command)]]
     checks.test("each listed command is read", not missing, f"missing {missing}")
     checks.test("a wrong sum is seen", seen["sum"] > 0)
+    checks.test("both answers to broken stuffing are seen", seen[STUFF] > 0 and seen[STUFFLATE] > 0)
 
 
 def random_steps(checks, program, seed, count):

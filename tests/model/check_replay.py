@@ -48,18 +48,21 @@ def by_definition(data):
 
 def definitions(checks, seed, count):
     checks.say_seed(seed, count, "capture")
-    with_frames = 0
+    with_frames, with_breaks = 0, 0
     for name, (family,), rand, share in shares(FAMILIES, seed, count):
         wrong = ""
         for _ in range(share):
             data = family(rand)
             found = replay(data)
             with_frames += "frame" in found[0]
+            with_breaks += " stufflate " in found[0]
             if found != by_definition(data):
                 wrong = wrong or f"{data[-400:].hex(' ')}: {found} by the readers, {by_definition(data)} by definition"
         checks.test(f"the model's replay: seed {seed}, {name}", not wrong, wrong)
     # Captures without frames would show nothing.
     checks.test("the model's replay: a quarter has frames", with_frames >= count // 4, f"{with_frames} of {count}")
+    enough = with_breaks >= count // 20
+    checks.test("the model's replay: a twentieth has a late break", enough, f"{with_breaks} of {count}")
 
 
 # Properties.

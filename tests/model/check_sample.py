@@ -56,7 +56,7 @@ def contents(checks, data, text):
     checks.test("the sample has volume 3, then volume 4", volumes == sorted(volumes) and set(volumes) == {3, 4})
     checks.test("the sample has the module's heartbeats and replies", {6, 7} <= set(module.commands()))
     kinds = [line.split()[1] for line in text.splitlines()[1:]]
-    checks.test("the sample has broken frames", {"sum", "cut", "stuff"} <= set(kinds), str(kinds))
+    checks.test("the sample has broken frames", {"sum", "cut", "stuff", "stufflate"} <= set(kinds), str(kinds))
     sizes = [sum(end - start for start, end, _ in sent.frames) for sent in (box, module)]
     checks.test("the sample has noise from both", sizes[0] < len(box.data) and sizes[1] < len(module.data))
 

@@ -6,18 +6,19 @@ import collections
 import itertools
 
 import definition
-from answers import CLEAN, CUT, FRAME, LONG, MORE, OPEN, SHORT, STATE, STUFF, SUM, USED
+from answers import CLEAN, CUT, FRAME, LONG, MORE, OPEN, SHORT, STATE, STUFF, STUFFLATE, SUM, USED
+from breaks import breaking_byte, broken_at, places, rest_of
 from checks import lines_of, shares
 from driver import Calls
 from reader import MAX_CONSUMED, Reader
 from records import MAX_DATA
-from wire import FF, HEADER, STUFFING, on_wire
+from wire import FF, HEADER, MAX_PAYLOAD, STUFFING, body_of, on_wire, stuff
 
 # A stream in calls; what a call leaves comes first in the next one (PROTOCOL 5.5).
 
 
 def in_calls(data, until):
-    """What is decided: answer, start, end, and the body of FRAME and SUM; and the answer of finish.
+    """What is decided, in the form of definition.answers_to; and the answer of finish.
 
     A call at a place is offered the bytes up to until(place). Its count is within PROTOCOL 5.2 and 5.11, and its end
     is that of PROTOCOL 5.8, or this raises ValueError.
@@ -25,14 +26,16 @@ def in_calls(data, until):
     reader, at, decided = Reader(), 0, []
     while at < len(data):
         offered = data[at : until(at)]
-        answer, count, *span = reader.feed(offered)
+        answer, count, *where = reader.feed(offered)
         if not 1 <= count <= len(offered):
             raise ValueError(f"the call at {at} answers {answer} and counts {count} of {len(offered)}")
         at += count
         if answer != MORE:
-            if span[1] != at:
-                raise ValueError(f"the counts add up to {at}, and the end is {span[1]}")
-            decided.append((answer, *span, reader.held() if answer in (FRAME, SUM) else None))
+            start, end, *values = where
+            if end != at:
+                raise ValueError(f"the counts add up to {at}, and the end is {end}")
+            body = reader.held() if answer in (FRAME, SUM) else None
+            decided.append((answer, start, end, body, *values))
     return decided, reader.finish()
 
 
@@ -54,7 +57,7 @@ def every_cut(_, data):
 
 def differs(rand, data, cuts, by_definition):
     """Where the reader and the definitions differ on a stream, or ''."""
-    frames = [(start, end, body) for answer, start, end, body in by_definition[0] if answer == FRAME]
+    frames = [tuple(values) for answer, *values in by_definition[0] if answer == FRAME]
     if frames != definition.frames(data):
         return f"frames {frames} by the stretches between headers, {definition.frames(data)} by trying each end"
     for until in cuts(rand, data):
@@ -72,10 +75,15 @@ def differs(rand, data, cuts, by_definition):
 FEW = [FF, FF, FF, STUFFING, 0, 5, 4, 7, 1]
 
 
-def some_frame(rand, most=6):
-    payload = bytes(rand.choice(FEW + [rand.randrange(256)]) for _ in range(rand.randint(0, most)))
+def some_body(rand, size):
+    """With a payload of that size."""
+    payload = bytes(rand.choice(FEW + [rand.randrange(256)]) for _ in range(size))
     command, number = (rand.choice(FEW + [rand.randrange(256)]) for _ in range(2))
-    return on_wire(command, number, rand.choice([0, 1, 0xFF, 0xFF55, 0xFFFF]), payload)
+    return body_of(command, number, rand.choice([0, 1, 0xFF, 0xFF55, 0xFFFF]), payload)
+
+
+def some_frame(rand, most=6):
+    return HEADER + stuff(some_body(rand, rand.randint(0, most)))
 
 
 def noise(rand, most):
@@ -121,6 +129,26 @@ def cut_short(rand):
     return some_frame(rand) + whole[: rand.randint(1, len(whole))] + some_frame(rand)
 
 
+def some_front(rand):
+    """What can come before a frame: noise, a frame, or a frame that its header cuts."""
+    whole = some_frame(rand)
+    return rand.choice([noise(rand, 5), whole, whole[: rand.randint(1, len(whole))]])
+
+
+def broken_stuffing(rand):
+    body = some_body(rand, rand.randint(0, 6))
+    place = rand.choice(places(body))
+    broken_off = broken_at(body, place, breaking_byte(rand))
+    return some_front(rand) + broken_off + rest_of(rand, body, place) + noise(rand, 3) + some_frame(rand)
+
+
+def broken_at_limit(rand):
+    """The longest frame or one byte less, broken at its sum or at any place."""
+    body = some_body(rand, MAX_PAYLOAD - rand.randint(0, 1))
+    place = rand.choice([len(body) - 1, len(body) - 2, rand.choice(places(body))])
+    return broken_at(body, place, breaking_byte(rand)) + some_frame(rand)
+
+
 def special_sum(rand):
     """Sums that are FF or 55, stuffed or not."""
     number = rand.choice([243, 244, 73, 72])
@@ -138,13 +166,15 @@ def tiny(rand):
 
 
 FAMILIES = [
-    ("few different bytes", few_bytes, some_cuts, 250),
-    ("frames between noise", between_noise, some_cuts, 200),
-    ("frames back to back", back_to_back, some_cuts, 150),
-    ("a frame with one byte wrong", broken, some_cuts, 180),
-    ("a frame cut short", cut_short, some_cuts, 130),
-    ("sums that are FF or 55", special_sum, some_cuts, 75),
+    ("few different bytes", few_bytes, some_cuts, 220),
+    ("frames between noise", between_noise, some_cuts, 170),
+    ("frames back to back", back_to_back, some_cuts, 120),
+    ("a frame with one byte wrong", broken, some_cuts, 160),
+    ("a frame cut short", cut_short, some_cuts, 110),
+    ("a frame with broken stuffing", broken_stuffing, some_cuts, 130),
+    ("sums that are FF or 55", special_sum, some_cuts, 70),
     ("lengths at the limit", at_limit, some_cuts, 5),
+    ("broken stuffing, lengths at the limit", broken_at_limit, some_cuts, 5),
     ("short streams, in every cut", tiny, every_cut, 10),
 ]
 
@@ -193,7 +223,7 @@ def random_calls(rand, data):
     return calls.steps
 
 
-SEEN = [("feed", answer) for answer in (MORE, FRAME, SHORT, LONG, STUFF, CUT, SUM, STATE, USED)]
+SEEN = [("feed", answer) for answer in (MORE, FRAME, SHORT, LONG, STUFF, STUFFLATE, CUT, SUM, STATE, USED)]
 SEEN += [("end", answer) for answer in (CLEAN, OPEN, STATE)]
 
 

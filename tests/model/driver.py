@@ -38,9 +38,9 @@ class Calls:
 
     def feed(self, offered):
         """One call: how many bytes it consumes."""
-        answer, count, *span = self.reader.feed(offered)
+        answer, count, *values = self.reader.feed(offered)
         held = in_hex(self.reader.held()) if answer in (FRAME, SUM) else ""
-        self.steps.append((record(FEED, offered), [words("feed", answer, count, *span) + held]))
+        self.steps.append((record(FEED, offered), [words("feed", answer, count, *values) + held]))
         return count
 
     def finish(self):
@@ -91,7 +91,7 @@ def sum_lines(body):
 def stream_pieces(stream):
     """The stretches of a stream up to the end of each FRAME or SUM, with their lines; then what is left."""
     at = 0
-    for answer, _, end, body in decided(stream, Reader()):
+    for answer, _, end, body, *_ in decided(stream, Reader()):
         if answer in (FRAME, SUM):
             yield stream[at:end], frame_lines(body) if answer == FRAME else sum_lines(body)
             at = end

@@ -7,12 +7,12 @@ import pathlib
 import re
 import sys
 
-from answers import CLEAN, CUT, FRAME, LONG, SHORT, STUFF, SUM
+from answers import CLEAN, CUT, FRAME, LONG, SHORT, STUFF, STUFFLATE, SUM
 from reader import Reader, decided
 from wire import number_of
 
 HEADING = "kind start end cmd sn flags payload"
-WORDS = {FRAME: "frame", SHORT: "short", LONG: "long", STUFF: "stuff", CUT: "cut", SUM: "sum"}
+WORDS = {FRAME: "frame", SHORT: "short", LONG: "long", STUFF: "stuff", STUFFLATE: "stufflate", CUT: "cut", SUM: "sum"}
 
 
 def hex_bytes(text):
@@ -20,7 +20,8 @@ def hex_bytes(text):
     return bytes.fromhex(re.sub("#.*", "", text))
 
 
-def line(answer, start, end, body):
+def line(answer, start, end, body, *_):
+    """PROTOCOL 10.4 and 10.5: the further values are not printed."""
     columns = "- - - -"
     if answer == FRAME:
         columns = f"{body[2]} {body[3]} {number_of(body[4:6])} {len(body) - 7}"
@@ -35,7 +36,7 @@ def end_line(reader):
 def lines_and_end(data):
     """The lines between heading and last line, each with the place after its deciding byte; and the last line."""
     reader = Reader()
-    lines = [(end, line(answer, start, end, body)) for answer, start, end, body in decided(data, reader)]
+    lines = [(found[2], line(*found)) for found in decided(data, reader)]
     return lines, end_line(reader)
 
 

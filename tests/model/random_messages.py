@@ -4,6 +4,7 @@ A family of streams has its rounds, and a share in a thousand. A round is all th
 """
 import itertools
 
+from breaks import breaking_byte, broken_at, places, rest_of
 from driver import empty_output, message_step, reply_step
 from message import CONTROL, EMPTY, LISTED, QUERY, REPORT, STATUS, write_message
 from wire import FF, HEADER, STUFFING, body_of, in_bytes, stuff, on_wire
@@ -101,9 +102,13 @@ def plausible(rand, command, size):
     return bytes(payload[:size])
 
 
-def framed(rand, command, payload):
+def some_body(rand, command, payload):
     number = rand.choice([0, 1, FF, STUFFING, rand.randrange(256)])
-    return on_wire(command, number, rand.choice([0, 0, 1, FF, 0xFF55, 0xFFFF, rand.randrange(65536)]), payload)
+    return body_of(command, number, rand.choice([0, 0, 1, FF, 0xFF55, 0xFFFF, rand.randrange(65536)]), payload)
+
+
+def framed(rand, command, payload):
+    return HEADER + stuff(some_body(rand, command, payload))
 
 
 # The families of streams.
@@ -229,6 +234,15 @@ def wrong_sums(rand):
         yield HEADER + stuff(body)
 
 
+def broken_stuffing(rand):
+    """Each kind of message whole, and with its stuffing broken at some place: only the whole one has lines."""
+    for command, payload in messages(rand):
+        yield framed(rand, command, payload)
+        body = some_body(rand, command, payload)
+        place = rand.choice(places(body))
+        yield broken_at(body, place, breaking_byte(rand)) + rest_of(rand, body, place)
+
+
 def noise(rand, most):
     return bytes(rand.choices(EDGES + bytes([5, 7]), k=rand.randrange(most)))
 
@@ -248,7 +262,7 @@ def between_noise(rand):
 
 
 STREAMS = [
-    ("every command, sizes near the listed ones", every_command, 130),
+    ("every command, sizes near the listed ones", every_command, 110),
     ("listed commands, each size", each_size, 20),
     ("valid messages of each kind", each_kind, 110),
     ("messages with one bit changed", one_bit_changed, 110),
@@ -262,7 +276,8 @@ STREAMS = [
     ("the longest payloads", longest, 40),
     ("payloads full of FF", all_ff, 60),
     ("wrong sums", wrong_sums, 40),
-    ("messages between noise", between_noise, 100),
+    ("broken stuffing", broken_stuffing, 40),
+    ("messages between noise", between_noise, 80),
 ]
 MAX_SIZE = 65000  # bytes of a stream
 

@@ -1,8 +1,9 @@
 """The reader: what each byte does (PROTOCOL 3) and what each call answers (PROTOCOL 4)."""
-from answers import CLEAN, CUT, FRAME, LONG, MORE, OPEN, SHORT, STATE, STUFF, SUM, USED
+from answers import CLEAN, CUT, FRAME, LONG, MORE, OPEN, SHORT, STATE, STUFF, STUFFLATE, SUM, USED
 from wire import FF, LIMIT, MIN_LENGTH, STUFFING, number_of
 
 MAX_CONSUMED = 2**62  # PROTOCOL 4.18
+LATE = 6  # body bytes, from which on a break is STUFFLATE (PROTOCOL 4.6)
 
 
 class Reader:
@@ -31,8 +32,8 @@ class Reader:
         for count, byte in enumerate(offered, 1):
             decided = self.step(byte)
             if decided:
-                answer, start = decided
-                return [answer, count, start, self.consumed]
+                answer, start, *values = decided
+                return [answer, count, start, self.consumed, *values]
         return [MORE, len(offered)]
 
     def finish(self):
@@ -47,7 +48,7 @@ class Reader:
         return bytes(self.body[: number_of(self.body[:2]) + 2])
 
     def step(self, byte):
-        """One byte on the wire: None, or what it decides and the start of the frame that this is about."""
+        """One byte on the wire: None, or what it decides: the answer, the start of its frame, its further values."""
         previous, self.previous = self.previous, byte
         self.consumed += 1
         if byte == FF and previous == FF:
@@ -58,7 +59,7 @@ class Reader:
             return None  # PROTOCOL 3.8
         if previous == FF and not self.at_header:
             if byte != STUFFING:
-                return self.close(STUFF)  # PROTOCOL 3.11
+                return self.close(STUFF if self.body_len < LATE else STUFFLATE, byte)  # PROTOCOL 3.11, 4.19
             byte = FF  # PROTOCOL 3.9
         self.at_header = False
         return self.body_byte(byte)
@@ -69,13 +70,13 @@ class Reader:
         self.start, self.at_header, self.body_len = self.consumed - 2, True, 0
         return (CUT, cut) if cut is not None and not moved else None
 
-    def close(self, answer):
+    def close(self, answer, *values):
         """No frame is open any more (PROTOCOL 3.16)."""
         start, self.start, self.at_header, self.body_len = self.start, None, False, 0
-        return answer, start
+        return answer, start, *values
 
     def body_byte(self, byte):
-        """A body byte goes to its place (PROTOCOL 3.2) and can decide something (PROTOCOL 3.12 to 3.14)."""
+        """A body byte goes to its place (PROTOCOL 3.2) and can decide something (PROTOCOL 3.12 to 3.14, 4.20)."""
         self.body[self.body_len] = byte
         self.body_len += 1
         if self.body_len < 2:
@@ -87,13 +88,18 @@ class Reader:
             return self.close(LONG)
         if self.body_len < length + 2:
             return None
-        return self.close(FRAME if sum(self.body[: length + 1]) % 256 == byte else SUM)
+        computed = sum(self.body[: length + 1]) % 256
+        return self.close(FRAME) if computed == byte else self.close(SUM, byte, computed)
 
 
 def decided(stream, reader):
-    """What a reader decides on a whole stream: answer, start, end and, of FRAME and SUM, the body held."""
+    """What a reader decides on a whole stream: answer, start, end, the body held, further values.
+
+    The body is that of FRAME and SUM, else None. The further values are those of PROTOCOL 4.19 and 4.20.
+    """
     for byte in stream:
         found = reader.step(byte)
         if found:
-            answer, start = found
-            yield answer, start, reader.consumed, reader.held() if answer in (FRAME, SUM) else None
+            answer, start, *values = found
+            body = reader.held() if answer in (FRAME, SUM) else None
+            yield answer, start, reader.consumed, body, *values

@@ -1,18 +1,22 @@
 """What the box replies to a received frame (PROTOCOL 8.2 to 8.10)."""
-from answers import COMMAND, FIELD, SIZE, SUM
+from answers import COMMAND, CUT, FIELD, LONG, SHORT, SIZE, STUFF, STUFFLATE, SUM
 from message import CONTROL
 
 NOTHING, WANTED, SENT = "nothing", "wanted", "sent"
 INFORMATION, STATUS = 0x02, 0x04  # what the caller is asked to send where it is WANTED
 REJECTION = 0x12
+UNANSWERED = SHORT, LONG, STUFF, STUFFLATE, CUT  # refused frames that get no reply (PROTOCOL 8.10)
 BOX_SENDS = bytes.fromhex("02 04 05 08 09 0B 0E 10 12 13 15 17 1A 1B 1E 20 27 29")
 
 
 def reply_to(answer, values, command):
     """What is to be done, with the command and payload that the box sends, or the command that is wanted.
 
-    `answer` is SUM, or that of reading the message; `values` are the message's where it is DONE.
+    `answer` is the reader's where it refuses the frame, else that of reading the message; `values` are the message's
+    where it is DONE.
     """
+    if answer in UNANSWERED:
+        return NOTHING, 0, b""
     if answer == SUM:
         return SENT, REJECTION, bytes([1])
     if answer == COMMAND or command in BOX_SENDS:

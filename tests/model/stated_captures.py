@@ -44,7 +44,8 @@ WHOLE = [
         "each kind of line, both directions in turn",
         f"{HEAD} 01 FF FF FF FF 00 04 FF FF 00 04  00 FF FF FF FF 00 04 FF FF 04 01"
         " 01 00 00 00 00 00 07 FF FF 00 05 07 FF 00  00 00 00 00 00 00 06 FF FF 00 05 FF FF"
-        f" 01 00 00 00 00 00 09 {HEARTBEAT[:-2]}0E  00 00 00 00 00 00 07 00 05 07 01 00 00 0D",
+        f" 01 00 00 00 00 00 09 {HEARTBEAT[:-2]}0E  00 00 00 00 00 00 07 00 05 07 01 00 00 0D"
+        " 01 00 00 00 00 00 0A FF FF 00 05 07 01 00 00 FF 00",
         [
             "1 short 0 4 - - - -",
             "0 long 0 4 - - - -",
@@ -52,9 +53,22 @@ WHOLE = [
             "0 cut 4 10 - - - -",
             "1 sum 11 20 - - - -",
             "0 frame 8 17 7 1 0 0",
+            "1 stufflate 20 30 - - - -",
             "0 clean 17",
-            "1 clean 20",
+            "1 clean 30",
         ],
+    ),
+    (
+        "a late break over two records, a heartbeat of the other direction between them",
+        f"{HEAD} 01 00 00 00 00 00 09 FF FF 00 05 07 01 00 00 FF  00 00 00 00 00 00 09 {HEARTBEAT}"
+        " 01 00 00 00 00 00 01 54",
+        ["0 frame 0 9 7 1 0 0", "1 stufflate 0 10 - - - -", "0 clean 9", "1 clean 10"],
+    ),
+    (
+        "both directions break: each counts its own body bytes, 5 and 6",
+        f"{HEAD} 00 00 00 00 00 00 07 FF FF 00 05 07 01 00  01 00 00 00 00 00 08 FF FF 00 05 07 01 00 00"
+        " 00 00 00 00 00 00 01 FF  01 00 00 00 00 00 01 FF  00 00 00 00 00 00 01 00  01 00 00 00 00 00 01 00",
+        ["0 stuff 0 9 - - - -", "1 stufflate 0 10 - - - -", "0 clean 9", "1 clean 10"],
     ),
     (
         "a record of 256 bytes",

@@ -4,6 +4,7 @@ With a stream of each kind of message they are the second part of the driver's s
 """
 import pathlib
 
+from answers import CUT, LONG, SHORT, STUFF, STUFFLATE
 from driver import message_step, reply_step, stream_lines
 from message import CONTROL, QUERY, REPORT, STATUS
 from records import NAMES, record
@@ -47,7 +48,17 @@ STATED = [
     ("example 6, length 4", "FF FF 00 04"),
     ("example 7, length 1025", "FF FF 04 01"),
     ("example 8", "FF FF FF 55 00"),
-    ("example 9", "FF FF 00 05 07 FF 00"),
+    ("example 9, broken stuffing, gets no reply", "FF FF 00 05 07 FF 00"),
+    ("broken stuffing at the sum gets no reply", "FF FF 00 05 07 01 00 00 FF 00"),
+    ("broken stuffing in a payload gets no reply", "FF FF 00 0E 05 02 00 00 04 05 00 03 00 00 00 FF 00 20"),
+    (
+        "broken stuffing at the sum, then example 1: one reply",
+        "FF FF 00 05 0F 09 00 00 FF 54 FF FF 00 05 07 01 00 00 0D",
+        "frame 7 1 0 0",
+        "read 0 7",
+        "write 0 9 : ff ff 00 05 07 01 00 00 0d",
+        "answer 0 9 : ff ff 00 05 08 01 00 00 0e",
+    ),
     (
         "example 10, a wrong sum, gets code 1",
         "FF FF 00 05 07 01 00 00 0E",
@@ -263,6 +274,8 @@ REPLIES = [
     ("reply, one byte of room too few", "answer 22 0 : aa aa aa", 0x07, 9, b"", 8),
     ("reply, just enough room", "answer 0 9 : ff ff 00 05 08 09 00 00 16", 0x07, 9, b"", 9),
 ]
+# Refused frames that get no reply, whatever their command is (PROTOCOL 8.10).
+NO_REPLY = SHORT, LONG, STUFF, CUT, STUFFLATE
 # Modes, ways and codes (PROTOCOL 7.11, 7.13 and the picture before 7.17).
 NAMED = record(NAMES), ["names 0 1 2 1 2 1 2 3 4"]
 

@@ -1,6 +1,6 @@
 -- One body byte of an open frame: the body goes on, or is complete, or is refused; never two of these. Assumes nothing.
 use Prim.Native.Nat.{ℕ, _+_, _*_, _%_, _^_, _≤_, _<_}
-use mathlib.Core.Path.{_≡_, sym, ap, _∙_}
+use mathlib.Core.Path.{_≡_, sym, ap, subst, _∙_}
 use mathlib.Core.List.{List, [], _∷_, _++_}
 use mathlib.Core.Bool.{true, cond}
 use mathlib.Core.Logic.{_≢_}
@@ -9,13 +9,13 @@ use lib.ListN.{length, getD, take, length-append, List·getD-append}
 use lib.Seq.{getD-at, getD-take, take-at, length-take-le}
 use lib.Dec.{eqb, ltb}
 use borrow.Author.Tests.{eqb-true, eqb-false, eq-eqb, ne-eqb, ltb-true, ltb-false, lt-ltb, le-ltb}
-use Rattle.frame.specs.Wire.{lengthOf, Good}
+use Rattle.frame.specs.Wire.{lengthOf, headSize, foundSum, computedSum, Good}
 use Rattle.base.specs.Sums.{total, checksum}
 use Rattle.frame.specs.Frames.{frontBody}
-use Rattle.frame.specs.Decisions.{Unfinished}
-use Rattle.frame.specs.Rules.{grownOf, endedOf, completedOf, bodyByteOf, putOf}
+use Rattle.frame.specs.Decisions.{Unfinished, WrongSum}
+use Rattle.frame.specs.Rules.{grownOf, endedOf, completedOf, bodyByteOf, brokenOf, putOf}
 use Rattle.frame.specs.declared.scan.Verdict.{Verdict}
-use Rattle.frame.specs.declared.scan.Verdict.the-variants.{Frame, Short, Long, Stuff, Cut, Sum}
+use Rattle.frame.specs.declared.scan.Verdict.the-variants.{Frame, Short, Long, Stuff, StuffLate, Sum}
 use Rattle.frame.specs.State.{Scan, Step}
 use Rattle.base.proofs.Tests.{by-test}
 use Rattle.base.proofs.Sums.{checksum-snoc}
@@ -32,52 +32,44 @@ pub record Partial (limit h l m : ℕ) (b : List ℕ) : Type 0 where
   pub under : h < lengthOf b + 2
   pub bounds : 2 ≤ h → (5 ≤ lengthOf b) × (lengthOf b ≤ limit)
 
--- the sum that a body has, and the one that it should have
-abbrev pub sumIn : List ℕ → ℕ
-sumIn b = getD b (lengthOf b + 1) 0
-
-abbrev pub sumDue : List ℕ → ℕ
-sumDue b = checksum (take (lengthOf b + 1) b)
-
--- what the body b is, whose last byte decides so
-abbrev pub Ends : ℕ → List ℕ → Verdict → Type 0
-Ends limit b Frame = Good limit b
-Ends limit b Short = (length b ≡ 2) × (lengthOf b < 5)
-Ends limit b Long = (length b ≡ 2) × (getD b 0 0 ≢ 255) × (5 ≤ lengthOf b) × (limit < lengthOf b)
-Ends limit b Stuff = ⊥
-Ends limit b Cut = ⊥
-Ends limit b Sum = (length b ≡ lengthOf b + 2) × (5 ≤ lengthOf b) × (lengthOf b ≤ limit) × (sumIn b ≢ sumDue b)
+-- the verdict of a body b whose last byte decides
+pub data Ends (limit : ℕ) (b : List ℕ) : Verdict → Type 0 where
+  ends-frame : Good limit b → Ends limit b Frame
+  ends-short : length b ≡ 2 → lengthOf b < 5 → Ends limit b Short
+  ends-long : length b ≡ 2 → getD b 0 0 ≢ 255 → 5 ≤ lengthOf b → limit < lengthOf b → Ends limit b Long
+  ends-sum : WrongSum limit b → Ends limit b (Sum (foundSum b) (computedSum b))
 
 module _ (limit : ℕ) (b : List ℕ) where
-  pub never-both : (e : Verdict) → Ends limit b e → Unfinished limit b → ⊥
-  never-both Frame p u = omega (arith, p .true-length, u .under)
-  never-both Short p u = let two : 2 ≤ length b = omega (arith, p .0) in omega (arith, u .bounds two .0, p .1)
-  never-both Long p u = let two : 2 ≤ length b = omega (arith, p .0) in omega (arith, u .bounds two .1, p .3)
-  never-both Stuff p u = p
-  never-both Cut p u = p
-  never-both Sum p u = omega (arith, p .0, u .under)
+  pub never-both : {e : Verdict} → Ends limit b e → Unfinished limit b → ⊥
+  never-both (ends-frame g) u = omega (arith, g .true-length, u .under)
+  never-both (ends-short n l) u = let two : 2 ≤ length b = omega arith in omega (arith, u .bounds two .0)
+  never-both (ends-long n f five l) u = let two : 2 ≤ length b = omega arith in omega (arith, u .bounds two .1)
+  never-both (ends-sum w) u = omega (arith, w .true-length, u .under)
 
   -- the only verdict that a body can end in
   abbrev ending : Verdict
   ending =
-      cond (ltb (lengthOf b) 5) Short (cond (ltb limit (lengthOf b)) Long (cond (eqb (sumIn b) (sumDue b)) Frame Sum))
+      cond (ltb (lengthOf b) 5) Short (cond (ltb limit (lengthOf b)) Long
+      (cond (eqb (foundSum b) (computedSum b)) Frame (Sum (foundSum b) (computedSum b))))
 
-  ends-in : (e : Verdict) → Ends limit b e → ending ≡ e
-  ends-in Frame p =
+  ends-in : {e : Verdict} → Ends limit b e → ending ≡ e
+  ends-in (ends-frame g) =
       rw (
-        le-ltb (lengthOf b) 5 (p .shortest),
-        le-ltb limit (lengthOf b) (p .longest),
-        eq-eqb (sumIn b) (sumDue b) (p .sum-holds),
+        le-ltb (lengthOf b) 5 (g .shortest),
+        le-ltb limit (lengthOf b) (g .longest),
+        eq-eqb (foundSum b) (computedSum b) (g .sum-holds),
       )
-  ends-in Short p = rw (lt-ltb (lengthOf b) 5 (p .1))
-  ends-in Long p = rw (le-ltb (lengthOf b) 5 (p .2), lt-ltb limit (lengthOf b) (p .3))
-  ends-in Stuff p = absurd p
-  ends-in Cut p = absurd p
-  ends-in Sum p =
-      rw (le-ltb (lengthOf b) 5 (p .1), le-ltb limit (lengthOf b) (p .2), ne-eqb (sumIn b) (sumDue b) (p .3))
+  ends-in (ends-short n l) = rw (lt-ltb (lengthOf b) 5 l)
+  ends-in (ends-long n f five l) = rw (le-ltb (lengthOf b) 5 five, lt-ltb limit (lengthOf b) l)
+  ends-in (ends-sum w) =
+      rw (
+        le-ltb (lengthOf b) 5 (w .shortest),
+        le-ltb limit (lengthOf b) (w .longest),
+        ne-eqb (foundSum b) (computedSum b) (w .sum-fails),
+      )
 
-  pub same-end : (d e : Verdict) → Ends limit b d → Ends limit b e → d ≡ e
-  same-end d e p q = sym (ends-in d p) ∙ ends-in e q
+  pub same-end : {d e : Verdict} → Ends limit b d → Ends limit b e → d ≡ e
+  same-end p q = sym (ends-in p) ∙ ends-in q
 
 pub unfinished-of : {limit h l m : ℕ} {b : List ℕ} → Partial limit h l m b → 1 ≤ length b → Unfinished limit b
 unfinished-of p some =
@@ -127,6 +119,12 @@ whole-held body h v k full =
     let all : lengthOf b + 2 ≡ h + 1 = omega arith in
     ap (λ (j : ℕ). take j b) all ∙ stored body h v k
 
+-- a byte that breaks the stuffing, by the count of body bytes
+pub broken-cases : (P : Verdict → Type 0) (filled x : ℕ) → (filled < headSize → P (Stuff x))
+    → (headSize ≤ filled → P (StuffLate x)) → P (brokenOf filled x)
+broken-cases P filled x early late =
+    by-test P (ltb filled headSize) (λ t. early (ltb-true filled headSize t)) (λ t. late (ltb-false filled headSize t))
+
 -- the byte v, after the body bytes b so far
 module _ {limit : ℕ} {b : List ℕ} (s : Scan) (p : Partial limit (s .filled) (s .length) (s .sum) b) (v : ℕ)
     (first : getD (b ++ v ∷ []) 0 0 ≢ 255) where
@@ -156,15 +154,22 @@ module _ {limit : ℕ} {b : List ℕ} (s : Scan) (p : Partial limit (s .filled) 
     completed e two =
         let lo : lengthOf grown ≡ lengthOf b = length-on two in
         let full : length grown ≡ lengthOf grown + 2 = omega (arith, size p v) in
-        let last : sumIn grown ≡ v = getD-at b v [] 0 (lengthOf grown + 1) (omega (arith, p .count)) in
-        let due : sumDue grown ≡ s .sum =
+        let last : foundSum grown ≡ v = getD-at b v [] 0 (lengthOf grown + 1) (omega (arith, p .count)) in
+        let due : computedSum grown ≡ s .sum =
         ap checksum (take-at b (v ∷ []) (lengthOf grown + 1) (omega (arith, p .count))) ∙ sym (p .summed) in
         let five : 5 ≤ lengthOf grown = omega (arith, p .bounds two .0) in
         let longest : lengthOf grown ≤ limit = omega (arith, p .bounds two .1) in
         by-test P (eqb v (s .sum))
-        (λ q. ends Frame (record
-        { true-length = full; shortest = five; longest = longest; sum-holds = last ∙ eqb-true v (s .sum) q ∙ sym due }))
-        (λ q. ends Sum (full, five, longest, (λ k. eqb-false v (s .sum) q (sym last ∙ k ∙ due))))
+        (λ q. ends Frame (ends-frame (record
+        { true-length = full; shortest = five; longest = longest; sum-holds = last ∙ eqb-true v (s .sum) q ∙ sym due })))
+        (λ q. subst (λ (k : ℕ). P (endedOf s v (Sum k (s .sum)))) last
+        (subst (λ (k : ℕ). P (endedOf s v (Sum (foundSum grown) k))) due
+        (ends (Sum (foundSum grown) (computedSum grown)) (ends-sum (record {
+          true-length = full;
+          shortest = five;
+          longest = longest;
+          sum-fails = λ k. eqb-false v (s .sum) q (sym last ∙ k ∙ due);
+        })))))
 
     pub body-cases : P (bodyByteOf limit s v)
     body-cases =
@@ -187,11 +192,11 @@ module _ {limit : ℕ} {b : List ℕ} (s : Scan) (p : Partial limit (s .filled) 
         let e : l ≡ lengthOf grown = measured h1 in
         let two : length grown ≡ 2 = omega (arith, size p v) in
         by-test P (ltb l 5)
-        (λ d. ends Short (two, (rw e at (ltb-true l 5 d))))
+        (λ d. ends Short (ends-short two (rw e at (ltb-true l 5 d))))
         (λ d.
         let low : 5 ≤ lengthOf grown = rw e at (ltb-false l 5 d) in
         by-test P (ltb limit l)
-        (λ f. ends Long (two, first, low, (rw e at (ltb-true limit l f))))
+        (λ f. ends Long (ends-long two first low (rw e at (ltb-true limit l f))))
         (λ f.
         let top : lengthOf grown ≤ limit = rw e at (ltb-false limit l f) in
         continues l (omega arith) (record {

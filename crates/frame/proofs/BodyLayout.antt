@@ -6,7 +6,7 @@ use native.Mathlib.Omega.{arith}
 use lib.ListN.{length, length-append}
 use lib.Seq.{getD-at, take-at, take-all}
 use Rattle.base.specs.Sums.{total, checksum}
-use Rattle.frame.specs.Wire.{lengthOf, Good}
+use Rattle.frame.specs.Wire.{lengthOf, foundSum, computedSum, Good}
 use Rattle.frame.specs.BodyLayout.{BodyLayouts, AllChunksJoined}
 
 module _ (b0 b1 b2 b3 b4 b5 s : ℕ) (p : List ℕ) where
@@ -24,14 +24,20 @@ module _ (b0 b1 b2 b3 b4 b5 s : ℕ) (p : List ℕ) where
   size : b0 * 256 + b1 ≡ length p + 5 → length head ≡ lengthOf body + 1
   size e = omega arith
 
+  -- the sum found, and the sum computed
+  found : b0 * 256 + b1 ≡ length p + 5 → foundSum body ≡ s
+  found e = getD-at head s [] 0 (lengthOf body + 1) (size e)
+
+  computed : b0 * 256 + b1 ≡ length p + 5 → computedSum body ≡ checksum head
+  computed e = ap checksum (take-at head (s ∷ []) (lengthOf body + 1) (size e))
+
   good : (limit : ℕ) → b0 * 256 + b1 ≡ length p + 5 → length p + 5 ≤ limit → s ≡ checksum head → Good limit body
   good limit e fits holds =
       record {
         true-length = omega (arith, length-append head (s ∷ []));
         shortest = omega arith;
         longest = omega arith;
-        sum-holds = getD-at head s [] 0 (lengthOf body + 1) (size e) ∙ holds
-            ∙ ap checksum (sym (take-at head (s ∷ []) (lengthOf body + 1) (size e)));
+        sum-holds = found e ∙ holds ∙ sym (computed e);
       }
 
   good-parts : (limit : ℕ) → Good limit body
@@ -40,8 +46,7 @@ module _ (b0 b1 b2 b3 b4 b5 s : ℕ) (p : List ℕ) where
       let e : b0 * 256 + b1 ≡ length p + 5 = omega (arith, g .true-length, length-append head (s ∷ [])) in (
         e,
         omega (arith, g .longest),
-        sym (getD-at head s [] 0 (lengthOf body + 1) (size e)) ∙ g .sum-holds
-            ∙ ap checksum (take-at head (s ∷ []) (lengthOf body + 1) (size e)),
+        sym (found e) ∙ g .sum-holds ∙ computed e,
       )
 
 pub body-layout : BodyLayouts
@@ -53,6 +58,8 @@ body-layout b0 b1 b2 b3 b4 b5 s p r =
       flags-at = refl;
       payload-at = refl;
       payload-whole = λ e. take-at p (s ∷ []) (b0 * 256 + b1 - 5) (omega arith);
+      sums-at = λ e.
+          (found b0 b1 b2 b3 b4 b5 s p e, computed b0 b1 b2 b3 b4 b5 s p e ∙ sum-left b0 b1 b2 b3 b4 b5 s p);
       good-when = λ limit e fits holds. good b0 b1 b2 b3 b4 b5 s p limit e fits
           (holds ∙ sym (sum-left b0 b1 b2 b3 b4 b5 s p));
       good-only = λ limit g.

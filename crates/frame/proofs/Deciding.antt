@@ -13,28 +13,27 @@ use lib.Dec.{eqb}
 use borrow.Author.Tests.{eqb-true, eqb-false}
 use Rattle.frame.specs.Wire.{wire, lengthOf}
 use Rattle.frame.specs.Frames.{frontBody}
-use Rattle.frame.specs.Decisions.{Decides, is-frame, is-short, is-long, is-stuff, is-cut, is-sum, Decision}
-use Rattle.frame.specs.Decisions.{IsDecision, DecisionsFrom}
+use Rattle.frame.specs.Decisions.{Breaks, Decides, is-frame, is-short, is-long, is-stuff, is-stuff-late, is-cut}
+use Rattle.frame.specs.Decisions.{is-sum, Decision, IsDecision, DecisionsFrom}
 use Rattle.frame.specs.Logs.{bodyHeld}
-use Rattle.frame.specs.Table.{verdictNumber}
-use Rattle.frame.specs.Rules.{bodyByteOf, onFFIn, onOtherIn, advanceOf, decidesOf, putOf}
+use Rattle.frame.specs.Table.{verdictNumber, verdictValues}
+use Rattle.frame.specs.Rules.{bodyByteOf, brokenOf, onFFIn, onOtherIn, advanceOf, decidesOf, putOf}
 use Rattle.frame.specs.Calls.{nextOf}
 use Rattle.frame.specs.State.{Phase, Idle, Half, Header, Open, Escape, Scan, Step, State}
 use Rattle.frame.specs.declared.scan.Event.{Event}
 use Rattle.frame.specs.declared.scan.Event.the-variants.{Quiet}
 use Rattle.frame.specs.declared.scan.Verdict.{Verdict}
-use Rattle.frame.specs.declared.scan.Verdict.the-variants.{Frame, Short, Long, Stuff, Cut, Sum}
 use Rattle.base.proofs.Tests.{by-test}
 use Rattle.frame.proofs.Moves.{held, pending, pendingIn, origin, originIn, Inv, InvIn, after, moves, wire-snoc}
 use Rattle.frame.proofs.Moves.{wire-ff, wire-none, wire-wait}
-use Rattle.frame.proofs.Bodies.{Partial, partial-none, first-on, Ends, unfinished-of, whole-held}
+use Rattle.frame.proofs.Bodies.{Partial, partial-none, first-on, Ends, ends-frame, ends-short, ends-long}
+use Rattle.frame.proofs.Bodies.{ends-sum, unfinished-of, whole-held, body-cases, broken-cases}
 use Rattle.frame.proofs.Puts.{stored}
-use Rattle.frame.proofs.Bodies.{body-cases}
-use Rattle.frame.proofs.Fold.{eventCode, decisionAt, afterAll, decidedAll}
+use Rattle.frame.proofs.Fold.{eventCode, eventValues, decisionAt, afterAll, decidedAll}
 
 -- the bytes `raw`, from place o on, for which e is decided; `gone` are those that are not pending any more
 pub record Answered (limit o : ℕ) (raw gone : List ℕ) (r : State) (e : Event) (held : List ℕ) : Type 0 where
-  pub decides : Decides limit raw (eventCode e) (bodyHeld (eventCode e) held)
+  pub decides : Decides limit raw (eventCode e) (eventValues e) (bodyHeld (eventCode e) held)
   pub starts : r .scan .start ≡ o
   pub rises : 1 ≤ length gone
 
@@ -49,15 +48,16 @@ quiet : {limit o : ℕ} {raw : List ℕ} {r : State} {s : Step}
     → s .event ≡ Quiet → (gone : List ℕ) → raw ≡ gone ++ pending (after r s) → Shows limit o raw r s
 quiet q gone e = record { gone = gone; bytes = e; decision = λ d. absurd (true≢false (sym d ∙ ap decidesOf q)) }
 
-body-decides : (limit : ℕ) (b held : List ℕ) {raw : List ℕ} (e : Verdict)
-    → Ends limit b e → raw ≡ wire b → (length b ≡ lengthOf b + 2 → frontBody held ≡ b)
-    → Decides limit raw (verdictNumber e) (bodyHeld (verdictNumber e) held)
-body-decides limit b held Frame p q w = is-frame b refl (w (p .true-length)) q p
-body-decides limit b held Short p q w = is-short b refl refl q (p .0) (p .1)
-body-decides limit b held Long p q w = is-long b refl refl q (p .0) (p .1) (p .2) (p .3)
-body-decides limit b held Stuff p q w = absurd p
-body-decides limit b held Cut p q w = absurd p
-body-decides limit b held Sum p q w = is-sum b refl (w (p .0)) q (p .0) (p .1) (p .2) (p .3)
+-- the bytes `raw` end in this verdict
+abbrev Ending : ℕ → List ℕ → Verdict → List ℕ → Type 0
+Ending limit raw e held = Decides limit raw (verdictNumber e) (verdictValues e) (bodyHeld (verdictNumber e) held)
+
+body-decides : (limit : ℕ) (b held : List ℕ) {raw : List ℕ} {e : Verdict}
+    → Ends limit b e → raw ≡ wire b → (length b ≡ lengthOf b + 2 → frontBody held ≡ b) → Ending limit raw e held
+body-decides limit b held (ends-frame g) q w = is-frame b refl refl (w (g .true-length)) q g
+body-decides limit b held (ends-short n l) q w = is-short b refl refl refl q n l
+body-decides limit b held (ends-long n f five l) q w = is-long b refl refl refl q n f five l
+body-decides limit b held (ends-sum s) q w = is-sum b refl refl (w (s .true-length)) q s
 
 -- a byte of the state r, by phase
 module _ (limit : ℕ) (r : State) (room : length (r .body) ≡ limit + 2) (inside : r .scan .filled ≤ limit + 1) where
@@ -79,7 +79,7 @@ module _ (limit : ℕ) (r : State) (room : length (r .body) ≡ limit + 2) (insi
         bytes = sym (append-nil raw);
         decision = λ d. record {
           decides =
-              body-decides limit (b ++ v ∷ []) (putOf true (r .body) h v) e′ q e
+              body-decides limit (b ++ v ∷ []) (putOf true (r .body) h v) q e
               (whole-held (r .body) h v (omega arith));
           starts = refl;
           rises = omega (arith, ap length e);
@@ -96,12 +96,26 @@ module _ (limit : ℕ) (r : State) (room : length (r .body) ≡ limit + 2) (insi
         gone = wire b;
         bytes = wire-wait b (255 ∷ []);
         decision = λ d. record {
-          decides = is-cut b refl refl (wire-wait b (255 ∷ []))
+          decides = is-cut b refl refl refl (wire-wait b (255 ∷ []))
               (unfinished-of (i .part) (i .some-byte));
           starts = refl;
           rises = omega arith;
         };
       }
+
+  -- broken stuffing, by the count of body bytes
+  broken-decides : (x : ℕ) (held : List ℕ) → InvIn limit Escape (r .scan) b → x ≢ 85 → x ≢ 255
+      → Ending limit ((wire b ++ 255 ∷ []) ++ x ∷ []) (brokenOf (r .scan .filled) x) held
+  broken-decides x held i k n =
+      let broken : Breaks limit ((wire b ++ 255 ∷ []) ++ x ∷ []) b x = record {
+        bytes = wire-wait b (x ∷ []);
+        unfinished = unfinished-of (i .part) (i .some-byte);
+        not-stuffed = k;
+        not-header = n;
+      } in
+      broken-cases (λ (e : Verdict). Ending limit ((wire b ++ 255 ∷ []) ++ x ∷ []) e held) (r .scan .filled) x
+      (λ early. is-stuff b x refl refl refl broken (rw (i .part .count) early))
+      (λ late. is-stuff-late b x refl refl refl broken (rw (i .part .count) late))
 
   other-shows : (x : ℕ) → x ≢ 255 → (f : Phase) → InvIn limit f (r .scan) b
       → ShowsFrom f x (onOtherIn f limit (r .scan) x)
@@ -127,8 +141,7 @@ module _ (limit : ℕ) (r : State) (room : length (r .body) ≡ limit + 2) (insi
         gone = (wire b ++ 255 ∷ []) ++ x ∷ [];
         bytes = sym (append-nil ((wire b ++ 255 ∷ []) ++ x ∷ []));
         decision = λ d. record {
-          decides = is-stuff b x refl refl (wire-wait b (x ∷ []))
-              (unfinished-of (i .part) (i .some-byte)) (eqb-false x 85 q) k;
+          decides = broken-decides x (r .body) i (eqb-false x 85 q) k;
           starts = refl;
           rises = omega arith;
         };

@@ -13,8 +13,8 @@ use Rattle.base.specs.Outcomes.{outcome}
 use Rattle.frame.specs.Calls.{finishRowIn, freshOf}
 use Rattle.frame.specs.LogsComputed.{logOf, stateAfter}
 use Rattle.frame.specs.Logs.{stream}
-use Rattle.frame.specs.Decisions.{Decides, is-frame, is-short, is-long, is-stuff, is-cut, is-sum, Decision}
-use Rattle.frame.specs.Decisions.{IsDecision, Opens, at-header, in-body, at-ff, IsOpen}
+use Rattle.frame.specs.Decisions.{Decides, is-frame, is-short, is-long, is-stuff, is-stuff-late, is-cut, is-sum}
+use Rattle.frame.specs.Decisions.{Decision, IsDecision, Opens, at-header, in-body, at-ff, IsOpen}
 use Rattle.frame.specs.StreamCorrect.{EachDecision, FinishCorrect, FinishesCorrect}
 use Rattle.frame.specs.State.{Phase, Idle, Half, Header, Open, Escape, Scan, State}
 use Rattle.frame.proofs.Stuffing.{stuffed-form}
@@ -32,13 +32,14 @@ use Rattle.frame.proofs.Reading.{Between, At, decision-path, read-heade
 abbrev bodyIn : ℕ → List ℕ → List ℕ
 bodyIn n raw = cond (eqb n 1 || eqb n 15) (unstuff false (drop 2 raw)) []
 
-body-in : {limit n : ℕ} {raw body : List ℕ} → Decides limit raw n body → body ≡ bodyIn n raw
-body-in (is-frame b n h e g) = rw (n, e) (h ∙ sym (stuffed-form b .reads-back))
-body-in (is-short b n h e l k) = rw n h
-body-in (is-long b n h e l f five k) = rw n h
-body-in (is-stuff b x n h e u k f) = rw n h
-body-in (is-cut b n h e u) = rw n h
-body-in (is-sum b n h e l k m w) = rw (n, e) (h ∙ sym (stuffed-form b .reads-back))
+body-in : {limit n : ℕ} {raw values body : List ℕ} → Decides limit raw n values body → body ≡ bodyIn n raw
+body-in (is-frame b n v h e g) = rw (n, e) (h ∙ sym (stuffed-form b .reads-back))
+body-in (is-short b n v h e l k) = rw n h
+body-in (is-long b n v h e l f five k) = rw n h
+body-in (is-stuff b x n v h w k) = rw n h
+body-in (is-stuff-late b x n v h w k) = rw n h
+body-in (is-cut b n v h e u) = rw n h
+body-in (is-sum b n v h e w) = rw (n, e) (h ∙ sym (stuffed-form b .reads-back))
 
 raw-in : {limit : ℕ} {xs : List ℕ} {l : Decision} (w : IsDecision limit xs l)
     → w .raw ≡ take (l .end - l .start) (drop (l .start) xs)
@@ -70,6 +71,7 @@ module _ (limit : ℕ) (small : limit ≤ 65279) where
         number = l .number;
         start = q .scan .consumed;
         end = q .scan .consumed + length (w .raw);
+        values = l .values;
         body = shown .0;
       } in
       let start : l .start ≡ q .scan .consumed = w .starts ∙ sym at in
@@ -82,7 +84,8 @@ module _ (limit : ℕ) (small : limit ≤ 65279) where
       )
       (Memᴰ·append-right (decidedAll limit (freshOf limit) (w .before))
       (Memᴰ·append-left (decidedAll limit (afterAll limit q (w .raw)) (w .after)) (shown .1))) in
-      let same : l ≡ a = decision-path refl start end (same-body w (from-fresh xs .sound a decisions) refl start end) in
+      let same : l ≡ a =
+      decision-path refl start end refl (same-body w (from-fresh xs .sound a decisions) refl start end) in
       Memᴰ·cast same decisions
 
 pub each-decision : EachDecision

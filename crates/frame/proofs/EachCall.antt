@@ -1,23 +1,25 @@
 -- within, progress, empty-call, state-kept and finish-keeps. (in-pieces is in Stored, never-state in StreamCorrect.)
 -- Assumes nothing.
-use Prim.Native.Nat.{ℕ, _+_, _^_, _≤_, _<_}
-use mathlib.Core.Path.{_≡_, refl}
+use Prim.Native.Nat.{ℕ, _+_, _^_, _≤_}
+use mathlib.Core.Path.{_≡_, refl, sym, ap, _∙_}
 use mathlib.Core.List.{List, [], _∷_}
-use mathlib.Core.Bool.{true}
+use mathlib.Core.Bool.{true, false, true≢false}
+use mathlib.Core.Logic.{_≢_}
 use native.Mathlib.Omega.{arith}
 use lib.ListN.{length}
 use lib.Dec.{leb}
 use borrow.Author.Tests.{le-leb, leb-true}
 use Rattle.base.specs.Keys.{among}
-use Rattle.frame.specs.Table.{verdictNumber, countOf, eventRow}
+use Rattle.frame.specs.Table.{verdictNumber, verdictValues, countOf, eventRow}
 use Rattle.frame.specs.Accounts.{feedNumbers}
+use Rattle.frame.specs.Logs.{decided}
 use Rattle.frame.specs.Rules.{advanceOf, decidesOf, inRangeOf, maxConsumed}
 use Rattle.base.specs.Outcomes.{Outcome}
 use Rattle.frame.specs.Calls.{nextOf, runOf}
 use Rattle.frame.specs.declared.scan.Event.{Event}
 use Rattle.frame.specs.declared.scan.Event.the-variants.{Quiet, Decided}
 use Rattle.frame.specs.declared.scan.Verdict.{Verdict}
-use Rattle.frame.specs.declared.scan.Verdict.the-variants.{Frame, Short, Long, Stuff, Cut, Sum}
+use Rattle.frame.specs.declared.scan.Verdict.the-variants.{Frame, Short, Long, Stuff, StuffLate, Cut, Sum}
 use Rattle.frame.specs.State.{State}
 use Rattle.frame.specs.EachCall.{Within, Progress, EmptyCall, StateKept, FinishKeeps}
 use Rattle.base.proofs.Tests.{by-test, both}
@@ -26,20 +28,25 @@ pub count-event : (e : Event) (n s p : ℕ) → countOf (eventRow e n s p) ≡ n
 count-event Quiet n s p = refl
 count-event (Decided v) n s p = refl
 
--- the number of a verdict: FRAME or a refused frame
-pub record Numbered (d : ℕ) : Type 0 where
-  pub is-feed : among d feedNumbers ≡ true
-  pub low : 1 ≤ d
-  pub high : d < 17
+-- the answer of a verdict: FRAME, which has no further values, or a refused frame
+pub record Numbered (v : Verdict) : Type 0 where
+  pub is-feed : among (verdictNumber v) feedNumbers ≡ true
+  pub is-decided : decided (verdictNumber v) ≡ true
+  pub plain : verdictNumber v ≡ 1 → verdictValues v ≡ []
 
-pub numbered : (v : Verdict) → Numbered (verdictNumber v)
+pub numbered : (v : Verdict) → Numbered v
 unfolding among
-numbered Frame = record { is-feed = refl; low = omega arith; high = omega arith }
-numbered Short = record { is-feed = refl; low = omega arith; high = omega arith }
-numbered Long = record { is-feed = refl; low = omega arith; high = omega arith }
-numbered Stuff = record { is-feed = refl; low = omega arith; high = omega arith }
-numbered Cut = record { is-feed = refl; low = omega arith; high = omega arith }
-numbered Sum = record { is-feed = refl; low = omega arith; high = omega arith }
+numbered Frame = record { is-feed = refl; is-decided = refl; plain = λ e. refl }
+numbered Short = record { is-feed = refl; is-decided = refl; plain = λ e. absurd (omega arith) }
+numbered Long = record { is-feed = refl; is-decided = refl; plain = λ e. absurd (omega arith) }
+numbered (Stuff x) = record { is-feed = refl; is-decided = refl; plain = λ e. absurd (omega arith) }
+numbered (StuffLate x) = record { is-feed = refl; is-decided = refl; plain = λ e. absurd (omega arith) }
+numbered Cut = record { is-feed = refl; is-decided = refl; plain = λ e. absurd (omega arith) }
+numbered (Sum f g) = record { is-feed = refl; is-decided = refl; plain = λ e. absurd (omega arith) }
+
+-- it is none of the other answers, such as MORE, STATE and USED
+pub not-other : (v : Verdict) (k : ℕ) → decided k ≡ false → verdictNumber v ≢ k
+not-other v k other e = true≢false (sym (numbered v .is-decided) ∙ ap decided e ∙ other)
 
 abbrev Counts : ℕ → ℕ → Outcome State → Type 0
 Counts low high y = (low ≤ countOf (y .row)) × (countOf (y .row) ≤ high)

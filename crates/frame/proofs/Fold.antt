@@ -8,26 +8,27 @@ use native.Mathlib.Omega.{arith}
 use lib.ListN.{length, take}
 use lib.Dec.{leb}
 use Rattle.base.specs.Rows.{Row}
-use Rattle.frame.specs.Table.{verdictNumber, eventRow}
+use Rattle.frame.specs.Table.{eventRow, furtherOf}
 use Rattle.frame.specs.Rules.{advanceOf, decidesOf, inRangeOf}
 use Rattle.base.specs.Outcomes.{Outcome, outcome}
 use Rattle.frame.specs.Calls.{nextOf, finishRowIn, runOf}
-use Rattle.frame.specs.Logs.{Call, feed, finish, offered, consumedBy, stream, decided, addDecision, decisionsOf}
+use Rattle.frame.specs.Logs.{Call, feed, finish, offered, consumedBy, stream, addDecision, decisionsOf}
 use Rattle.frame.specs.Logs.{bodyHeld}
 use Rattle.frame.specs.LogsComputed.{callOf, entryOf, logOf, stateAfter}
 use Rattle.frame.specs.Decisions.{Decision}
 use Rattle.frame.specs.State.{Phase, Idle, Half, Header, Open, Escape, State}
 use Rattle.frame.specs.declared.scan.Event.{Event}
 use Rattle.frame.specs.declared.scan.Event.the-variants.{Quiet, Decided}
-use Rattle.frame.specs.declared.scan.Verdict.{Verdict}
-use Rattle.frame.specs.declared.scan.Verdict.the-variants.{Frame, Short, Long, Stuff, Cut, Sum}
 use Rattle.base.proofs.Tests.{by-test}
-use Rattle.frame.proofs.EachCall.{count-event}
+use Rattle.frame.proofs.EachCall.{count-event, numbered}
 use Rattle.frame.proofs.Moves.{Inv, moves}
 
--- the number of an event's answer
+-- the number of an event's answer, and its values after count, start and end
 abbrev pub eventCode : Event → ℕ
 eventCode e = eventRow e 0 0 0 .number
+
+abbrev pub eventValues : Event → List ℕ
+eventValues e = furtherOf (eventRow e 0 0 0)
 
 -- the decision of the byte x, if it decides
 abbrev pub decisionAt : ℕ → State → ℕ → Decision
@@ -36,6 +37,7 @@ decisionAt limit r x =
       number = eventCode (advanceOf limit (r .scan) x .event);
       start = r .scan .start;
       end = nextOf limit r x .scan .consumed;
+      values = eventValues (advanceOf limit (r .scan) x .event);
       body = bodyHeld (eventCode (advanceOf limit (r .scan) x .event)) (nextOf limit r x .body);
     }
 
@@ -78,20 +80,17 @@ module _ (limit : ℕ) where
     reader : y .state ≡ afterAll limit r (take k bs)
     decisions : (ls : List Decision) → addDecision (entryOf r c y) ls ≡ decidedAll limit r (take k bs) ++ ls
 
-  -- a verdict is a decision
-  decided-decision : (v : Verdict) → decided (verdictNumber v) ≡ true
-  decided-decision Frame = refl
-  decided-decision Short = refl
-  decided-decision Long = refl
-  decided-decision Stuff = refl
-  decided-decision Cut = refl
-  decided-decision Sum = refl
-
   added-event : (c : Call) (e : Event) (n s p : ℕ) (r q : State) (ls : List Decision) → decidesOf e ≡ true
       → addDecision (entryOf r c (outcome (eventRow e n s p) q)) ls
-      ≡ record { number = eventCode e; start = s; end = p; body = bodyHeld (eventCode e) (q .body) } ∷ ls
+      ≡ record {
+        number = eventCode e;
+        start = s;
+        end = p;
+        values = eventValues e;
+        body = bodyHeld (eventCode e) (q .body);
+      } ∷ ls
   added-event c Quiet n s p r q ls d = absurd (true≢false (sym d))
-  added-event c (Decided v) n s p r q ls d = rw (decided-decision v)
+  added-event c (Decided v) n s p r q ls d = rw (numbered v .is-decided)
 
   ran : (all bs : List ℕ) (n : ℕ) (r : State) → Ran (feed all) r n bs (runOf limit bs n r)
   unfolding runOf afterAll decidedAll

@@ -12,7 +12,7 @@ use Rattle.frame.specs.declared.place.WirePlace.{WirePlace}
 use Rattle.frame.specs.declared.scan.Phase.{Phase as CodePhase}
 use Rattle.frame.specs.declared.scan.Phase.the-variants as phase
 use Rattle.frame.specs.declared.scan.Verdict.{Verdict}
-use Rattle.frame.specs.declared.scan.Verdict.the-variants.{Frame, Short, Long, Stuff, Cut, Sum}
+use Rattle.frame.specs.declared.scan.Verdict.the-variants.{Frame, Short, Long, Stuff, StuffLate, Cut, Sum}
 use Rattle.frame.specs.declared.reader.Reader.{Reader}
 use Rattle.frame.specs.declared.reader.FeedResult.{FeedResult}
 use Rattle.frame.specs.declared.reader.FeedResult.the-variants as answer
@@ -26,7 +26,9 @@ abbrev wirePlace : ℕ → WirePlace
 wirePlace n = record { 0 = n }
 
 abbrev verdictFrom : Row → Verdict
-verdictFrom r = under r 1 Frame (under r 11 Short (under r 12 Long (under r 13 Stuff (under r 14 Cut Sum))))
+verdictFrom r =
+    under r 1 Frame (under r 11 Short (under r 12 Long (under r 13 (Stuff (value r 3)) (under r 14 Cut
+    (under r 15 (Sum (value r 3) (value r 4)) (StuffLate (value r 3)))))))
 
 abbrev answerFrom : Row → FeedResult
 answerFrom r =
@@ -38,9 +40,10 @@ answer-back (answer.More c) = refl
 answer-back (answer.Decided c s e Frame) = refl
 answer-back (answer.Decided c s e Short) = refl
 answer-back (answer.Decided c s e Long) = refl
-answer-back (answer.Decided c s e Stuff) = refl
+answer-back (answer.Decided c s e (Stuff x)) = refl
+answer-back (answer.Decided c s e (StuffLate x)) = refl
 answer-back (answer.Decided c s e Cut) = refl
-answer-back (answer.Decided c s e Sum) = refl
+answer-back (answer.Decided c s e (Sum f g)) = refl
 answer-back answer.State = refl
 answer-back answer.Used = refl
 

@@ -36,3 +36,4 @@ pub mod Deciding
 pub mod Reading
 pub mod Decisions
 pub mod Headers
+pub mod Broken

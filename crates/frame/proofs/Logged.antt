@@ -27,7 +27,7 @@ use Rattle.frame.specs.State.{Phase, Idle, Half, Header, Open, Escape, S
 use Rattle.frame.specs.declared.scan.Event.{Event}
 use Rattle.frame.specs.declared.scan.Event.the-variants.{Quiet, Decided}
 use Rattle.base.proofs.Tests.{by-test}
-use Rattle.frame.proofs.EachCall.{Numbered, numbered}
+use Rattle.frame.proofs.EachCall.{numbered, not-other}
 use Rattle.frame.proofs.Accounts.{not-state}
 use Rattle.frame.proofs.Moves.{Inv, origin, pending, deliveredBy, moves, nothing-left}
 
@@ -179,27 +179,26 @@ module _ (limit : ℕ) (r q : State) (bs : List ℕ) (k s : ℕ)
       → Called limit r (feed bs) (outcome (eventRow e k s (consumed r + k)) q)
   event-called Quiet all some f = more-called (all refl) f
   event-called (Decided v) all some f =
-      let n : Numbered (verdictNumber v) = numbered v in
       record {
         holds = holds;
         longest = omega arith;
         place = place;
         account = record {
-          feed-row = λ b e. n .is-feed;
+          feed-row = λ b e. numbered v .is-feed;
           finish-row = λ e. not-finish e;
           within = within;
-          all = λ e. absurd (omega (arith, n .low));
+          all = λ e. absurd (not-other v 0 refl e);
           progress = λ e o. omega (arith, some refl);
           empty = λ e. let none : length bs ≡ 0 = ap length (none-fed e) in absurd (omega (arith, some refl));
           ends = λ e. refl;
-          used = λ e. absurd (omega (arith, n .high));
+          used = λ e. absurd (not-other v 18 refl e);
           unused = λ e. fits;
           finished = λ e. not-finish e;
-          used-none = λ e. absurd (omega (arith, n .high));
-          used-kept = λ e. absurd (omega (arith, n .high));
+          used-none = λ e. absurd (not-other v 18 refl e);
+          used-kept = λ e. absurd (not-other v 18 refl e);
           finish-kept = λ e. not-finish e;
         };
-        shape = λ e. rw e;
+        shape = λ e. rw (e, numbered v .plain e);
         frames = f;
       }
 

@@ -13,20 +13,20 @@ use lib.ListN.{length, getD, take, length-append}
 use lib.Seq.{getD-at}
 use lib.Dec.{eqb}
 use borrow.Author.Tests.{eqb-true, eqb-false, eq-eqb, ne-eqb, le-leb}
-use Rattle.frame.specs.Wire.{stuff, wire, lengthOf, Good}
+use Rattle.frame.specs.Wire.{stuff, wire, lengthOf, foundSum, computedSum, Good}
 use Rattle.frame.specs.Frames.{Found, frontBody}
 use Rattle.frame.specs.FramesComputed.{isGood, sumHolds, framesFrom, here}
 use Rattle.frame.specs.Table.{verdictNumber}
-use Rattle.frame.specs.Rules.{putOf, grownOf, endedOf, bodyByteOf, onFFIn, onOtherIn, advanceOf}
+use Rattle.frame.specs.Rules.{putOf, grownOf, endedOf, bodyByteOf, brokenOf, onFFIn, onOtherIn, advanceOf}
 use Rattle.frame.specs.State.{Phase, Idle, Half, Header, Open, Escape, Scan, Step, State}
 use Rattle.frame.specs.declared.scan.Event.{Event}
 use Rattle.frame.specs.declared.scan.Event.the-variants.{Quiet, Decided}
 use Rattle.frame.specs.declared.scan.Verdict.{Verdict}
-use Rattle.frame.specs.declared.scan.Verdict.the-variants.{Frame, Short, Long, Stuff, Cut, Sum}
+use Rattle.frame.specs.declared.scan.Verdict.the-variants.{Frame, Short, Long, Sum}
 use Rattle.base.proofs.Tests.{by-test}
 use Rattle.frame.proofs.Stuffing.{stuff-append}
-use Rattle.frame.proofs.Bodies.{Partial, partial-none, first-on, sumIn, sumDue, Ends, size, body-cases}
-use Rattle.frame.proofs.Bodies.{whole-held}
+use Rattle.frame.proofs.Bodies.{Partial, partial-none, first-on, Ends, ends-frame, ends-short, ends-long}
+use Rattle.frame.proofs.Bodies.{ends-sum, size, body-cases, broken-cases, whole-held}
 use Rattle.frame.proofs.Puts.{put-length, stored}
 use Rattle.frame.proofs.Skip.{pass, pass-other, pass-pair, pass-lone, pass-triple, pass-wire, take-wire}
 use Rattle.frame.proofs.Skip.{none-end, none-lone, none-broken, none-short, none-long, none-sum}
@@ -195,19 +195,17 @@ module _ (limit : ℕ) (r : State) (room : length (r .body) ≡ limit + 2) (insi
 
   ended-moves : (e : Verdict) → Ends limit grown e → Moves (endedOf (r .scan) v e)
   unfolding isGood sumHolds
-  ended-moves Frame q = completes q
-  ended-moves Short q = refused Short refl (λ t. none-short limit grown t (omega (arith, q .0)) (q .1))
-  ended-moves Long q = refused Long refl (λ t. none-long limit grown t (omega (arith, q .0)) (q .3))
-  ended-moves Stuff q = absurd q
-  ended-moves Cut q = absurd q
-  ended-moves Sum q =
-      refused Sum refl (λ t. none-sum limit grown t (q .0)
+  ended-moves e (ends-frame g) = completes g
+  ended-moves e (ends-short n l) = refused Short refl (λ t. none-short limit grown t (omega arith) l)
+  ended-moves e (ends-long n f five l) = refused Long refl (λ t. none-long limit grown t (omega arith) l)
+  ended-moves e (ends-sum w) =
+      refused (Sum (foundSum grown) (computedSum grown)) refl (λ t. none-sum limit grown t (w .true-length)
       (rw (
-        eq-eqb (length grown) (lengthOf grown + 2) (q .0),
-        le-leb 5 (lengthOf grown) (q .1),
-        le-leb (lengthOf grown) limit (q .2),
+        eq-eqb (length grown) (lengthOf grown + 2) (w .true-length),
+        le-leb 5 (lengthOf grown) (w .shortest),
+        le-leb (lengthOf grown) limit (w .longest),
       )
-      (ne-eqb (sumIn grown) (sumDue grown) (q .3))))
+      (ne-eqb (foundSum grown) (computedSum grown) (w .sum-fails))))
 
   pub body-moves : Moves (bodyByteOf limit (r .scan) v)
   body-moves = body-cases (r .scan) p v first Moves continues ended-moves
@@ -244,6 +242,11 @@ module _ (limit : ℕ) (small : limit ≤ 65279) (r : State) (room : length (r .
         frames = λ t. at-place limit (pendingIn f b ++ x ∷ t) o
             ∙ ap (λ (j : List ℕ). framesFrom limit at j) (same t) ∙ m .frames t;
       }
+
+  -- broken stuffing delivers no frame
+  none-delivered : (x : ℕ) (f : Found) (l : List Found) → deliveredBy (Decided (brokenOf (r .scan .filled) x)) f l ≡ l
+  none-delivered x f l =
+      broken-cases (λ (v : Verdict). deliveredBy (Decided v) f l ≡ l) (r .scan .filled) x (λ _. refl) (λ _. refl)
 
   -- a frame that is begun, followed by bytes with which it cannot go on, is not a frame of the stream
   broken : (x : ℕ) (t : List ℕ) {n : ℕ} → Begun limit (r .scan) b n → x ≢ 85
@@ -326,7 +329,8 @@ module _ (limit : ℕ) (small : limit ≤ 65279) (r : State) (room : length (r .
         holds = record { phase = tt; room = room; inside = omega arith };
         frames = λ t.
             ap (λ (j : List ℕ). framesFrom limit at j) (wire-wait b (x ∷ t)) ∙ broken x t i (eqb-false x 85 q)
-            ∙ pass-pair limit n 255 x t k ∙ pass-other limit (suc n) x t k ∙ at-place limit t (omega (arith, i .place));
+            ∙ pass-pair limit n 255 x t k ∙ pass-other limit (suc n) x t k ∙ at-place limit t (omega (arith, i .place))
+            ∙ sym (none-delivered x _ _);
       })
 
 -- a byte, of any reader that calls can reach

@@ -2,7 +2,7 @@
 use Prim.Native.Nat.{ℕ, _+_, _^_, _≤_, _<_}
 use mathlib.Core.Path.{_≡_, refl}
 use mathlib.Core.Bool.{false}
-use mathlib.Core.Logic.{inl, inr}
+use mathlib.Core.Logic.{_≢_, inl, inr}
 use mathlib.Core.List.{List, [], _∷_}
 use native.Mathlib.Omega.{arith}
 use borrow.Author.Tests.{le-leb, lt-leb, leb-true, leb-false}
@@ -18,7 +18,7 @@ use Rattle.frame.specs.Calls.{zeros, finishRowIn, nextOf, runOf}
 use Rattle.frame.specs.Ranges.{OutOfRange, ReaderRangesAll, RangeKept, UsedAlways, FreshReader, Limits}
 use Rattle.frame.specs.declared.scan.Event.{Event}
 use Rattle.frame.specs.declared.scan.Event.the-variants.{Quiet, Decided}
-use Rattle.frame.proofs.EachCall.{numbered}
+use Rattle.frame.proofs.EachCall.{not-other}
 use Rattle.frame.proofs.Steps.{kept}
 
 -- ---- the test
@@ -36,29 +36,30 @@ inside-not r e =
     (λ t. inr (leb-false (r .scan .filled) (maxFilled frameLimit) (rw t at e)))
     (λ t. inl (leb-false (r .scan .consumed) maxConsumed t))
 
--- ---- the numbers of a run and of a finish are below those of STATE and USED
+-- ---- the numbers of a run and of a finish are neither STATE nor USED
 
-event-below : (e : Event) (n s p : ℕ) → eventRow e n s p .number < 17
-event-below Quiet n s p = omega arith
-event-below (Decided v) n s p = numbered v .high
+abbrev Neither : ℕ → Type 0
+Neither n = (n ≢ 17) × (n ≢ 18)
 
-abbrev Below : Outcome State → Type 0
-Below y = y .row .number < 17
+event-neither : (e : Event) (n s p : ℕ) → Neither (eventRow e n s p .number)
+event-neither Quiet n s p = (omega arith, omega arith)
+event-neither (Decided v) n s p = (not-other v 17 refl, not-other v 18 refl)
 
-run-below : (limit : ℕ) (bs : List ℕ) (n : ℕ) (r : State) → Below (runOf limit bs n r)
+run-neither : (limit : ℕ) (bs : List ℕ) (n : ℕ) (r : State) → Neither (runOf limit bs n r .row .number)
 unfolding runOf
-run-below limit [] n r = omega arith
-run-below limit (x ∷ bs) n r =
-    by-test Below (decidesOf (advanceOf limit (r .scan) x .event))
-    (λ t. event-below (advanceOf limit (r .scan) x .event) (n + 1) (r .scan .start) (nextOf limit r x .scan .consumed))
-    (λ t. run-below limit bs (n + 1) (nextOf limit r x))
+run-neither limit [] n r = (omega arith, omega arith)
+run-neither limit (x ∷ bs) n r =
+    by-test (λ (y : Outcome State). Neither (y .row .number)) (decidesOf (advanceOf limit (r .scan) x .event))
+    (λ t. event-neither (advanceOf limit (r .scan) x .event) (n + 1) (r .scan .start)
+    (nextOf limit r x .scan .consumed))
+    (λ t. run-neither limit bs (n + 1) (nextOf limit r x))
 
-ending-below : (f : Phase) (s : Scan) → finishRowIn f s .number < 17
-ending-below Idle s = omega arith
-ending-below Half s = omega arith
-ending-below Header s = omega arith
-ending-below Open s = omega arith
-ending-below Escape s = omega arith
+ending-neither : (f : Phase) (s : Scan) → finishRowIn f s .number ≢ 17
+ending-neither Idle s = omega arith
+ending-neither Half s = omega arith
+ending-neither Header s = omega arith
+ending-neither Open s = omega arith
+ending-neither Escape s = omega arith
 
 pub reader-ranges : ReaderRangesAll
 reader-ranges r bytes =
@@ -67,11 +68,11 @@ reader-ranges r bytes =
       fed = λ h. rw (outside r h);
       fed-only = by-test Only (inRangeOf frameLimit (r .scan))
           (λ t. by-test Only (leb (r .scan .consumed + length bytes) (2 ^ 62))
-          (λ u h. absurd (omega (arith, run-below frameLimit bytes 0 r))) (λ u h. absurd (omega arith)))
+          (λ u h. absurd (run-neither frameLimit bytes 0 r .0 h)) (λ u h. absurd (omega arith)))
           (λ t h. inside-not r t);
       finished = λ h. rw (outside r h);
       finished-only = by-test Only (inRangeOf frameLimit (r .scan))
-          (λ t h. absurd (omega (arith, ending-below (r .scan .phase) (r .scan)))) (λ t h. inside-not r t);
+          (λ t h. absurd (ending-neither (r .scan .phase) (r .scan) h)) (λ t h. inside-not r t);
     }
 
 -- ---- a feed keeps the range
@@ -120,7 +121,7 @@ used-exactly r bytes =
             lt-leb all (2 ^ 62) over,
           );
       fed-only = by-test Only (inRangeOf frameLimit (r .scan))
-          (λ t. by-test Only (leb all (2 ^ 62)) (λ u h. absurd (omega (arith, run-below frameLimit bytes 0 r)))
+          (λ t. by-test Only (leb all (2 ^ 62)) (λ u h. absurd (run-neither frameLimit bytes 0 r .1 h))
           (λ u h. leb-false all (2 ^ 62) u))
           (λ t h. absurd (omega arith));
     }

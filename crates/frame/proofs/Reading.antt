@@ -9,25 +9,26 @@ use native.Mathlib.Omega.{arith}
 use lib.ListN.{length, getD, take, length-append, List·getD-append}
 use lib.Seq.{getD-at}
 use lib.Dec.{eqb, ltb}
-use borrow.Author.Tests.{eqb-true, ne-eqb, ltb-true, ltb-false}
-use Rattle.frame.specs.Wire.{stuff, wire, lengthOf}
-use Rattle.frame.specs.Decisions.{Unfinished, Decides, is-frame, is-short, is-long, is-stuff, is-cut, is-sum}
-use Rattle.frame.specs.Decisions.{Decision}
-use Rattle.frame.specs.Rules.{escapeOf, bodyByteOf, advanceOf, decidesOf}
+use borrow.Author.Tests.{eqb-true, ne-eqb, ltb-true, ltb-false, lt-ltb, le-ltb}
+use Rattle.frame.specs.Wire.{stuff, wire, lengthOf, headSize, foundSum, computedSum}
+use Rattle.frame.specs.Decisions.{Unfinished, Breaks, Decides, is-frame, is-short, is-long, is-stuff}
+use Rattle.frame.specs.Decisions.{is-stuff-late, is-cut, is-sum, Decision}
+use Rattle.frame.specs.Rules.{escapeOf, bodyByteOf, brokenOf, advanceOf, decidesOf}
 use Rattle.frame.specs.Calls.{nextOf}
 use Rattle.frame.specs.State.{Phase, Idle, Half, Header, Open, Escape, Scan, Step, State}
 use Rattle.frame.specs.declared.scan.Event.the-variants.{Decided}
 use Rattle.frame.specs.declared.scan.Verdict.{Verdict}
-use Rattle.frame.specs.declared.scan.Verdict.the-variants.{Frame, Short, Long, Stuff, Cut, Sum}
+use Rattle.frame.specs.declared.scan.Verdict.the-variants.{Frame, Short, Long, Stuff, StuffLate, Cut, Sum}
 use Rattle.frame.proofs.Stuffing.{stuff-append}
 use Rattle.frame.proofs.Here.{lengthOf-append}
 use Rattle.frame.proofs.Skip.{good-first}
 use Rattle.frame.proofs.Moves.{held, Inv, InvIn, after}
-use Rattle.frame.proofs.Bodies.{Partial, partial-none, Ends, never-both, same-end, unfinished-of}
+use Rattle.frame.proofs.Bodies.{Partial, partial-none, Ends, ends-frame, ends-short, ends-long, ends-sum}
+use Rattle.frame.proofs.Bodies.{never-both, same-end, unfinished-of, body-cases}
 use Rattle.frame.proofs.Puts.{stored}
-use Rattle.frame.proofs.Bodies.{body-cases}
-use Rattle.frame.specs.Table.{verdictNumber}
-use Rattle.frame.proofs.Fold.{eventCode, decisionAt, afterAll, decidedAll, after-append, decided-append, kept}
+use Rattle.frame.specs.Table.{verdictNumber, verdictValues}
+use Rattle.frame.proofs.Fold.{eventCode, eventValues, decisionAt, afterAll, decidedAll, after-append}
+use Rattle.frame.proofs.Fold.{decided-append, kept}
 
 -- ---- fronts of bodies
 
@@ -52,31 +53,29 @@ module _ (limit : ℕ) (a c : List ℕ) (some : 1 ≤ length a) where
       let size : length (a ++ c) ≡ length a + length c = length-append a c in
       front-of (u .first) (omega (arith, u .under)) (λ k. u .bounds (omega arith))
 
-ends-first : (limit : ℕ) → limit ≤ 65279 → (b : List ℕ) (e : Verdict) → Ends limit b e → getD b 0 0 ≢ 255
-ends-first limit small b Frame p = good-first limit b small p
-ends-first limit small b Short p = λ q. omega (arith, p .1)
-ends-first limit small b Long p = p .1
-ends-first limit small b Stuff p = absurd p
-ends-first limit small b Cut p = absurd p
-ends-first limit small b Sum p = λ q. omega (arith, p .2)
+ends-first : (limit : ℕ) → limit ≤ 65279 → (b : List ℕ) {e : Verdict} → Ends limit b e → getD b 0 0 ≢ 255
+ends-first limit small b (ends-frame g) = good-first limit b small g
+ends-first limit small b (ends-short n l) = λ q. omega arith
+ends-first limit small b (ends-long n f five l) = f
+ends-first limit small b (ends-sum w) = λ q. omega (arith, w .longest)
 
 -- the body before a last byte that decides
-ends-front : (limit : ℕ) → limit ≤ 65279 → (a : List ℕ) (v : ℕ) (e : Verdict)
+ends-front : (limit : ℕ) → limit ≤ 65279 → (a : List ℕ) (v : ℕ) {e : Verdict}
     → Ends limit (a ++ v ∷ []) e → Unfinished limit a
-ends-front limit small a v e p = go e p (length-append a (v ∷ [])) (ends-first limit small (a ++ v ∷ []) e p)
+ends-front limit small a v p = go p (length-append a (v ∷ [])) (ends-first limit small (a ++ v ∷ []) p)
   where
-    go : (e : Verdict) → Ends limit (a ++ v ∷ []) e → length (a ++ v ∷ []) ≡ length a + 1
+    go : {e : Verdict} → Ends limit (a ++ v ∷ []) e → length (a ++ v ∷ []) ≡ length a + 1
         → getD (a ++ v ∷ []) 0 0 ≢ 255 → Unfinished limit a
-    go Frame p n f =
-        front-of limit a (v ∷ []) (omega (arith, p .true-length, p .shortest)) f (omega (arith, p .true-length))
-        (λ k. (p .shortest, p .longest))
-    go Short p n f =
-        front-of limit a (v ∷ []) (omega (arith, p .0)) f (omega (arith, p .0)) (λ k. absurd (omega (arith, p .0)))
-    go Long p n f =
-        front-of limit a (v ∷ []) (omega (arith, p .0)) f (omega (arith, p .0)) (λ k. absurd (omega (arith, p .0)))
-    go Stuff p n f = absurd p
-    go Cut p n f = absurd p
-    go Sum p n f = front-of limit a (v ∷ []) (omega (arith, p .0, p .1)) f (omega (arith, p .0)) (λ k. (p .1, p .2))
+    go (ends-frame g) n f =
+        front-of limit a (v ∷ []) (omega (arith, g .true-length, g .shortest)) f (omega (arith, g .true-length))
+        (λ k. (g .shortest, g .longest))
+    go (ends-short two l) n f =
+        front-of limit a (v ∷ []) (omega arith) f (omega arith) (λ k. absurd (omega arith))
+    go (ends-long two h five l) n f =
+        front-of limit a (v ∷ []) (omega arith) f (omega arith) (λ k. absurd (omega arith))
+    go (ends-sum w) n f =
+        front-of limit a (v ∷ []) (omega (arith, w .true-length, w .shortest)) f (omega (arith, w .true-length))
+        (λ k. (w .shortest, w .longest))
 
 record Snoc (b : List ℕ) : Type 0 where
   front : List ℕ
@@ -184,14 +183,15 @@ module _ (limit : ℕ) (r : State) (room : length (r .body) ≡ limit + 2) where
   header-in Open is = rw is (tt, refl, omega arith)
   header-in Escape is = rw is (tt, refl, omega arith)
 
-  -- an FF of the body waits
+  -- an FF of the body waits, after so many body bytes
   wait-in : (f : Phase) → r .scan .phase ≡ f → Between f → InvIn limit f (r .scan) b → 1 ≤ length b
       → (nextOf limit r 255 .scan .phase ≡ Escape) × (nextOf limit r 255 .scan .start ≡ r .scan .start)
+      × (nextOf limit r 255 .scan .filled ≡ length b)
   wait-in Idle is n i some = absurd n
   wait-in Half is n i some = absurd n
   wait-in Header is n i some =
       let none-yet : length b ≡ 0 = ap (λ (j : ℕ). length (take j (r .body))) (i .1) in absurd (omega arith)
-  wait-in Open is n i some = rw is (refl, refl)
+  wait-in Open is n i some = rw is (refl, refl, sym (i .part .count))
   wait-in Escape is n i some = absurd n
 
 -- ---- to the deciding byte
@@ -204,10 +204,10 @@ pub record Ready (limit : ℕ) (r : State) (raw : List ℕ) (st : ℕ) (e : Verd
   pub starts : afterAll limit r pre .scan .start ≡ st
   pub event : advanceOf limit (afterAll limit r pre .scan) last .event ≡ Decided e
 
-pub decision-path : {a a′ b b′ c c′ : ℕ} {d d′ : List ℕ} → a ≡ a′ → b ≡ b′ → c ≡ c′ → d ≡ d′
-    → _≡_ {A = Decision} (record { number = a; start = b; end = c; body = d })
-    (record { number = a′; start = b′; end = c′; body = d′ })
-decision-path p q w v = λ j. record { number = p j; start = q j; end = w j; body = v j }
+pub decision-path : {a a′ b b′ c c′ : ℕ} {d d′ e e′ : List ℕ} → a ≡ a′ → b ≡ b′ → c ≡ c′ → d ≡ d′ → e ≡ e′
+    → _≡_ {A = Decision} (record { number = a; start = b; end = c; values = d; body = e })
+    (record { number = a′; start = b′; end = c′; values = d′; body = e′ })
+decision-path p q w v u = λ j. record { number = p j; start = q j; end = w j; values = v j; body = u j }
 
 ready-after : {limit : ℕ} {r : State} {raw : List ℕ} {st : ℕ} {e : Verdict} (c : List ℕ)
     → Ready limit (afterAll limit r c) raw st e → Ready limit r (c ++ raw) st e
@@ -247,7 +247,7 @@ module _ (limit : ℕ) (small : limit ≤ 65279) where
         )) ∙ ap (λ (j : List ℕ). j ++ v ∷ []) b-is,
         d .starts ∙ a .starts,
       ))
-      (λ e p. absurd (never-both limit (b ++ v ∷ []) e (rw b-is at p) u))) in
+      (λ e p. absurd (never-both limit (b ++ v ∷ []) (rw b-is at p) u))) in
       let there : afterAll limit r (stuff (v ∷ [])) ≡ nextOf limit q (d .last) =
       rw (d .split, after-append limit (d .pre) (d .last ∷ []) r, d .runs) in
       record {
@@ -260,15 +260,15 @@ module _ (limit : ℕ) (small : limit ≤ 65279) where
   step-end : {st : ℕ} {b : List ℕ} {r : State}
       → At limit st b r → (v : ℕ) (e : Verdict) → Ends limit (b ++ v ∷ []) e → Ready limit r (stuff (v ∷ [])) st e
   step-end {st} {b} {r} a v e p =
-      let first : getD (b ++ v ∷ []) 0 0 ≢ 255 = ends-first limit small (b ++ v ∷ []) e p in
+      let first : getD (b ++ v ∷ []) 0 0 ≢ 255 = ends-first limit small (b ++ v ∷ []) p in
       let d : Due limit r v = due a v first in
       let q : State = d .q in
       let b-is : held q ≡ b = d .same ∙ a .held-is in
       let shows : advanceOf limit (q .scan) (d .last) .event ≡ Decided e =
       rw (d .step)
       (body-cases (q .scan) (d .part) v (rw b-is first) (λ (s : Step). s .event ≡ Decided e)
-      (λ k low w. absurd (never-both limit (b ++ v ∷ []) e p (rw b-is at (unfinished-of w (omega (arith, w .count))))))
-      (λ e′ w. ap Decided (same-end limit (b ++ v ∷ []) e′ e (rw b-is at w) p))) in
+      (λ k low w. absurd (never-both limit (b ++ v ∷ []) p (rw b-is at (unfinished-of w (omega (arith, w .count))))))
+      (λ e′ w. ap Decided (same-end limit (b ++ v ∷ []) (rw b-is at w) p))) in
       record {
         pre = d .pre;
         last = d .last;
@@ -305,25 +305,24 @@ module _ (limit : ℕ) (small : limit ≤ 65279) where
 
     pub read-ff : (b : List ℕ) → Unfinished limit b → (afterAll limit r (wire b ++ 255 ∷ []) .scan .phase ≡ Escape)
         × (afterAll limit r (wire b ++ 255 ∷ []) .scan .start ≡ st)
+        × (afterAll limit r (wire b ++ 255 ∷ []) .scan .filled ≡ length b)
     unfolding afterAll
     read-ff b u =
         let q : State = afterAll limit r (wire b) in
         let a : At limit st b q = read-body b u in
         let w = wait-in limit q (a .holds .room) (q .scan .phase) refl (a .between) (a .holds .phase)
         (rw (a .held-is) (u .some-byte)) in
-        rw (after-append limit (wire b) (255 ∷ []) r) (w .0, w .1 ∙ a .starts)
+        rw (after-append limit (wire b) (255 ∷ []) r) (w .0, w .1 ∙ a .starts, w .2 ∙ ap length (a .held-is))
 
     -- SHORT, LONG, FRAME and SUM
     body-ready : (b : List ℕ) (e : Verdict) → Ends limit b e → Ready limit r (wire b) st e
-    body-ready b e p = go b (some-byte e p) p
+    body-ready b e p = go b (some-byte p) p
       where
-        some-byte : (e : Verdict) → Ends limit b e → 1 ≤ length b
-        some-byte Frame p = omega (arith, p .true-length)
-        some-byte Short p = omega (arith, p .0)
-        some-byte Long p = omega (arith, p .0)
-        some-byte Stuff p = absurd p
-        some-byte Cut p = absurd p
-        some-byte Sum p = omega (arith, p .0)
+        some-byte : {e : Verdict} → Ends limit b e → 1 ≤ length b
+        some-byte (ends-frame g) = omega (arith, g .true-length)
+        some-byte (ends-short n l) = omega arith
+        some-byte (ends-long n f five l) = omega arith
+        some-byte (ends-sum w) = omega (arith, w .true-length)
 
         go : (b : List ℕ) → 1 ≤ length b → Ends limit b e → Ready limit r (wire b) st e
         go [] n p = absurd (omega arith)
@@ -333,12 +332,13 @@ module _ (limit : ℕ) (small : limit ≤ 65279) where
             let v : ℕ = s .last in
             let ends : Ends limit (a ++ v ∷ []) e = rw (s .parts) at p in
             let w : Ready limit (afterAll limit r (wire a)) (stuff (v ∷ [])) st e =
-            step-end (read-body a (ends-front limit small a v e ends)) v e ends in
+            step-end (read-body a (ends-front limit small a v ends)) v e ends in
             rw (s .parts, stuff-append a (v ∷ [])) (ready-after (wire a) w)
 
-    -- CUT and STUFF: the byte x that follows an FF that waits
-    ff-ready : (b : List ℕ) (x : ℕ) (e : Verdict) → Unfinished limit b → ((s : Scan) → s .phase ≡ Escape
-        → advanceOf limit s x .event ≡ Decided e) → Ready limit r (wire b ++ 255 ∷ x ∷ []) st e
+    -- CUT, STUFF and STUFFLATE: the byte x that follows an FF that waits
+    ff-ready : (b : List ℕ) (x : ℕ) (e : Verdict) → Unfinished limit b
+        → ((s : Scan) → s .phase ≡ Escape → s .filled ≡ length b → advanceOf limit s x .event ≡ Decided e)
+        → Ready limit r (wire b ++ 255 ∷ x ∷ []) st e
     ff-ready b x e u shows =
         let w = read-ff b u in
         record {
@@ -346,17 +346,25 @@ module _ (limit : ℕ) (small : limit ≤ 65279) where
           last = x;
           parts = sym (append-assoc (wire b) (255 ∷ []) (x ∷ []));
           starts = w .1;
-          event = shows (afterAll limit r (wire b ++ 255 ∷ []) .scan) (w .0);
+          event = shows (afterAll limit r (wire b ++ 255 ∷ []) .scan) (w .0) (w .2);
         }
 
-    -- the byte's decision is among those answered, with some body
-    abbrev Shown : List ℕ → ℕ → Type 0
-    Shown raw n = (b : List ℕ)
-        × List·Memᴰ (record { number = n; start = st; end = st + length raw; body = b }) (decidedAll limit r raw)
+    broken-ready : (b : List ℕ) (x : ℕ) (e : Verdict) {raw : List ℕ} → Breaks limit raw b x
+        → brokenOf (length b) x ≡ e → Ready limit r raw st e
+    broken-ready b x e w is =
+        rw (w .bytes) (ff-ready b x e (w .unfinished)
+        (λ s f n. rw (ne-eqb x 255 (w .not-header), f, ne-eqb x 85 (w .not-stuffed), n) (ap Decided is)))
 
-    shows : {raw : List ℕ} {n : ℕ} (e : Verdict) → n ≡ verdictNumber e → Ready limit r raw st e → Shown raw n
+    -- the byte's decision is among those answered, with some body
+    abbrev Shown : List ℕ → ℕ → List ℕ → Type 0
+    Shown raw n values = (b : List ℕ)
+        × List·Memᴰ (record { number = n; start = st; end = st + length raw; values = values; body = b })
+        (decidedAll limit r raw)
+
+    shows : {raw : List ℕ} {n : ℕ} {values : List ℕ} (e : Verdict)
+        → n ≡ verdictNumber e → values ≡ verdictValues e → Ready limit r raw st e → Shown raw n values
     unfolding decidedAll afterAll
-    shows {raw} {n} e code w =
+    shows {raw} {n} {values} e code carried w =
         let q : State = afterAll limit r (w .pre) in
         let ev : advanceOf limit (q .scan) (w .last) .event ≡ Decided e = w .event in
         let yes : decidesOf (advanceOf limit (q .scan) (w .last) .event) ≡ true = ap decidesOf ev in
@@ -365,9 +373,10 @@ module _ (limit : ℕ) (small : limit ≤ 65279) where
         = ap (λ (z : State). z .scan .consumed) (sym (after-append limit (w .pre) (w .last ∷ []) r))
         ∙ kept limit small all r i .place in
         let b : List ℕ = decisionAt limit q (w .last) .body in
-        let here : List·Memᴰ (record { number = n; start = st; end = st + length all; body = b })
+        let here : List·Memᴰ (record { number = n; start = st; end = st + length all; values = values; body = b })
         (decidedAll limit q (w .last ∷ []))
-        = rw yes (List·Memᴰ·head (decision-path (code ∙ sym (ap eventCode ev)) (sym (w .starts)) (sym end) refl)) in (
+        = rw yes (List·Memᴰ·head (decision-path (code ∙ sym (ap eventCode ev)) (sym (w .starts)) (sym end)
+        (carried ∙ sym (ap eventValues ev)) refl)) in (
           b,
           (rw (
             w .parts,
@@ -375,16 +384,15 @@ module _ (limit : ℕ) (small : limit ≤ 65279) where
           ) (Memᴰ·append-right (decidedAll limit r (w .pre)) here)),
         )
 
-    cut-at : (s : Scan) → s .phase ≡ Escape → advanceOf limit s 255 .event ≡ Decided Cut
-    cut-at s e = rw e
-
-    stuff-at : (x : ℕ) → x ≢ 85 → x ≢ 255 → (s : Scan) → s .phase ≡ Escape → advanceOf limit s x .event ≡ Decided Stuff
-    stuff-at x k n s e = rw (ne-eqb x 255 n, e, ne-eqb x 85 k)
-
-    pub reads : {raw : List ℕ} {n : ℕ} {body : List ℕ} → Decides limit raw n body → Shown raw n
-    reads (is-frame b n h e g) = shows Frame n (rw e (body-ready b Frame g))
-    reads (is-short b n h e l k) = shows Short n (rw e (body-ready b Short (l, k)))
-    reads (is-long b n h e l f five k) = shows Long n (rw e (body-ready b Long (l, f, five, k)))
-    reads (is-stuff b x n h e u k f) = shows Stuff n (rw e (ff-ready b x Stuff u (stuff-at x k f)))
-    reads (is-cut b n h e u) = shows Cut n (rw e (ff-ready b 255 Cut u cut-at))
-    reads (is-sum b n h e l k m w) = shows Sum n (rw e (body-ready b Sum (l, k, m, w)))
+    pub reads : {raw : List ℕ} {n : ℕ} {values body : List ℕ} → Decides limit raw n values body → Shown raw n values
+    reads (is-frame b n v h e g) = shows Frame n v (rw e (body-ready b Frame (ends-frame g)))
+    reads (is-short b n v h e l k) = shows Short n v (rw e (body-ready b Short (ends-short l k)))
+    reads (is-long b n v h e l f five k) = shows Long n v (rw e (body-ready b Long (ends-long l f five k)))
+    reads (is-stuff b x n v h w early) =
+        shows (Stuff x) n v (broken-ready b x (Stuff x) w (rw (lt-ltb (length b) headSize early)))
+    reads (is-stuff-late b x n v h w late) =
+        shows (StuffLate x) n v (broken-ready b x (StuffLate x) w (rw (le-ltb (length b) headSize late)))
+    reads (is-cut b n v h e u) = shows Cut n v (rw e (ff-ready b 255 Cut u (λ s f k. rw f)))
+    reads (is-sum b n v h e w) =
+        let sum : Verdict = Sum (foundSum b) (computedSum b) in
+        shows sum n v (rw e (body-ready b sum (ends-sum w)))

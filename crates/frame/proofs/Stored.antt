@@ -21,7 +21,7 @@ use Rattle.frame.specs.EachCall.{later, AllInPieces}
 use Rattle.frame.specs.declared.scan.Event.{Event}
 use Rattle.frame.specs.declared.scan.Event.the-variants.{Quiet, Decided}
 use Rattle.frame.proofs.Puts.{put-other, put-length, put-same}
-use Rattle.frame.proofs.EachCall.{numbered}
+use Rattle.frame.proofs.EachCall.{not-other}
 use Rattle.frame.proofs.Steps.{kept}
 
 -- ---- one byte
@@ -103,7 +103,7 @@ module _ (limit : ℕ) (r : State) (room : r .scan .filled < length (r .body)) w
 -- ---- a run of bytes
 
 -- a reader in range runs
-feed-run : (limit : ℕ) (r : State) (bs : List ℕ)
+pub feed-run : (limit : ℕ) (r : State) (bs : List ℕ)
     → r .scan .filled ≤ limit + 1 → r .scan .consumed + length bs ≤ 2 ^ 62 → feedOf limit r bs ≡ runOf limit bs 0 r
 feed-run limit r bs inside room =
     rw (
@@ -131,7 +131,7 @@ stored-at limit r x h room =
 -- a byte that decides is not answered MORE
 decides-some : (e : Event) (n s p : ℕ) → decidesOf e ≡ true → eventRow e n s p .number ≢ 0
 decides-some Quiet n s p d = absurd (true≢false (sym d))
-decides-some (Decided v) n s p d = λ h. omega (arith, numbered v .low)
+decides-some (Decided v) n s p d = not-other v 0 refl
 
 module _ (limit : ℕ) where
   abbrev Quiets : List ℕ → ℕ → State → Type 0

@@ -11,7 +11,7 @@ use lib.Dec.{eqb}
 use Rattle.frame.specs.Frames.{AllFrom, Apart, Lists, Found, found, IsFrame}
 use Rattle.frame.specs.FramesComputed.{framesOf}
 use Rattle.frame.specs.Decisions.{Decision, DecisionsFrom, Decides, IsDecision}
-use Rattle.frame.specs.Decisions.{is-frame, is-short, is-long, is-stuff, is-cut, is-sum}
+use Rattle.frame.specs.Decisions.{is-frame, is-short, is-long, is-stuff, is-stuff-late, is-cut, is-sum}
 use Rattle.frame.specs.Logs.{framesIn}
 use Rattle.frame.specs.Wire.{wire, Good}
 use Rattle.frame.specs.StreamCorrect.{OneList, OneDecisions, DecidedFrames}
@@ -114,30 +114,31 @@ stands-among (x ∷ ds) d m one =
     go false e rest (inr k) = rest k
 
 -- a decision of number 1 is a frame
-good-frame : (limit : ℕ) (raw body : List ℕ) (n : ℕ) → Decides limit raw n body → n ≡ 1
-    → (raw ≡ wire body) × Good limit body
-good-frame limit raw body n (is-frame b e f w g) one = rw f (w, g)
-good-frame limit raw body n (is-short b e f w g h) one = absurd (omega arith)
-good-frame limit raw body n (is-long b e f w g h i j) one = absurd (omega arith)
-good-frame limit raw body n (is-stuff b x e f w g h i) one = absurd (omega arith)
-good-frame limit raw body n (is-cut b e f w g) one = absurd (omega arith)
-good-frame limit raw body n (is-sum b e f w g h i j) one = absurd (omega arith)
+good-frame : {limit : ℕ} {raw values body : List ℕ} {n : ℕ} → Decides limit raw n values body → n ≡ 1
+    → (raw ≡ wire body) × (values ≡ []) × Good limit body
+good-frame (is-frame b e v f w g) one = rw f (w, v, g)
+good-frame (is-short b e v f w g h) one = absurd (omega arith)
+good-frame (is-long b e v f w g h i j) one = absurd (omega arith)
+good-frame (is-stuff b x e v f w g) one = absurd (omega arith)
+good-frame (is-stuff-late b x e v f w g) one = absurd (omega arith)
+good-frame (is-cut b e v f w g) one = absurd (omega arith)
+good-frame (is-sum b e v f w g) one = absurd (omega arith)
 
 decided-frame : (limit : ℕ) (t : List ℕ) (d : Decision) → IsDecision limit t d → d .number ≡ 1
     → IsFrame limit t (frameOf d)
 decided-frame limit t d i one =
-    let g = good-frame limit (i .raw) (d .body) (d .number) (i .decides) one in
+    let g = good-frame (i .decides) one in
     record {
       before = i .before;
       after = i .after;
       bytes = rw (g .0) at (i .bytes);
       starts = i .starts;
       ends = rw (g .0) at (i .ends);
-      good = g .1;
+      good = g .2;
     }
 
 frame-decided : (limit : ℕ) (t : List ℕ) (f : Found) → IsFrame limit t f
-    → IsDecision limit t (record { number = 1; start = f .start; end = f .end; body = f .body })
+    → IsDecision limit t (record { number = 1; start = f .start; end = f .end; values = []; body = f .body })
 frame-decided limit t f i =
     record {
       before = i .before;
@@ -146,7 +147,7 @@ frame-decided limit t f i =
       bytes = i .bytes;
       starts = i .starts;
       ends = i .ends;
-      decides = is-frame (f .body) refl refl refl (i .good);
+      decides = is-frame (f .body) refl refl refl refl (i .good);
     }
 
 -- frames among decisions rise as those do
@@ -166,5 +167,5 @@ decided-frames limit small t ds l =
     (λ f m. let w = stands ds f m in
     rw (w .same) (all .complete (frameOf (w .decision))
     (decided-frame limit t (w .decision) (l .sound (w .decision) (w .member)) (w .number))))
-    (λ f m. stands-among ds (record { number = 1; start = f .start; end = f .end; body = f .body })
+    (λ f m. stands-among ds (record { number = 1; start = f .start; end = f .end; values = []; body = f .body })
     (l .complete _ (frame-decided limit t f (all .sound f m))) refl)

@@ -9,9 +9,10 @@ named-rows =
       frame = λ c s e. refl;
       short = λ c s e. refl;
       long = λ c s e. refl;
-      stuff = λ c s e. refl;
+      stuff = λ c s e x. refl;
+      stuff-late = λ c s e x. refl;
       cut = λ c s e. refl;
-      sum = λ c s e. refl;
+      sum = λ c s e f g. refl;
       state = refl;
       used = refl;
       clean = λ n. refl;
@@ -22,9 +23,11 @@ named-rows =
       room = refl;
       quiet = λ c s e. refl;
       decides = λ c s e. refl;
+      decides-late = λ c s e x. refl;
       quiet-continues = refl;
       decided-stops = λ v. refl;
       count = λ k c v. refl;
+      further = λ k c s e v. refl;
     }
 
 pub named-states : NamedStates

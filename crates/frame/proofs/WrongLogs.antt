@@ -51,6 +51,7 @@ wrong-logs limit r q =
       empty-short = λ d. omega (arith, first d .empty refl .0);
       empty-changes = λ n d. n (first d .empty refl .1);
       short-end = λ d. omega (arith, first d .ends refl);
+      late-end = λ d. omega (arith, first d .ends refl);
       used-soon = λ d. omega (arith, first d .used refl);
       used-not = λ bytes h d. omega (arith, first d .unused (λ e. omega arith));
       used-consumes = λ bytes d. omega (arith, first d .used-none refl);

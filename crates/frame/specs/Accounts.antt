@@ -13,7 +13,7 @@ use Rattle.frame.specs.Logs.{feed, finish, Entry, offered, consumedIn, d
 -- the answers that a feed of a reader that began fresh may have: PROTOCOL 4.1 to 4.11 without CLEAN, OPEN
 -- and STATE
 abbrev pub feedNumbers : List ℕ
-feedNumbers = 0 ∷ 1 ∷ 11 ∷ 12 ∷ 13 ∷ 14 ∷ 15 ∷ 18 ∷ []
+feedNumbers = 0 ∷ 1 ∷ 11 ∷ 12 ∷ 13 ∷ 14 ∷ 15 ∷ 18 ∷ 19 ∷ []
 
 -- and a finish: CLEAN, OPEN
 abbrev pub finishNumbers : List ℕ

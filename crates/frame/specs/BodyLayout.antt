@@ -4,7 +4,8 @@ use mathlib.Core.List.{List, [], _∷_, _++_}
 use mathlib.Core.Path.{_≡_}
 use lib.ListN.{length, take}
 use Rattle.base.specs.Sums.{total}
-use Rattle.frame.specs.Wire.{lengthOf, commandOf, numberOf, flagsOf, payloadOf, bodyOf, joinedChunks, Good}
+use Rattle.frame.specs.Wire.{lengthOf, commandOf, numberOf, flagsOf, payloadOf, bodyOf, joinedChunks, foundSum}
+use Rattle.frame.specs.Wire.{computedSum, Good}
 
 -- ---- body-layout: the first six bytes of a body are b0 to b5; in a good body the payload p and the sum s follow
 --
@@ -19,6 +20,11 @@ pub record BodyLayout (b0 b1 b2 b3 b4 b5 s : ℕ) (p r : List ℕ) : Type 0 wher
   pub payload-at : payloadOf (b0 ∷ b1 ∷ b2 ∷ b3 ∷ b4 ∷ b5 ∷ r) ≡ take (b0 * 256 + b1 - 5) r
   pub payload-whole : b0 * 256 + b1 ≡ length p + 5
       → payloadOf (b0 ∷ b1 ∷ b2 ∷ b3 ∷ b4 ∷ b5 ∷ (p ++ s ∷ [])) ≡ p
+  -- the sum found and the sum computed, of any body with a true length: PROTOCOL 4.20
+  pub sums-at : b0 * 256 + b1 ≡ length p + 5
+      → (foundSum (b0 ∷ b1 ∷ b2 ∷ b3 ∷ b4 ∷ b5 ∷ (p ++ s ∷ [])) ≡ s)
+      × (computedSum (b0 ∷ b1 ∷ b2 ∷ b3 ∷ b4 ∷ b5 ∷ (p ++ s ∷ []))
+      ≡ (b0 + b1 + b2 + b3 + b4 + b5 + total p) % 256)
   -- good exactly when PROTOCOL 2.9 holds
   pub good-when : (limit : ℕ)
       → b0 * 256 + b1 ≡ length p + 5 → length p + 5 ≤ limit → s ≡ (b0 + b1 + b2 + b3 + b4 + b5 + total p) % 256

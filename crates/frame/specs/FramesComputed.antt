@@ -5,10 +5,9 @@ use mathlib.Core.Bool.{Bool, true, false, _&&_}
 use mathlib.Core.List.{List, [], _∷_}
 use mathlib.Core.Option.{Option, none, some}
 use lib.Dec.{leb, eqb}
-use lib.ListN.{length, getD, take, drop}
-use Rattle.base.specs.Sums.{checksum}
+use lib.ListN.{length, drop}
 use Rattle.frame.specs.Frames.{Found, frontBody}
-use Rattle.frame.specs.Wire.{wire, lengthOf}
+use Rattle.frame.specs.Wire.{wire, lengthOf, foundSum, computedSum}
 
 -- the body of a stuffed form: the byte after each FF is dropped
 unfoldable pub unstuff : Bool → List ℕ → List ℕ
@@ -28,7 +27,7 @@ candidate t = frontBody (unstuff false (drop 2 t))
 
 -- whether the sum of a body holds: PROTOCOL 2.5
 unfoldable pub sumHolds : List ℕ → Bool
-sumHolds b = eqb (getD b (lengthOf b + 1) 0) (checksum (take (lengthOf b + 1) b))
+sumHolds b = eqb (foundSum b) (computedSum b)
 
 -- whether a body is good: PROTOCOL 2.9
 unfoldable pub isGood : ℕ → List ℕ → Bool

@@ -17,6 +17,7 @@ pub mod FramesComputed
 -- Claims: what is proved. StreamCorrect is the buyer's third demand
 pub mod StreamCorrect
 pub mod WrongLogs
+pub mod Broken
 pub mod LogExact
 pub mod Sending
 pub mod EachCall

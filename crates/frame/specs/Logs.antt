@@ -10,7 +10,7 @@ use Rattle.base.specs.Rows.{Row}
 use Rattle.frame.specs.Decisions.{Decision}
 use Rattle.frame.specs.Frames.{Found, found, frontBody}
 use Rattle.frame.specs.State.{State}
-use Rattle.frame.specs.Table.{countOf}
+use Rattle.frame.specs.Table.{countOf, furtherOf}
 
 -- the two calls: PROTOCOL 5.1
 pub data Call : Type 0 where
@@ -66,7 +66,7 @@ delivered (e ∷ es) = addDelivered e (delivered es)
 
 -- the numbers of FRAME and of the refused frames
 abbrev pub decided : ℕ → Bool
-decided number = eqb number 1 || (leb 11 number && leb number 15)
+decided number = eqb number 1 || ((leb 11 number && leb number 15) || eqb number 19)
 
 -- the body held at FRAME and at SUM: PROTOCOL 4.13
 abbrev pub bodyHeld : ℕ → List ℕ → List ℕ
@@ -79,6 +79,7 @@ decisionIn e =
       number = e .row .number;
       start = getD (e .row .values) 1 0;
       end = getD (e .row .values) 2 0;
+      values = furtherOf (e .row);
       body = bodyHeld (e .row .number) (e .after .body);
     }
 

@@ -6,11 +6,11 @@ use mathlib.Core.List.{List}
 use lib.Dec.{ltb, leb, eqb}
 use lib.ListN.{set}
 use Rattle.frame.specs.State.{Phase, Idle, Half, Header, Open, Escape, Scan, Step}
-use Rattle.frame.specs.Wire.{widest}
+use Rattle.frame.specs.Wire.{headSize, widest}
 use Rattle.frame.specs.declared.scan.Event.{Event}
 use Rattle.frame.specs.declared.scan.Event.the-variants.{Quiet, Decided}
 use Rattle.frame.specs.declared.scan.Verdict.{Verdict}
-use Rattle.frame.specs.declared.scan.Verdict.the-variants.{Frame, Short, Long, Stuff, Cut, Sum}
+use Rattle.frame.specs.declared.scan.Verdict.the-variants.{Frame, Short, Long, Stuff, StuffLate, Cut, Sum}
 
 -- ---- states
 
@@ -89,9 +89,9 @@ grownOf s l v =
 abbrev pub endedOf : Scan → ℕ → Verdict → Step
 endedOf s v w = storedOf (closedOf (s .consumed + 1)) v (Decided w)
 
--- FRAME or SUM: PROTOCOL 3.13, 3.14
+-- FRAME or SUM: PROTOCOL 3.13, 3.14, 4.20
 abbrev pub completedOf : Scan → ℕ → Step
-completedOf s v = cond (eqb v (s .sum)) (endedOf s v Frame) (endedOf s v Sum)
+completedOf s v = cond (eqb v (s .sum)) (endedOf s v Frame) (endedOf s v (Sum v (s .sum)))
 
 -- SHORT and LONG: PROTOCOL 3.12
 abbrev pub measuredOf : ℕ → Scan → ℕ → ℕ → Step
@@ -122,9 +122,14 @@ onFFOf s = onFFIn (s .phase) s
 abbrev pub outsideOf : ℕ → Event → Step
 outsideOf at e = silentOf (closedOf (at + 1)) e
 
+-- STUFF or STUFFLATE, where the byte x breaks the stuffing after so many body bytes: PROTOCOL 4.6, 4.19
+abbrev pub brokenOf : ℕ → ℕ → Verdict
+brokenOf filled x = cond (ltb filled headSize) (Stuff x) (StuffLate x)
+
 -- a byte that follows an FF that waits: PROTOCOL 3.9, 3.11
 abbrev pub onEscapedOf : ℕ → Scan → ℕ → Step
-onEscapedOf limit s x = cond (eqb x 85) (bodyByteOf limit s 255) (outsideOf (s .consumed) (Decided Stuff))
+onEscapedOf limit s x =
+    cond (eqb x 85) (bodyByteOf limit s 255) (outsideOf (s .consumed) (Decided (brokenOf (s .filled) x)))
 
 -- a byte other than FF, by phase: PROTOCOL 3.6, 3.7, 3.15
 abbrev pub onOtherIn : Phase → ℕ → Scan → ℕ → Step

@@ -1,7 +1,7 @@
--- Statement: the number and the values of each answer. PROTOCOL 4.1 to 4.12, 6.3, 6.4, 6.7, 12.4.
+-- Statement: the number and the values of each answer. PROTOCOL 4.1 to 4.12, 4.19, 4.20, 6.3, 6.4, 6.7, 12.4.
 use Prim.Native.Nat.{ℕ}
-use mathlib.Core.List.{[], _∷_}
-use lib.ListN.{getD}
+use mathlib.Core.List.{List, [], _∷_}
+use lib.ListN.{getD, drop}
 use Rattle.base.specs.Rows.{Row, row}
 use Rattle.frame.specs.declared.reader.FeedResult.{FeedResult}
 use Rattle.frame.specs.declared.reader.FinishResult.{FinishResult}
@@ -19,13 +19,24 @@ abbrev pub verdictNumber : Verdict → ℕ
 verdictNumber verdict.Frame = 1
 verdictNumber verdict.Short = 11
 verdictNumber verdict.Long = 12
-verdictNumber verdict.Stuff = 13
+verdictNumber (verdict.Stuff byte) = 13
+verdictNumber (verdict.StuffLate byte) = 19
 verdictNumber verdict.Cut = 14
-verdictNumber verdict.Sum = 15
+verdictNumber (verdict.Sum found computed) = 15
 
--- the answer to a feed that decides a frame: count, start and end
+-- and the values that they carry: PROTOCOL 4.19, 4.20
+abbrev pub verdictValues : Verdict → List ℕ
+verdictValues verdict.Frame = []
+verdictValues verdict.Short = []
+verdictValues verdict.Long = []
+verdictValues (verdict.Stuff byte) = byte ∷ []
+verdictValues (verdict.StuffLate byte) = byte ∷ []
+verdictValues verdict.Cut = []
+verdictValues (verdict.Sum found computed) = found ∷ computed ∷ []
+
+-- the answer to a feed that decides a frame: count, start and end, then what the verdict carries
 abbrev pub decidedRow : Verdict → ℕ → ℕ → ℕ → Row
-decidedRow v count start end = row (verdictNumber v) (count ∷ start ∷ end ∷ [])
+decidedRow v count start end = row (verdictNumber v) (count ∷ start ∷ end ∷ verdictValues v)
 
 -- the same for what one byte decides; a byte that decides nothing is MORE
 abbrev pub eventRow : Event → ℕ → ℕ → ℕ → Row
@@ -54,3 +65,7 @@ writeRowOf written.Room = row 22 (0 ∷ [])
 -- the count of an answer to a feed
 abbrev pub countOf : Row → ℕ
 countOf r = getD (r .values) 0 0
+
+-- its values after count, start and end
+abbrev pub furtherOf : Row → List ℕ
+furtherOf r = drop 3 (r .values)

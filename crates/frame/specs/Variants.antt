@@ -7,7 +7,7 @@ use mathlib.Core.Path.{_≡_}
 use Rattle.base.specs.Rows.{row}
 use Rattle.frame.specs.Rules.{decidesOf}
 use Rattle.frame.specs.State.{Idle, Half, Header, Open, Escape, phaseOf, stateOf}
-use Rattle.frame.specs.Table.{eventRow, rowOf, finishRowOf, writeRowOf, countOf}
+use Rattle.frame.specs.Table.{eventRow, rowOf, finishRowOf, writeRowOf, countOf, furtherOf}
 use Rattle.frame.specs.declared.place.WirePlace.{WirePlace}
 use Rattle.frame.specs.declared.reader.Reader.{Reader}
 use Rattle.frame.specs.declared.scan.Verdict.{Verdict}
@@ -22,15 +22,20 @@ use Rattle.frame.specs.declared.writer.WriteResult.the-variants as writt
 abbrev pub wirePlace : ℕ → WirePlace
 wirePlace n = record { 0 = n }
 
--- ---- named-rows: every answer, with the count c, the start s, the end e; at a finish, n bytes consumed in all
+-- ---- named-rows: every answer, with the count c, the start s, the end e, the byte x, the sums f and g; at a finish, n
+-- bytes consumed in all
 pub record NamedRows : Type 0 where
   pub more : (c : ℕ) → rowOf (answer.More c) ≡ row 0 (c ∷ [])
   pub frame : (c s e : ℕ) → rowOf (answer.Decided c (wirePlace s) (wirePlace e) verdict.Frame) ≡ row 1 (c ∷ s ∷ e ∷ [])
   pub short : (c s e : ℕ) → rowOf (answer.Decided c (wirePlace s) (wirePlace e) verdict.Short) ≡ row 11 (c ∷ s ∷ e ∷ [])
   pub long : (c s e : ℕ) → rowOf (answer.Decided c (wirePlace s) (wirePlace e) verdict.Long) ≡ row 12 (c ∷ s ∷ e ∷ [])
-  pub stuff : (c s e : ℕ) → rowOf (answer.Decided c (wirePlace s) (wirePlace e) verdict.Stuff) ≡ row 13 (c ∷ s ∷ e ∷ [])
+  pub stuff : (c s e x : ℕ)
+      → rowOf (answer.Decided c (wirePlace s) (wirePlace e) (verdict.Stuff x)) ≡ row 13 (c ∷ s ∷ e ∷ x ∷ [])
+  pub stuff-late : (c s e x : ℕ)
+      → rowOf (answer.Decided c (wirePlace s) (wirePlace e) (verdict.StuffLate x)) ≡ row 19 (c ∷ s ∷ e ∷ x ∷ [])
   pub cut : (c s e : ℕ) → rowOf (answer.Decided c (wirePlace s) (wirePlace e) verdict.Cut) ≡ row 14 (c ∷ s ∷ e ∷ [])
-  pub sum : (c s e : ℕ) → rowOf (answer.Decided c (wirePlace s) (wirePlace e) verdict.Sum) ≡ row 15 (c ∷ s ∷ e ∷ [])
+  pub sum : (c s e f g : ℕ)
+      → rowOf (answer.Decided c (wirePlace s) (wirePlace e) (verdict.Sum f g)) ≡ row 15 (c ∷ s ∷ e ∷ f ∷ g ∷ [])
   pub state : rowOf answer.State ≡ row 17 (0 ∷ [])
   pub used : rowOf answer.Used ≡ row 18 (0 ∷ [])
   pub clean : (n : ℕ) → finishRowOf (ending.Clean (wirePlace n)) ≡ row 2 (n ∷ [])
@@ -42,10 +47,12 @@ pub record NamedRows : Type 0 where
   -- a byte that decides nothing, and one that decides
   pub quiet : (c s e : ℕ) → eventRow event.Quiet c s e ≡ row 0 (c ∷ [])
   pub decides : (c s e : ℕ) → eventRow (event.Decided verdict.Short) c s e ≡ row 11 (c ∷ s ∷ e ∷ [])
+  pub decides-late : (c s e x : ℕ) → eventRow (event.Decided (verdict.StuffLate x)) c s e ≡ row 19 (c ∷ s ∷ e ∷ x ∷ [])
   pub quiet-continues : decidesOf event.Quiet ≡ false
   pub decided-stops : (v : Verdict) → decidesOf (event.Decided v) ≡ true
-  -- the count is the first value
+  -- the count is the first value; the further ones come after start and end
   pub count : (k c : ℕ) (v : List ℕ) → countOf (row k (c ∷ v)) ≡ c
+  pub further : (k c s e : ℕ) (v : List ℕ) → furtherOf (row k (c ∷ s ∷ e ∷ v)) ≡ v
 
 -- ---- named-states: every field of a reader, and every phase
 

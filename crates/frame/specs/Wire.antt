@@ -43,7 +43,11 @@ flagsOf b = twoAt b 4
 abbrev pub payloadOf : List ℕ → List ℕ
 payloadOf b = take (lengthOf b - 5) (drop 6 b)
 
--- the first six bytes of a body whose payload has this size
+-- the size of a body's head: the bytes before its payload, which are length, command, sequence number and flags
+abbrev pub headSize : ℕ
+headSize = 6
+
+-- the head of a body whose payload has this size
 abbrev pub headOf : ℕ → ℕ → ℕ → ℕ → List ℕ
 headOf size command number flags = two (size + 5) (command ∷ number ∷ two flags [])
 
@@ -64,12 +68,20 @@ frameOf command number flags payload = wire (bodyOf command number flags payload
 abbrev pub joinedChunks : List ℕ → List ℕ → List ℕ → List ℕ
 joinedChunks first second third = first ++ (second ++ third)
 
+-- the sum that a body has: its last byte, at place L + 1
+abbrev pub foundSum : List ℕ → ℕ
+foundSum b = getD b (lengthOf b + 1) 0
+
+-- the sum that it should have, of all bytes before that one: PROTOCOL 2.5
+abbrev pub computedSum : List ℕ → ℕ
+computedSum b = checksum (take (lengthOf b + 1) b)
+
 -- a good body, a term of ours: PROTOCOL 2.9, for any limit
 pub record Good (limit : ℕ) (b : List ℕ) : Type 0 where
   pub true-length : length b ≡ lengthOf b + 2
   pub shortest : 5 ≤ lengthOf b
   pub longest : lengthOf b ≤ limit
-  pub sum-holds : getD b (lengthOf b + 1) 0 ≡ checksum (take (lengthOf b + 1) b)
+  pub sum-holds : foundSum b ≡ computedSum b
 
 -- the greatest limit of the claims about streams: PROTOCOL 2.10
 abbrev pub widest : ℕ

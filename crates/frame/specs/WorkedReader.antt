@@ -1,5 +1,6 @@
 -- Claims: the reader worked out: literal bytes for a fresh reader, and its answer. PROTOCOL 3.4 to 3.18, 4.3, 4.9.
--- MORE is 0, FRAME 1, SHORT 11, LONG 12, STUFF 13, CUT 14, SUM 15; their values are count, start and end.
+-- MORE is 0, FRAME 1, SHORT 11, LONG 12, STUFF 13, CUT 14, SUM 15; their values are count, start and end, at STUFF then
+-- the byte that breaks the stuffing, at SUM the sum found and the sum computed.
 use Prim.Native.Nat.{ℕ}
 use mathlib.Core.List.{List, [], _∷_}
 use mathlib.Core.Path.{_≡_}
@@ -41,13 +42,14 @@ pub record WorkedReader : Type 0 where
   pub long : read (0xFF ∷ 0xFF ∷ 0x04 ∷ 0x01 ∷ []) ≡ row 12 (4 ∷ 0 ∷ 4 ∷ [])
   pub moved-start : read (0xFF ∷ 0xFF ∷ 0xFF ∷ 0x55 ∷ 0x00 ∷ []) ≡ row 12 (5 ∷ 1 ∷ 5 ∷ [])
   -- after an FF that waits: another byte; a header, after which the new frame is open
-  pub broken : read (0xFF ∷ 0xFF ∷ 0x00 ∷ 0x05 ∷ 0x07 ∷ 0xFF ∷ 0x00 ∷ []) ≡ row 13 (7 ∷ 0 ∷ 7 ∷ [])
+  pub broken : read (0xFF ∷ 0xFF ∷ 0x00 ∷ 0x05 ∷ 0x07 ∷ 0xFF ∷ 0x00 ∷ []) ≡ row 13 (7 ∷ 0 ∷ 7 ∷ 0 ∷ [])
   pub cut : read (0xFF ∷ 0xFF ∷ 0x00 ∷ 0x05 ∷ 0x07 ∷ 0xFF ∷ 0xFF ∷ 0x00 ∷ []) ≡ row 14 (7 ∷ 0 ∷ 7 ∷ [])
   pub after-cut : readNext (0xFF ∷ 0xFF ∷ 0x00 ∷ 0x05 ∷ 0x07 ∷ 0xFF ∷ 0xFF ∷ [])
       (0x00 ∷ 0x05 ∷ 0x07 ∷ 0x01 ∷ 0x00 ∷ 0x00 ∷ 0x0D ∷ [])
       ≡ row 1 (7 ∷ 5 ∷ 14 ∷ [])
   -- the sum is wrong, and the reader holds the body
-  pub sum : read (0xFF ∷ 0xFF ∷ 0x00 ∷ 0x05 ∷ 0x07 ∷ 0x01 ∷ 0x02 ∷ 0x03 ∷ 0x0D ∷ []) ≡ row 15 (9 ∷ 0 ∷ 9 ∷ [])
+  pub sum : read (0xFF ∷ 0xFF ∷ 0x00 ∷ 0x05 ∷ 0x07 ∷ 0x01 ∷ 0x02 ∷ 0x03 ∷ 0x0D ∷ [])
+      ≡ row 15 (9 ∷ 0 ∷ 9 ∷ 0x0D ∷ 0x12 ∷ [])
   pub sum-holds-body : take 8 (readerAfter (0xFF ∷ 0xFF ∷ 0x00 ∷ 0x05 ∷ 0x07 ∷ 0x01 ∷ 0x02 ∷ 0x03 ∷ 0x0D ∷ []) .body)
       ≡ 0x00 ∷ 0x05 ∷ 0x07 ∷ 0x01 ∷ 0x02 ∷ 0x03 ∷ 0x0D ∷ 0x00 ∷ []
   -- finish: nothing open, one FF, a header, in a body, at an FF that waits, after a refused frame
@@ -72,7 +74,7 @@ madeUp filled length body =
 pub record MadeUpEnd (body : List ℕ) : Type 0 where
   pub below-limit : feedOf 1024 (madeUp 1024 60000 body) (7 ∷ []) .row ≡ row 0 (1 ∷ [])
   pub at-limit : feedOf 1024 (madeUp 1025 60000 body) (7 ∷ []) .row ≡ row 1 (1 ∷ 2 ∷ 10 ∷ [])
-  pub beyond-length : feedOf 1024 (madeUp 9 3 body) (8 ∷ []) .row ≡ row 15 (1 ∷ 2 ∷ 10 ∷ [])
+  pub beyond-length : feedOf 1024 (madeUp 9 3 body) (8 ∷ []) .row ≡ row 15 (1 ∷ 2 ∷ 10 ∷ 8 ∷ 7 ∷ [])
 
 -- whatever bytes it keeps
 abbrev pub MadeUpEnds : Type 0

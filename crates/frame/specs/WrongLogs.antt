@@ -29,7 +29,7 @@ pub record WrongLogs (limit : ℕ) (r q : State) : Type 0 where
   pub feed-open : Refused limit (feed (7 ∷ [])) (row 16 (1 ∷ 0 ∷ [])) r q
   pub feed-state : Refused limit (feed (7 ∷ [])) (row 17 (1 ∷ [])) r q
   pub feed-other : (bytes v : List ℕ) (k : ℕ)
-      → among k (0 ∷ 1 ∷ 11 ∷ 12 ∷ 13 ∷ 14 ∷ 15 ∷ 18 ∷ []) ≡ false → Refused limit (feed bytes) (row k v) r q
+      → among k (0 ∷ 1 ∷ 11 ∷ 12 ∷ 13 ∷ 14 ∷ 15 ∷ 18 ∷ 19 ∷ []) ≡ false → Refused limit (feed bytes) (row k v) r q
   -- a finish is answered MORE, FRAME, STATE, or a number that no finish has
   pub finish-more : Refused limit finish (row 0 (0 ∷ [])) r q
   pub finish-frame : Refused limit finish (row 1 (0 ∷ 0 ∷ 0 ∷ [])) r q
@@ -46,8 +46,9 @@ pub record WrongLogs (limit : ℕ) (r q : State) : Type 0 where
   -- a feed with no data decides something, or changes the reader
   pub empty-short : Refused limit (feed []) (row 11 (0 ∷ 0 ∷ 0 ∷ [])) r q
   pub empty-changes : q ≢ r → Refused limit (feed []) (row 0 (0 ∷ [])) r q
-  -- a frame has an end that the counts do not add up to
+  -- a refused frame has an end that the counts do not add up to
   pub short-end : Refused limit (feed (7 ∷ [])) (row 11 (1 ∷ 0 ∷ 9 ∷ [])) r q
+  pub late-end : Refused limit (feed (7 ∷ [])) (row 19 (1 ∷ 0 ∷ 9 ∷ 7 ∷ [])) r q
   -- USED comes too soon, or does not come; it consumes a byte; it changes the reader
   pub used-soon : Refused limit (feed (7 ∷ [])) (row 18 (0 ∷ [])) r q
   pub used-not : (bytes : List ℕ) → 2 ^ 62 < length bytes → Refused limit (feed bytes) (row 0 (length bytes ∷ [])) r q
@@ -65,7 +66,7 @@ pub record WrongLogs (limit : ℕ) (r q : State) : Type 0 where
       StreamCorrect limit (entry (feed (7 ∷ [])) (row 0 (1 ∷ [])) r q ∷ entry finish (row 2 (0 ∷ [])) q q ∷ []) → ⊥
   -- FRAME where the stream has no frame, and a frame that is not delivered
   pub no-frame : Refused frameLimit (feed (7 ∷ [])) (row 1 (1 ∷ 0 ∷ 1 ∷ [])) r q
-  pub not-delivered : Refused frameLimit (feed heartbeat) (row 15 (9 ∷ 0 ∷ 9 ∷ [])) r q
+  pub not-delivered : Refused frameLimit (feed heartbeat) (row 15 (9 ∷ 0 ∷ 9 ∷ 14 ∷ 13 ∷ [])) r q
   -- a frame with a wrong start, or with a wrong body
   pub other-start : Refused frameLimit (feed heartbeat) (row 1 (9 ∷ 1 ∷ 9 ∷ [])) r q
   pub other-body : q .body ≡ [] → Refused frameLimit (feed heartbeat) (row 1 (9 ∷ 0 ∷ 9 ∷ [])) r q

@@ -8,8 +8,8 @@ ghost use mathlib.Core.Path.{_≡_};
 ghost use Prim.Native.Nat.{_<_, _≤_, _^_};
 ghost use Rattle.frame.specs.State.{scanOf, stepOf};
 ghost use Rattle.frame.specs.Rules.{closedOf, headerOf, halfOf, escapeOf, silentOf, cutOf, storedOf, grownOf};
-ghost use Rattle.frame.specs.Rules.{endedOf, completedOf, bodyByteOf, onFFOf, outsideOf, onEscapedOf, onOtherOf};
-ghost use Rattle.frame.specs.Rules.{advanceOf, inRangeOf, decidesOf, Ready};
+ghost use Rattle.frame.specs.Rules.{endedOf, completedOf, bodyByteOf, onFFOf, outsideOf, brokenOf, onEscapedOf};
+ghost use Rattle.frame.specs.Rules.{onOtherOf, advanceOf, inRangeOf, decidesOf, Ready};
 
 pub enum Phase {
     // No frame is open; the last byte is not FF, or there is none.
@@ -34,14 +34,20 @@ pub struct Scan {
     pub sum: u8,
 }
 
+// The bytes of a body before its payload: length, command, sequence number, flags.
+const HEAD_SIZE: usize = 6;
+
 // What an open frame ends in: PROTOCOL 4.2, 4.4 to 4.8.
 pub enum Verdict {
     Frame,
     Short,
     Long,
-    Stuff,
+    // STUFF and STUFFLATE have the byte that breaks the stuffing: PROTOCOL 4.19.
+    Stuff { byte: u8 },
+    StuffLate { byte: u8 },
     Cut,
-    Sum,
+    // The sum found in the body, and the one computed: PROTOCOL 4.20.
+    Sum { found: u8, computed: u8 },
 }
 
 // What one byte on the wire decides, if anything.
@@ -176,7 +182,7 @@ fn ended(scan: Scan, v: u8, verdict: Verdict) -> Step
     stored(closed(next_place(at)), v, Event::Decided { verdict })
 }
 
-// The body is complete with its sum v: PROTOCOL 3.13, 3.14.
+// The body is complete with its sum v: PROTOCOL 3.13, 3.14, 4.20.
 fn completed(scan: Scan, v: u8) -> Step
     requires { ⌜ scan .consumed .0 < 2 ^ 62 ⌝ }
     ensures { λ r. ⌜ stepOf r ≡ completedOf (scanOf scan) v ⌝ }
@@ -184,7 +190,8 @@ fn completed(scan: Scan, v: u8) -> Step
     if v == scan.sum {
         return ended(scan, v, Verdict::Frame);
     }
-    ended(scan, v, Verdict::Sum)
+    let computed = scan.sum;
+    ended(scan, v, Verdict::Sum { found: v, computed })
 }
 
 // The body byte v, at the byte on the wire that completes it: PROTOCOL 3.12 to 3.14.
@@ -242,6 +249,16 @@ fn outside(at: WirePlace, event: Event) -> Step
     silent(closed(next_place(at)), event)
 }
 
+// What a frame with so many body bytes ends in, where a byte breaks its stuffing: PROTOCOL 4.6, 4.19.
+fn broken(filled: BodyPlace, byte: u8) -> Verdict
+    ensures { λ r. ⌜ r ≡ brokenOf (filled .0) byte ⌝ }
+{
+    if filled.0 < HEAD_SIZE {
+        return Verdict::Stuff { byte };
+    }
+    Verdict::StuffLate { byte }
+}
+
 // A byte other than FF that follows a waiting FF: PROTOCOL 3.9, 3.11.
 fn on_escaped(limit: usize, scan: Scan, byte: u8) -> Step
     requires { ⌜ Ready limit (scanOf scan) 1 ⌝ }
@@ -251,7 +268,8 @@ fn on_escaped(limit: usize, scan: Scan, byte: u8) -> Step
     if byte == 85 {
         return body_byte(limit, scan, 255);
     }
-    let verdict = Verdict::Stuff;
+    let filled = scan.filled;
+    let verdict = broken(filled, byte);
     outside(at, Event::Decided { verdict })
 }
 

@@ -1,5 +1,6 @@
 //! Families of captures, each aimed at one kind of trouble.
 
+use crate::breaks;
 use crate::capture::{push_head, push_record, Direction, DIRECTIONS, HEAD_SIZE, MAX_COUNT, RECORD_HEAD_SIZE};
 use crate::random::Rng;
 use crate::streams;
@@ -11,7 +12,7 @@ type Record = (Direction, Vec<u8>);
 
 /// Bytes that heads of captures and of records are made of, and some that are wrong there.
 const FEW: [u8; 9] = [b'L', b'F', b'T', 0, 1, 2, 5, 9, 0xFF];
-const STREAMS: [fn(&mut Rng, u64) -> Vec<u8>; 9] = [
+const STREAMS: [fn(&mut Rng, u64) -> Vec<u8>; 10] = [
     streams::whole,
     streams::damaged,
     streams::cut,
@@ -21,6 +22,7 @@ const STREAMS: [fn(&mut Rng, u64) -> Vec<u8>; 9] = [
     streams::lengths,
     streams::wrong_sums,
     streams::empty,
+    breaks::anywhere,
 ];
 
 /// Streams of both directions, mixed, in records of any size.
@@ -59,6 +61,21 @@ pub fn all_ff(rng: &mut Rng, index: u64) -> Vec<u8> {
     let streams = [streams::all_ff(rng, index), vec![0xFF; rng.between(0, 40)]];
     let most = rng.pick(&[2, 40, 3_000]);
     made_of(&mixed(streams, most, rng), rng)
+}
+
+/// Frames of both directions broken at every place of their bodies, the FF often in one record and its next byte in
+/// another.
+pub fn breaks(rng: &mut Rng, index: u64) -> Vec<u8> {
+    let streams = [breaks::every_place(rng, index), breaks::every_place(rng, index / 2)];
+    let most = rng.pick(&[1, 4, 40, 3_000]);
+    made_of(&mixed(streams, most, rng), rng)
+}
+
+/// A vector in both directions, in records of a few bytes.
+pub fn of_vector(rng: &mut Rng, index: u64) -> Vec<u8> {
+    let stream = &vectors::all()[index as usize];
+    let most = rng.pick(&[1, 2, 5]);
+    made_of(&mixed([stream.clone(), stream.clone()], most, rng), rng)
 }
 
 /// Ends at any place.
@@ -207,12 +224,13 @@ pub fn worked(_rng: &mut Rng, _index: u64) -> Vec<u8> {
 
 /// One capture of any of the random families.
 pub fn any(rng: &mut Rng, index: u64) -> Vec<u8> {
-    let families: [fn(&mut Rng, u64) -> Vec<u8>; 12] = [
+    let families: [fn(&mut Rng, u64) -> Vec<u8>; 13] = [
         whole,
         small_records,
         empty_records,
         in_step,
         all_ff,
+        breaks,
         cut,
         cut_heads,
         damaged,
@@ -224,7 +242,7 @@ pub fn any(rng: &mut Rng, index: u64) -> Vec<u8> {
     if index % 200 == 199 {
         return full_records(rng, index);
     }
-    families[(index % 12) as usize](rng, index)
+    families[index as usize % families.len()](rng, index)
 }
 
 fn any_records(rng: &mut Rng) -> Vec<Record> {

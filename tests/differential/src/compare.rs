@@ -2,6 +2,7 @@
 
 use crate::families::{self, Play, Program, Test, PROGRAMS};
 use crate::process::{self, Fault, Printed};
+use crate::seen::Seen;
 use crate::{cuts, driver, listing, replay, text, vectors};
 use std::path::{Path, PathBuf};
 use std::sync::atomic::{AtomicBool, AtomicUsize, Ordering};
@@ -32,6 +33,8 @@ struct Comparison {
     seed: u64,
     /// Programs that are not run any more: missing, or hung once.
     out: [AtomicBool; PROGRAMS.len()],
+    /// What this implementation printed for the tests so far.
+    seen: Mutex<Seen>,
 }
 
 #[derive(Default)]
@@ -50,6 +53,7 @@ pub fn compare(folder: &Path, seed: u64, count: u64) -> bool {
     let whole = comparison.run_all(&tests);
     score.passed += whole.passed;
     score.failed.extend(whole.failed);
+    comparison.check_seen(count, &mut score);
     report(&score);
     println!("{} passed, {} failed", score.passed, score.failed.len());
     score.failed.is_empty()
@@ -69,7 +73,7 @@ fn report(score: &Score) {
 
 impl Comparison {
     fn new(folder: &Path, seed: u64) -> Comparison {
-        Comparison { folder: folder.into(), seed, out: Default::default() }
+        Comparison { folder: folder.into(), seed, out: Default::default(), seen: Default::default() }
     }
 
     /// The worked examples by both, and whether the programs are there.
@@ -81,12 +85,12 @@ impl Comparison {
                 score.fail(0, program.name(), "missing".into());
             }
         }
-        for (program, input, text) in worked() {
-            let name = format!("the worked example of {}", program.name());
-            score.check_text(&format!("{name}, second implementation"), &text, Ok(printed_for(program, &input).text));
+        for (number, (program, input, text)) in worked().into_iter().enumerate() {
+            let name = format!("worked example {} by {}", number + 1, program.name());
+            score.check_text(&format!("{name}, second implementation"), text, Ok(printed_for(program, &input).text));
             if self.takes_part(program) {
                 let first = self.run(program, &input).map(|printed| printed.text);
-                score.check_text(&format!("{name}, first implementation"), &text, first);
+                score.check_text(&format!("{name}, first implementation"), text, first);
             }
         }
         score
@@ -126,7 +130,7 @@ impl Comparison {
             Play::Live => self.wrong_live(&input),
             _ => {
                 let program = test.play.program();
-                wrong(&input, &self.run(program, &input), &printed_for(program, &input))
+                wrong(&input, &self.run(program, &input), &self.expected(program, &input))
             }
         };
         wrong.map(|wrong| Difference { name: test.name(self.seed), wrong })
@@ -134,7 +138,7 @@ impl Comparison {
 
     /// The first cut into reads with which something is wrong.
     fn wrong_in_reads(&self, capture: &[u8]) -> Option<Wrong> {
-        let second = Printed { words: Vec::new(), ..printed_for(Program::Replay, capture) };
+        let second = Printed { words: Vec::new(), ..self.expected(Program::Replay, capture) };
         cuts::of(capture).find_map(|pieces| {
             let first = self.outcome(Program::Replay, process::run_in_reads(&self.path(Program::Replay), &pieces));
             let Wrong { what, detail } = wrong(capture, &first, &second)?;
@@ -148,8 +152,28 @@ impl Comparison {
         let (steps, is_refused_before_end) = cuts::live(capture);
         let said = process::converse(&self.path(Program::Replay), &steps, is_refused_before_end);
         let first = self.outcome(Program::Replay, said.map(|text| Printed { text, words: Vec::new() }));
-        let second = Printed { words: Vec::new(), ..printed_for(Program::Replay, capture) };
+        let second = Printed { words: Vec::new(), ..self.expected(Program::Replay, capture) };
         wrong(capture, &first, &second)
+    }
+
+    /// What this implementation prints, counted.
+    fn expected(&self, program: Program, input: &[u8]) -> Printed {
+        let printed = printed_for(program, input);
+        let seen = Seen::in_text(program, &printed.text);
+        self.seen.lock().expect("no worker panics while it counts").add(&seen);
+        printed
+    }
+
+    /// Each kind of answer has to come at least as often as most families have inputs, in what each program prints.
+    fn check_seen(&self, least: u64, score: &mut Score) {
+        let seen = self.seen.lock().expect("no worker panicked");
+        for program in PROGRAMS.into_iter().filter(|&program| self.takes_part(program)) {
+            let kinds: Vec<String> = seen.by(program).map(|(kind, count)| format!("{kind} {count}")).collect();
+            println!("{}: {}", program.name(), kinds.join(", "));
+            for (kind, count) in seen.by(program) {
+                score.check_count(&format!("{kind} by {}", program.name()), least, count);
+            }
+        }
     }
 
     fn run(&self, program: Program, input: &[u8]) -> Result<Printed, String> {
@@ -188,6 +212,14 @@ impl Score {
         self.failed.push((place, difference));
     }
 
+    fn check_count(&mut self, name: &str, least: u64, count: u64) {
+        if count >= least {
+            self.passed += 1;
+        } else {
+            self.fail(usize::MAX, name, format!("seen {count} times, expected {least} or more"));
+        }
+    }
+
     fn check_text(&mut self, name: &str, text: &str, output: Result<Vec<u8>, String>) {
         match output {
             Ok(output) if output == text.as_bytes() => self.passed += 1,
@@ -201,10 +233,13 @@ impl Score {
 }
 
 /// Inputs with the exact text that is to be printed for them.
-fn worked() -> [(Program, Vec<u8>, &'static str); 2] {
+fn worked() -> [(Program, Vec<u8>, &'static str); 5] {
     [
         (Program::List, vectors::LISTED.to_vec(), vectors::LISTING),
         (Program::Replay, vectors::replayed(), vectors::REPLAY),
+        (Program::List, vectors::broken(), vectors::BROKEN_LISTING),
+        (Program::Driver, vectors::broken_script(), vectors::BROKEN_CALLS),
+        (Program::Replay, vectors::broken_capture(), vectors::BROKEN_REPLAY),
     ]
 }
 
@@ -272,5 +307,30 @@ fn shown(line: Option<&[u8]>) -> String {
     match line {
         None => "(no such line)".into(),
         Some(line) => String::from_utf8_lossy(&line[..line.len().min(SHOWN)]).into_owned(),
+    }
+}
+
+#[cfg(test)]
+mod tests {
+    use super::*;
+
+    #[test]
+    fn worked_examples() {
+        for (program, input, text) in worked() {
+            assert_eq!(String::from_utf8_lossy(&printed_for(program, &input).text), text);
+        }
+    }
+
+    /// A program that still answers 13 for a late break, or returns no byte.
+    #[test]
+    fn old_answers_differ() {
+        let second = printed_for(Program::Driver, &vectors::broken_script());
+        for (new, old) in [("feed 19 10 9 19 0", "feed 13 10 9 19 0"), ("feed 13 7 29 36 0", "feed 13 7 29 36")] {
+            let text = vectors::BROKEN_CALLS.replace(&format!("{new}\n"), &format!("{old}\n"));
+            assert_ne!(text, vectors::BROKEN_CALLS);
+            let first = Printed { text: text.into_bytes(), words: Vec::new() };
+            let wrong = wrong(&[], &Ok(first), &second).expect("a difference");
+            assert!(wrong.detail.contains(&format!("first:  {old}\n")), "{}", wrong.detail);
+        }
     }
 }

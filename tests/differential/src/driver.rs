@@ -90,8 +90,9 @@ fn feed(reader: &mut Reader, data: &[u8], line: &mut Vec<u8>) {
     match reader.feed(data) {
         Answer::More { count } => text::numbers(line, &[0, count as u64]),
         Answer::Decided { verdict, count, start, end } => {
-            text::numbers(line, &[verdict as u64, count as u64, start, end]);
-            if matches!(verdict, Verdict::Frame | Verdict::Sum) {
+            text::numbers(line, &[verdict.number(), count as u64, start, end]);
+            text::numbers(line, &verdict.values());
+            if matches!(verdict, Verdict::Frame | Verdict::Sum { .. }) {
                 line.extend_from_slice(b" :");
                 text::spaced_bytes(line, reader.body());
             }

@@ -1,7 +1,7 @@
 //! The table of all tests: which inputs there are, what they are played through, and how many of them.
 
 use crate::random::Rng;
-use crate::{captures, link_scripts, scripts, streams, vectors};
+use crate::{breaks, captures, link_scripts, scripts, streams, vectors};
 
 /// What an input is played through: the program `list_program`, one kind of script on `test_driver`, or a capture on
 /// `replay_program`: through a pipe, in many cuts into reads, or live.
@@ -108,7 +108,7 @@ fn full_count(count: u64) -> u64 {
     count
 }
 
-const FAMILIES: [Family; 43] = [
+const FAMILIES: [Family; 50] = [
     family("whole", Kind::Stream(streams::whole), full_count),
     family("damaged", Kind::Stream(streams::damaged), full_count),
     family("cut", Kind::Stream(streams::cut), full_count),
@@ -119,6 +119,12 @@ const FAMILIES: [Family; 43] = [
     family("all-ff", Kind::Stream(streams::all_ff), full_count),
     family("lengths", Kind::Stream(streams::lengths), full_count),
     family("wrong-sums", Kind::Stream(streams::wrong_sums), full_count),
+    family("every-sum", Kind::Stream(streams::every_sum), |_| streams::SUM_SETS),
+    family("breaks", Kind::Stream(breaks::anywhere), full_count),
+    // Never fewer than one input for each size.
+    family("every-break", Kind::Stream(breaks::every_place), |count| count.max(breaks::SWEPT_SIZES)),
+    family("every-break-of-largest", Kind::Long(breaks::every_place_of_largest), |_| 2),
+    family("every-breaking-byte", Kind::Stream(breaks::every_byte), |_| breaks::COUNTS),
     // Never fewer than one input for each command.
     family("commands", Kind::Stream(streams::commands), |count| count.max(256)),
     family("every-bit", Kind::Stream(streams::every_bit), |_| streams::BIT_SETS),
@@ -140,6 +146,8 @@ const FAMILIES: [Family; 43] = [
     family("capture-empty-records", Kind::Capture(captures::empty_records), full_count),
     family("capture-in-step", Kind::Capture(captures::in_step), full_count),
     family("capture-all-ff", Kind::Capture(captures::all_ff), full_count),
+    family("capture-breaks", Kind::Capture(captures::breaks), full_count),
+    family("capture-vectors", Kind::Capture(captures::of_vector), |_| vectors::all().len() as u64),
     family("capture-cut", Kind::Capture(captures::cut), full_count),
     family("capture-cut-heads", Kind::Capture(captures::cut_heads), full_count),
     family("capture-damaged", Kind::Capture(captures::damaged), full_count),

@@ -54,6 +54,7 @@ pub fn add_lines(prefix: &[u8], reader: &mut Reader, mut bytes: &[u8], lines: &m
     }
 }
 
+/// The values of PROTOCOL 4.19 and 4.20 are not printed.
 fn add_line(verdict: Verdict, start: u64, end: u64, reader: &Reader, lines: &mut Vec<u8>) {
     lines.extend_from_slice(name(verdict));
     text::numbers(lines, &[start, end]);
@@ -84,8 +85,9 @@ fn name(verdict: Verdict) -> &'static [u8] {
         Verdict::Frame => b"frame",
         Verdict::Short => b"short",
         Verdict::Long => b"long",
-        Verdict::Stuff => b"stuff",
+        Verdict::Stuff { .. } => b"stuff",
+        Verdict::StuffLate { .. } => b"stufflate",
         Verdict::Cut => b"cut",
-        Verdict::Sum => b"sum",
+        Verdict::Sum { .. } => b"sum",
     }
 }

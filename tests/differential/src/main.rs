@@ -1,6 +1,7 @@
 //! A second implementation of the serial protocol, written from the rules alone, to compare the first one with.
 
 mod answers;
+mod breaks;
 mod capture;
 mod captures;
 mod compare;
@@ -21,6 +22,7 @@ mod reader;
 mod recorder;
 mod replay;
 mod scripts;
+mod seen;
 mod streams;
 mod text;
 mod transcript;

@@ -7,6 +7,8 @@ pub const LIMIT: usize = 1_024;
 pub const BODY_SIZE: usize = LIMIT + 2;
 /// The least length: command, sequence number, flags and checksum.
 const LEAST_LENGTH: usize = 5;
+/// The body bytes before the payload: length, command, sequence number and flags.
+const FIELDS_SIZE: usize = 6;
 /// The most bytes that one reader consumes.
 const MAX_TAKEN: u64 = 1 << 62;
 
@@ -25,15 +27,49 @@ enum Phase {
     Escape,
 }
 
-/// What is decided about a frame, with the number of the table of answers.
+/// What is decided about a frame, with the values of its answer after count, start and end (PROTOCOL 4.19, 4.20).
 #[derive(Clone, Copy, PartialEq, Eq, Debug)]
 pub enum Verdict {
-    Frame = 1,
-    Short = 11,
-    Long = 12,
-    Stuff = 13,
-    Cut = 14,
-    Sum = 15,
+    Frame,
+    Short,
+    Long,
+    /// The stuffing breaks before the payload. The byte is the one that breaks it.
+    Stuff {
+        byte: u8,
+    },
+    /// The stuffing breaks in the payload or at the checksum.
+    StuffLate {
+        byte: u8,
+    },
+    Cut,
+    Sum {
+        found: u8,
+        computed: u8,
+    },
+}
+
+impl Verdict {
+    /// The number in the table of answers.
+    pub fn number(self) -> u64 {
+        match self {
+            Verdict::Frame => 1,
+            Verdict::Short => 11,
+            Verdict::Long => 12,
+            Verdict::Stuff { .. } => 13,
+            Verdict::Cut => 14,
+            Verdict::Sum { .. } => 15,
+            Verdict::StuffLate { .. } => 19,
+        }
+    }
+
+    /// What the answer returns after count, start and end.
+    pub fn values(self) -> Vec<u64> {
+        match self {
+            Verdict::Frame | Verdict::Short | Verdict::Long | Verdict::Cut => vec![],
+            Verdict::Stuff { byte } | Verdict::StuffLate { byte } => vec![byte.into()],
+            Verdict::Sum { found, computed } => vec![found.into(), computed.into()],
+        }
+    }
 }
 
 #[derive(Clone, Copy, PartialEq, Eq, Debug)]
@@ -154,7 +190,7 @@ impl Reader {
                 return Some((Verdict::Cut, cut));
             }
             (Phase::Escape, 0x55) => return self.body_byte(0xFF),
-            (Phase::Escape, _) => return Some(self.close(Verdict::Stuff)),
+            (Phase::Escape, _) => return Some(self.close(self.broken_by(byte))),
             (Phase::Header | Phase::Open, _) => return self.body_byte(byte),
         }
         None
@@ -165,6 +201,15 @@ impl Reader {
         self.start = start;
         self.filled = 0;
         self.sum = 0;
+    }
+
+    /// PROTOCOL 4.6: the FF that waits is not stored, so it is not among the body bytes that count.
+    fn broken_by(&self, byte: u8) -> Verdict {
+        if self.filled < FIELDS_SIZE {
+            Verdict::Stuff { byte }
+        } else {
+            Verdict::StuffLate { byte }
+        }
     }
 
     /// The deciding byte is never FF here, so no half header is left.
@@ -187,7 +232,9 @@ impl Reader {
                 return Some(self.close(Verdict::Long));
             }
         } else if self.filled > 2 && self.filled == self.length + 2 {
-            let verdict = if byte == self.sum { Verdict::Frame } else { Verdict::Sum };
+            // The sum so far is of all bytes before this one.
+            let computed = self.sum;
+            let verdict = if byte == computed { Verdict::Frame } else { Verdict::Sum { found: byte, computed } };
             return Some(self.close(verdict));
         }
         self.sum = self.sum.wrapping_add(byte);
@@ -230,10 +277,72 @@ mod tests {
         assert_eq!(first_answer(&[0xFF, 0xFF, 4, 1]), decided(Verdict::Long, 4, 0, 4));
         assert_eq!(first_answer(&[0xFF, 0xFF, 4, 0]), Answer::More { count: 4 });
         assert_eq!(first_answer(&[0xFF, 0xFF, 0xFF, 0x55, 0]), decided(Verdict::Long, 5, 1, 5));
-        assert_eq!(first_answer(&[0xFF, 0xFF, 0, 5, 7, 0xFF, 0]), decided(Verdict::Stuff, 7, 0, 7));
-        let mut wrong = HEARTBEAT;
-        wrong[8] = 0x0E;
-        assert_eq!(first_answer(&wrong), decided(Verdict::Sum, 9, 0, 9));
+    }
+
+    /// The examples of PROTOCOL 11.4.
+    #[test]
+    fn broken_stuffing() {
+        let in_flags = [0xFF, 0xFF, 0, 5, 7, 1, 0, 0xFF, 0];
+        assert_eq!(first_answer(&in_flags), decided(Verdict::Stuff { byte: 0 }, 9, 0, 9));
+        let at_sum = [0xFF, 0xFF, 0, 5, 7, 1, 0, 0, 0xFF, 0];
+        assert_eq!(first_answer(&at_sum), decided(Verdict::StuffLate { byte: 0 }, 10, 0, 10));
+        let after_stuffed = [0xFF, 0xFF, 0, 5, 7, 0xFF, 0x55, 0, 0xFF, 1];
+        assert_eq!(first_answer(&after_stuffed), decided(Verdict::Stuff { byte: 1 }, 10, 0, 10));
+        let in_number = [0xFF, 0xFF, 0, 5, 7, 0xFF, 0];
+        assert_eq!(first_answer(&in_number), decided(Verdict::Stuff { byte: 0 }, 7, 0, 7));
+    }
+
+    /// A break after one to eight body bytes, in one call and byte by byte, with and without stuffing before it.
+    #[test]
+    fn breaks_after_each_count() {
+        let bodies: [[&[u8]; 8]; 2] = [
+            [&[0], &[7], &[1], &[2], &[3], &[4], &[5], &[6]],
+            [&[0], &[7], &[0xFF, 0x55], &[0xFF, 0x55], &[0xFF, 0x55], &[0x55], &[0xFF, 0x55], &[0xFF, 0x55]],
+        ];
+        for body in bodies {
+            for count in 1..=8 {
+                let wire = [&[0xFF, 0xFF][..], &body[..count].concat(), &[0xFF, 9]].concat();
+                let verdict = if count <= 5 { Verdict::Stuff { byte: 9 } } else { Verdict::StuffLate { byte: 9 } };
+                assert_eq!(first_answer(&wire), decided(verdict, wire.len(), 0, wire.len() as u64));
+                let (mut reader, last) = (Reader::new(), wire.len() - 1);
+                for &byte in &wire[..last] {
+                    assert_eq!(reader.feed(&[byte]), Answer::More { count: 1 });
+                }
+                assert_eq!(reader.feed(&[9]), decided(verdict, 1, 0, wire.len() as u64));
+                assert_eq!(reader.finish(), Ending::Clean { consumed: wire.len() as u64 });
+            }
+        }
+    }
+
+    #[test]
+    fn wrong_sums() {
+        let mut wire = HEARTBEAT;
+        for found in (0..0xFF).filter(|&found| found != 0x0D) {
+            wire[8] = found;
+            assert_eq!(first_answer(&wire), decided(Verdict::Sum { found, computed: 0x0D }, 9, 0, 9));
+        }
+        let found_ff = [&HEARTBEAT[..8], &[0xFF, 0x55]].concat();
+        assert_eq!(first_answer(&found_ff), decided(Verdict::Sum { found: 0xFF, computed: 0x0D }, 10, 0, 10));
+        let computed_ff = [0xFF, 0xFF, 0, 5, 7, 0xF3, 0, 0, 0];
+        assert_eq!(first_answer(&computed_ff), decided(Verdict::Sum { found: 0, computed: 0xFF }, 9, 0, 9));
+        let above_255 = [0xFF, 0xFF, 0, 6, 7, 0xFF, 0x55, 0, 0, 0xFF, 0x55, 0x0C];
+        assert_eq!(first_answer(&above_255), decided(Verdict::Sum { found: 0x0C, computed: 0x0B }, 12, 0, 12));
+    }
+
+    #[test]
+    fn numbers_and_values() {
+        let verdicts = [
+            (Verdict::Frame, 1, vec![]),
+            (Verdict::Short, 11, vec![]),
+            (Verdict::Long, 12, vec![]),
+            (Verdict::Stuff { byte: 3 }, 13, vec![3]),
+            (Verdict::Cut, 14, vec![]),
+            (Verdict::Sum { found: 14, computed: 13 }, 15, vec![14, 13]),
+            (Verdict::StuffLate { byte: 4 }, 19, vec![4]),
+        ];
+        for (verdict, number, values) in verdicts {
+            assert_eq!((verdict.number(), verdict.values()), (number, values));
+        }
     }
 
     #[test]

@@ -1,5 +1,6 @@
 //! Families of byte streams, each aimed at one kind of trouble.
 
+use crate::breaks;
 use crate::payloads;
 use crate::random::Rng;
 use crate::writer::{body, framed, sealed, wire_form, MAX_PAYLOAD};
@@ -170,11 +171,21 @@ pub fn wrong_sums(rng: &mut Rng, _index: u64) -> Vec<u8> {
     stream
 }
 
+/// How many inputs `every_sum` has.
+pub const SUM_SETS: u64 = 8;
+
+/// One body with every byte as its checksum: both sums are answered (PROTOCOL 4.20).
+pub fn every_sum(rng: &mut Rng, index: u64) -> Vec<u8> {
+    let payload = if index.is_multiple_of(2) { vec![0xFF; index as usize] } else { rng.bytes(index as usize) };
+    let body = body(rng.byte(), rng.byte(), rng.next() as u16, &payload);
+    (0..=0xFF).flat_map(|sum| framed(&[&body[..], &[sum]].concat())).collect()
+}
+
 /// More than any program reads at once, of all kinds.
 pub fn long(rng: &mut Rng, index: u64) -> Vec<u8> {
     let size = rng.between(70_000, 300_000);
-    let kinds: [fn(&mut Rng, u64) -> Vec<u8>; 10] =
-        [whole, damaged, cut, brim, noise, few_bytes, half_headers, all_ff, lengths, wrong_sums];
+    let kinds: [fn(&mut Rng, u64) -> Vec<u8>; 11] =
+        [whole, damaged, cut, brim, noise, few_bytes, half_headers, all_ff, lengths, wrong_sums, breaks::anywhere];
     let mut stream = Vec::new();
     while stream.len() < size {
         let kind = rng.pick(&kinds);

@@ -13,8 +13,9 @@ pub fn lines(reader: &mut Reader, mut stream: &[u8], out: &mut Vec<u8>) {
         stream = &stream[count..];
         match verdict {
             Verdict::Frame => frame_lines(reader.body(), out),
-            Verdict::Sum => sum_lines(reader.body(), out),
-            _ => {}
+            Verdict::Sum { .. } => sum_lines(reader.body(), out),
+            // PROTOCOL 8.10: no other answer has a reply.
+            Verdict::Short | Verdict::Long | Verdict::Stuff { .. } | Verdict::StuffLate { .. } | Verdict::Cut => {}
         }
     }
 }

@@ -1,5 +1,6 @@
 //! Streams written down by hand.
 
+use crate::driver::{push_record, FEED, FINISH, STREAM};
 use crate::scripts;
 use crate::text;
 
@@ -39,6 +40,78 @@ pub fn replayed() -> Vec<u8> {
     text::from_hex(REPLAYED).expect("hex")
 }
 
+/// The broken frames of PROTOCOL 11.4, one with a break at its checksum after a stuffed payload, and a heartbeat. Their
+/// listing comes next, then what `test_driver` prints for `broken_script`.
+const BROKEN: [&str; 7] = [
+    "FF FF 00 05 07 01 00 FF 00",
+    "FF FF 00 05 07 01 00 00 FF 00",
+    "FF FF 00 05 07 FF 55 00 FF 01",
+    "FF FF 00 05 07 FF 00",
+    "FF FF 00 05 07 01 00 00 0E",
+    "FF FF 00 06 07 01 00 00 FF 55 FF 54",
+    "FF FF 00 05 07 01 00 00 0D",
+];
+pub const BROKEN_LISTING: &str = "\
+kind start end cmd sn flags payload
+stuff 0 9 - - - -
+stufflate 9 19 - - - -
+stuff 19 29 - - - -
+stuff 29 36 - - - -
+sum 36 45 - - - -
+stufflate 45 57 - - - -
+frame 57 66 7 1 0 0
+clean 66
+";
+pub const BROKEN_CALLS: &str = "\
+feed 13 9 0 9 0
+feed 19 10 9 19 0
+feed 13 10 19 29 1
+feed 13 7 29 36 0
+feed 15 9 36 45 14 13 : 00 05 07 01 00 00 0e
+feed 19 12 45 57 84
+feed 1 9 57 66 : 00 05 07 01 00 00 0d
+end 2 66
+sum 1
+answer 0 10 18 1 15 : ff ff 00 06 12 01 00 00 01 1a
+frame 7 1 0 0
+read 0 7
+write 0 9 : ff ff 00 05 07 01 00 00 0d
+answer 0 9 : ff ff 00 05 08 01 00 00 0e
+";
+
+pub fn broken() -> Vec<u8> {
+    text::from_hex(&BROKEN.concat()).expect("hex")
+}
+
+/// Feeds each broken frame, then plays all of them as a stream: only the wrong sum and the heartbeat get a reply.
+pub fn broken_script() -> Vec<u8> {
+    let mut script = Vec::new();
+    for frame in BROKEN {
+        push_record(&mut script, FEED, &text::from_hex(frame).expect("hex"));
+    }
+    push_record(&mut script, FINISH, &[]);
+    push_record(&mut script, STREAM, &broken());
+    script
+}
+
+/// A capture with a break of each kind; the late one is over two records.
+const BROKEN_CAPTURE: &str = "
+    4C 46 54 00 01
+    00 00 00 00 00 00 09 FF FF 00 05 07 01 00 00 FF
+    01 00 00 00 07 00 09 FF FF 00 05 07 01 00 FF 00
+    00 00 00 01 00 00 01 00";
+pub const BROKEN_REPLAY: &str = "\
+dir kind start end cmd sn flags payload
+1 stuff 0 9 - - - -
+0 stufflate 0 10 - - - -
+0 clean 10
+1 clean 9
+";
+
+pub fn broken_capture() -> Vec<u8> {
+    text::from_hex(BROKEN_CAPTURE).expect("hex")
+}
+
 /// All vectors, in the order of the files.
 pub fn all() -> Vec<Vec<u8>> {
     let lines = FILES.iter().flat_map(|(name, file)| file.lines().map(move |line| (name, line)));
@@ -61,5 +134,12 @@ mod tests {
     #[test]
     fn files_are_hex_and_hold_the_listed_stream() {
         assert!(all().contains(&LISTED.to_vec()));
+    }
+
+    #[test]
+    fn files_hold_each_broken_frame() {
+        for frame in BROKEN {
+            assert!(all().contains(&text::from_hex(frame).expect("hex")), "{frame}");
+        }
     }
 }

@@ -1,4 +1,4 @@
--- `scan::on_escaped` accepts the stuffed 55, or refuses the frame.
+-- `scan::on_escaped` accepts the stuffed 55, or refuses the frame by what `broken` ensures.
 use borrow.Author.Needs.{needs}
 use Rattle.base.proofs.Tests.{tests}
 use Rattle.frame.proofs.scan.on_escaped.Statement.{statement}
@@ -11,4 +11,5 @@ on-escaped-spec =
     (search needs)
     (λ c. search tests)
     (search needs)
-    λ c. search tests)
+    (search needs)
+    λ c. simp (c .outside .ensures, c .before .broken .ensures) (search tests))
