@@ -17,7 +17,8 @@ use Rattle.base.specs.Outcomes.{Outcome}
 use Rattle.frame.specs.Calls.{finishRowIn, freshOf, feedOf, finishOf}
 use Rattle.frame.specs.Logs.{Call, feed, finish, Entry, decided, decisionIn, decisionsOf, bodyHeld}
 use Rattle.frame.specs.LogsComputed.{entryOf, logOf}
-use Rattle.frame.specs.Decisions.{Decision, Decides, is-frame, is-short, is-long, is-stuff, is-cut, is-sum}
+use Rattle.frame.specs.Decisions.{Decision, Decides, is-frame, is-short, is-long, is-stuff, is-stuff-late, is-cut}
+use Rattle.frame.specs.Decisions.{is-sum}
 use Rattle.frame.specs.State.{Phase, Idle, Half, Header, Open, Escape, Scan, State}
 use Rattle.base.proofs.Tests.{by-test}
 use Rattle.frame.proofs.Decisions.{each-decision}
@@ -67,6 +68,7 @@ no-text prefix r body f =
       other (r .number) 13 f refl,
       other (r .number) 14 f refl,
       other (r .number) 15 f refl,
+      other (r .number) 19 f refl,
     )
 
 -- finish decides nothing
@@ -138,16 +140,17 @@ module _ (prefix : List ℕ) where
       none-more _ _ _ (λ a. texts-listed limit cs (y .state) a) (decided (y .row .number)) (finish-undecided limit r) h
 
 -- a decision of number 1 is a frame, and its length is at least 5
-frame-long : (limit : ℕ) (raw body : List ℕ) (n : ℕ) → Decides limit raw n body → n ≡ 1 → 5 ≤ lengthOf body
-frame-long limit raw body n (is-frame b e f w g) one = rw f (g .shortest)
-frame-long limit raw body n (is-short b e f w g h) one = absurd (omega arith)
-frame-long limit raw body n (is-long b e f w g h i j) one = absurd (omega arith)
-frame-long limit raw body n (is-stuff b x e f w g h i) one = absurd (omega arith)
-frame-long limit raw body n (is-cut b e f w g) one = absurd (omega arith)
-frame-long limit raw body n (is-sum b e f w g h i j) one = absurd (omega arith)
+frame-long : {limit : ℕ} {raw values body : List ℕ} {n : ℕ} → Decides limit raw n values body → n ≡ 1
+    → 5 ≤ lengthOf body
+frame-long (is-frame b e v f w g) one = rw f (g .shortest)
+frame-long (is-short b e v f w g h) one = absurd (omega arith)
+frame-long (is-long b e v f w g h i j) one = absurd (omega arith)
+frame-long (is-stuff b x e v f w g) one = absurd (omega arith)
+frame-long (is-stuff-late b x e v f w g) one = absurd (omega arith)
+frame-long (is-cut b e v f w g) one = absurd (omega arith)
+frame-long (is-sum b e v f w g) one = absurd (omega arith)
 
 pub each-listed : EachListed
 each-listed prefix limit small calls =
     texts-listed prefix limit calls (freshOf limit)
-    (λ l m. let decision = each-decision limit small calls .sound l m in
-    frame-long limit (decision .raw) (l .body) (l .number) (decision .decides))
+    (λ l m. frame-long (each-decision limit small calls .sound l m .decides))

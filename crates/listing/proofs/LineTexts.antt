@@ -25,11 +25,12 @@ no-line prefix values body = record { more = refl; state = refl; used = refl; en
 
 pub lines-spelled : AllLinesSpelled
 unfolding columnsOf
-lines-spelled prefix body c s e =
+lines-spelled prefix body v c s e =
     record {
       short = simp (append-assoc, append-nil);
       long = simp (append-assoc, append-nil);
       stuff = simp (append-assoc, append-nil);
+      stuff-late = simp (append-assoc, append-nil);
       cut = simp (append-assoc, append-nil);
       sum = simp (append-assoc, append-nil);
       frame = λ n k f p. simp (append-assoc, append-nil);
@@ -78,7 +79,8 @@ line-short prefix r body h bytes =
     (pick (Short prefix) 12 (refused "long" (omega arith))
     (pick (Short prefix) 13 (refused "stuff" (omega arith))
     (pick (Short prefix) 14 (refused "cut" (omega arith))
-    (pick (Short prefix) 15 (refused "sum" (omega arith)) (omega arith))))))
+    (pick (Short prefix) 15 (refused "sum" (omega arith))
+    (pick (Short prefix) 19 (refused "stufflate" (omega arith)) (omega arith)))))))
   where
     pick : (P : List ℕ → Type 0) (n : ℕ) {x y : List ℕ} → P x → P y → P (cond (eqb (r .number) n) x y)
     pick P n f g = by-test P (eqb (r .number) n) (λ e. f) (λ e. g)

@@ -19,7 +19,7 @@ use Rattle.frame.specs.State.{State}
 use Rattle.frame.specs.Table.{verdictNumber, countOf}
 use Rattle.frame.specs.Calls.{feedOf}
 use Rattle.frame.specs.declared.scan.Verdict.{Verdict}
-use Rattle.frame.specs.declared.scan.Verdict.the-variants.{Frame, Short, Long, Stuff, Cut, Sum}
+use Rattle.frame.specs.declared.scan.Verdict.the-variants.{Frame, Short, Long, Stuff, StuffLate, Cut, Sum}
 use Rattle.frame.proofs.EachCall.{within as count-most}
 use Rattle.frame.proofs.EachCall.{progress, empty-call, state-kept}
 use Rattle.base.proofs.Tests.{either-way, cond-equal}
@@ -32,9 +32,10 @@ pub verdict-continues : (v : Verdict) → refuses (verdictNumber v) ≡ false
 verdict-continues Frame = refl
 verdict-continues Short = refl
 verdict-continues Long = refl
-verdict-continues Stuff = refl
+verdict-continues (Stuff x) = refl
+verdict-continues (StuffLate x) = refl
 verdict-continues Cut = refl
-verdict-continues Sum = refl
+verdict-continues (Sum f g) = refl
 
 -- what is not 0 is at least 1
 pub nonzero : (n : ℕ) → (n ≡ 0 → ⊥) → 1 ≤ n

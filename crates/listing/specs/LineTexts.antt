@@ -23,13 +23,14 @@ FrameColumns =
 abbrev pub refusedRest : ℕ → ℕ → List ℕ
 refusedRest start end = decimalOf start ++ (ascii " " ++ (decimalOf end ++ ascii " - - - -\n"))
 
--- count c, start s, end e
-pub record LinesSpelled (prefix body : List ℕ) (c s e : ℕ) : Type 0 where
-  pub short : answerText prefix (row 11 (c ∷ s ∷ e ∷ [])) body ≡ prefix ++ (ascii "short " ++ refusedRest s e)
-  pub long : answerText prefix (row 12 (c ∷ s ∷ e ∷ [])) body ≡ prefix ++ (ascii "long " ++ refusedRest s e)
-  pub stuff : answerText prefix (row 13 (c ∷ s ∷ e ∷ [])) body ≡ prefix ++ (ascii "stuff " ++ refusedRest s e)
-  pub cut : answerText prefix (row 14 (c ∷ s ∷ e ∷ [])) body ≡ prefix ++ (ascii "cut " ++ refusedRest s e)
-  pub sum : answerText prefix (row 15 (c ∷ s ∷ e ∷ [])) body ≡ prefix ++ (ascii "sum " ++ refusedRest s e)
+-- count c, start s, end e, and any further values v, which are not printed
+pub record LinesSpelled (prefix body v : List ℕ) (c s e : ℕ) : Type 0 where
+  pub short : answerText prefix (row 11 (c ∷ s ∷ e ∷ v)) body ≡ prefix ++ (ascii "short " ++ refusedRest s e)
+  pub long : answerText prefix (row 12 (c ∷ s ∷ e ∷ v)) body ≡ prefix ++ (ascii "long " ++ refusedRest s e)
+  pub stuff : answerText prefix (row 13 (c ∷ s ∷ e ∷ v)) body ≡ prefix ++ (ascii "stuff " ++ refusedRest s e)
+  pub stuff-late : answerText prefix (row 19 (c ∷ s ∷ e ∷ v)) body ≡ prefix ++ (ascii "stufflate " ++ refusedRest s e)
+  pub cut : answerText prefix (row 14 (c ∷ s ∷ e ∷ v)) body ≡ prefix ++ (ascii "cut " ++ refusedRest s e)
+  pub sum : answerText prefix (row 15 (c ∷ s ∷ e ∷ v)) body ≡ prefix ++ (ascii "sum " ++ refusedRest s e)
   -- the six columns of a frame; `frame-columns` says what they are
   pub frame : (n k f p : ℕ)
       → textOf prefix (ascii "frame") (s ∷ e ∷ n ∷ k ∷ f ∷ p ∷ []) (ascii "\n")
@@ -43,7 +44,7 @@ pub record LinesSpelled (prefix body : List ℕ) (c s e : ℕ) : Type 0 where
 
 -- of all values
 abbrev pub AllLinesSpelled : Type 0
-AllLinesSpelled = (prefix body : List ℕ) (c s e : ℕ) → LinesSpelled prefix body c s e
+AllLinesSpelled = (prefix body v : List ℕ) (c s e : ℕ) → LinesSpelled prefix body v c s e
 
 -- ---- no-line: MORE, STATE and USED have no line, and finish with STATE has no last line: PROTOCOL 10.1
 pub record NoLine (prefix values body : List ℕ) : Type 0 where

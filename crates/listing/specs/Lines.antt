@@ -61,7 +61,8 @@ answerText prefix r body =
     (cond (eqb (r .number) 12) (refusedText prefix "long" r)
     (cond (eqb (r .number) 13) (refusedText prefix "stuff" r)
     (cond (eqb (r .number) 14) (refusedText prefix "cut" r)
-    (cond (eqb (r .number) 15) (refusedText prefix "sum" r) [])))))
+    (cond (eqb (r .number) 15) (refusedText prefix "sum" r)
+    (cond (eqb (r .number) 19) (refusedText prefix "stufflate" r) []))))))
 
 -- no line has more bytes from its word on, which the claim `longest` says: PROTOCOL 10.9
 abbrev pub lineRoom : ℕ

@@ -84,9 +84,10 @@ fn decided_line(
         Verdict::Frame => frame_line(start, end, prefix, body, out),
         Verdict::Short => refused_line(b"short", start, end, prefix, out),
         Verdict::Long => refused_line(b"long", start, end, prefix, out),
-        Verdict::Stuff => refused_line(b"stuff", start, end, prefix, out),
+        Verdict::Stuff { .. } => refused_line(b"stuff", start, end, prefix, out),
+        Verdict::StuffLate { .. } => refused_line(b"stufflate", start, end, prefix, out),
         Verdict::Cut => refused_line(b"cut", start, end, prefix, out),
-        Verdict::Sum => refused_line(b"sum", start, end, prefix, out),
+        Verdict::Sum { .. } => refused_line(b"sum", start, end, prefix, out),
     }
 }
 

@@ -20,6 +20,7 @@ worked-decisions limit number v body out =
       silent-short = refl;
       silent-long = refl;
       silent-stuff = refl;
+      silent-stuff-late = refl;
       silent-cut = refl;
     }
 

@@ -22,6 +22,7 @@ pub record WorkedDecision (limit number : ℕ) (v body out : List ℕ) : Type 0 
   pub silent-short : replyOf limit (row 11 v) body out ≡ output (row 0 []) out
   pub silent-long : replyOf limit (row 12 v) body out ≡ output (row 0 []) out
   pub silent-stuff : replyOf limit (row 13 v) body out ≡ output (row 0 []) out
+  pub silent-stuff-late : replyOf limit (row 19 v) body out ≡ output (row 0 []) out
   pub silent-cut : replyOf limit (row 14 v) body out ≡ output (row 0 []) out
 
 -- for all sequence numbers and bodies

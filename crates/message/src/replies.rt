@@ -173,10 +173,11 @@ fn reply_decided(verdict: Verdict, body: &[u8], out: &mut [u8]) -> ReplyResult
             frame::payload(body),
             out,
         ),
-        Verdict::Sum => reject(Cause::Sum, frame::number(body), out),
+        Verdict::Sum { .. } => reject(Cause::Sum, frame::number(body), out),
         Verdict::Short => ReplyResult::Nothing,
         Verdict::Long => ReplyResult::Nothing,
-        Verdict::Stuff => ReplyResult::Nothing,
+        Verdict::Stuff { .. } => ReplyResult::Nothing,
+        Verdict::StuffLate { .. } => ReplyResult::Nothing,
         Verdict::Cut => ReplyResult::Nothing,
     }
 }

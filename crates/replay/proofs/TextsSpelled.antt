@@ -52,6 +52,6 @@ pub end-lines-spelled : AllEndLinesSpelled
 end-lines-spelled limit d t line l =
     record {
       left-open = λ start o. l .left-open start o
-          ∙ lines-spelled (prefixOf d) [] (length t) start 0 .left-open;
-      left-clean = λ none. l .left-clean none ∙ lines-spelled (prefixOf d) [] (length t) 0 0 .clean;
+          ∙ lines-spelled (prefixOf d) [] [] (length t) start 0 .left-open;
+      left-clean = λ none. l .left-clean none ∙ lines-spelled (prefixOf d) [] [] (length t) 0 0 .clean;
     }

@@ -33,6 +33,11 @@ returns-6 c =
     let call = c .before .before in
     rw (call .before .before .before .enum-told6 .given .1) (call .refused-line5 .ensures)
 
+returns-7 : tie.Need-returns-7
+returns-7 c =
+    let call = c .before .before in
+    rw (call .before .before .before .enum-told7 .given .1) (call .refused-line6 .ensures)
+
 pub decided-line-spec : {M : Type 1} → statement M
 decided-line-spec =
     tie.close
@@ -43,9 +48,11 @@ decided-line-spec =
     (λ c. search needs) (λ c. search needs) (λ c κs. search needs)
     (λ c. search needs) (λ c. search needs) (λ c κs. search needs)
     (λ c. search needs) (λ c. search needs) (λ c κs. search needs)
+    (λ c. search needs) (λ c. search needs) (λ c κs. search needs)
     (λ c. search needs) returns
     (λ c. search needs) returns-2
     (λ c. search needs) returns-3
     (λ c. search needs) returns-4
     (λ c. search needs) returns-5
-    (λ c. search needs) returns-6)
+    (λ c. search needs) returns-6
+    (λ c. search needs) returns-7)

@@ -30,7 +30,7 @@ reply-decided-spec =
     (tie.spec
     (search needs) (search needs) (search needs) (search needs) (search needs) (search needs)
     (search needs) (search needs)
-    (search needs) (search needs) (search needs) (search needs)
+    (search needs) (search needs) (search needs) (search needs) (search needs)
     (search needs)
     frame
     (search needs)
@@ -38,4 +38,5 @@ reply-decided-spec =
     (λ c. simp (c .enum-told3 .given .1))
     (λ c. simp (c .enum-told4 .given .1))
     (λ c. simp (c .enum-told5 .given .1))
-    λ c. simp (c .enum-told6 .given .1))
+    (λ c. simp (c .enum-told6 .given .1))
+    λ c. simp (c .enum-told7 .given .1))
