@@ -60,7 +60,8 @@ reportPayload = 0x04 ∷ 0x05 ∷ 0x00 ∷ 0x03 ∷ 0x00 ∷ 0x00 ∷ 0x00 ∷ 0
 
 -- the twelve, in the order of PROTOCOL 11. MORE is 0, FRAME 1, SHORT 11, LONG 12, STUFF 13, SUM 15 and PAYLOAD 21;
 -- what is written and a message that was read stand under 0 (PROTOCOL 6.7). A reader's values are the count, which is
--- all bytes in each example, and of a frame its start and end. A buffer has exactly the room that the frame needs.
+-- all bytes in each example, of a frame its start and end, and further ones of STUFF and SUM (PROTOCOL 4.19, 4.20). A
+-- buffer has exactly the room that the frame needs.
 unfoldable pub examples : List Example
 examples =
     -- 1: a heartbeat
@@ -93,10 +94,10 @@ examples =
     -- 8: the start moves
     ∷ entry 8 (bytesFed (0xFF ∷ 0xFF ∷ 0xFF ∷ 0x55 ∷ 0x00 ∷ [])) (answered (row 12 (5 ∷ 1 ∷ 5 ∷ [])))
     -- 9: broken stuffing
-    ∷ entry 9 (bytesFed (0xFF ∷ 0xFF ∷ 0x00 ∷ 0x05 ∷ 0x07 ∷ 0xFF ∷ 0x00 ∷ [])) (answered (row 13 (7 ∷ 0 ∷ 7 ∷ [])))
+    ∷ entry 9 (bytesFed (0xFF ∷ 0xFF ∷ 0x00 ∷ 0x05 ∷ 0x07 ∷ 0xFF ∷ 0x00 ∷ [])) (answered (row 13 (7 ∷ 0 ∷ 7 ∷ 0 ∷ [])))
     -- 10: a wrong sum
     ∷ entry 10 (bytesFed (0xFF ∷ 0xFF ∷ 0x00 ∷ 0x05 ∷ 0x07 ∷ 0x01 ∷ 0x00 ∷ 0x00 ∷ 0x0E ∷ []))
-    (held (row 15 (9 ∷ 0 ∷ 9 ∷ [])) (0x00 ∷ 0x05 ∷ 0x07 ∷ 0x01 ∷ 0x00 ∷ 0x00 ∷ 0x0E ∷ []) 0x07 1 0 [])
+    (held (row 15 (9 ∷ 0 ∷ 9 ∷ 14 ∷ 13 ∷ [])) (0x00 ∷ 0x05 ∷ 0x07 ∷ 0x01 ∷ 0x00 ∷ 0x00 ∷ 0x0E ∷ []) 0x07 1 0 [])
     -- 11: the clock wraps
     ∷ entry 11 (timeElapsed 104 4294967200) (milliseconds 200)
     ∷ entry 11 (tickDue 104 4294967200) (due true)

@@ -17,46 +17,78 @@ pub(crate) struct ReaderAfter {
     pub written: bool,
 }
 
+// A verdict as a row: its number (PROTOCOL 4.2, 4.4 to 4.8), and the values that it carries (PROTOCOL 4.19, 4.20).
+struct VerdictRow {
+    number: u64,
+    first: u64,
+    second: u64,
+}
+
+fn with_values(number: u64, first: u8, second: u8) -> VerdictRow {
+    VerdictRow {
+        number,
+        first: first as u64,
+        second: second as u64,
+    }
+}
+
+fn verdict_row(v: Verdict) -> VerdictRow {
+    match v {
+        Verdict::Frame => with_values(1, 0, 0),
+        Verdict::Short => with_values(11, 0, 0),
+        Verdict::Long => with_values(12, 0, 0),
+        Verdict::Stuff { byte } => with_values(13, byte, 0),
+        Verdict::StuffLate { byte } => with_values(19, byte, 0),
+        Verdict::Cut => with_values(14, 0, 0),
+        Verdict::Sum { found, computed } => with_values(15, found, computed),
+    }
+}
+
 // An answer of the reader as a row: PROTOCOL 4.
 pub(crate) struct Row {
     pub number: u64,
     pub count: usize,
     pub start: u64,
     pub end: u64,
+    pub first: u64,
+    pub second: u64,
 }
 
-fn decided(number: u64, count: usize, start: WirePlace, end: WirePlace) -> Row {
+// The row of an answer that decides nothing.
+fn undecided(number: u64, count: usize) -> Row {
     Row {
         number,
         count,
-        start: start.0,
-        end: end.0,
+        start: 0,
+        end: 0,
+        first: 0,
+        second: 0,
     }
 }
 
-// A verdict's number: PROTOCOL 4.2, 4.4 to 4.8.
-fn code_of(v: Verdict) -> u64 {
-    match v {
-        Verdict::Frame => 1,
-        Verdict::Short => 11,
-        Verdict::Long => 12,
-        Verdict::Stuff => 13,
-        Verdict::Cut => 14,
-        Verdict::Sum => 15,
+fn decided(verdict: Verdict, count: usize, start: WirePlace, end: WirePlace) -> Row {
+    let row = verdict_row(verdict);
+    Row {
+        number: row.number,
+        count,
+        start: start.0,
+        end: end.0,
+        first: row.first,
+        second: row.second,
     }
 }
 
 pub(crate) fn row_of(a: FeedResult) -> Row {
     match a {
-        FeedResult::More { count } => decided(0, count, WirePlace(0), WirePlace(0)),
+        FeedResult::More { count } => undecided(0, count),
         FeedResult::Decided {
             count,
             start,
             end,
             verdict,
-        } => decided(code_of(verdict), count, start, end),
-        FeedResult::State => decided(17, 0, WirePlace(0), WirePlace(0)),
-        FeedResult::Used => decided(18, 0, WirePlace(0), WirePlace(0)),
+        } => decided(verdict, count, start, end),
+        FeedResult::State => undecided(17, 0),
+        FeedResult::Used => undecided(18, 0),
     }
 }
 
@@ -70,7 +102,13 @@ fn answered(r: Row, body: &[u8]) -> bool {
     let count = r.count as u64;
     match number {
         0 | 17 | 18 => text::line(b"feed", &[number, count]),
-        1 | 15 => text::line_with(b"feed", &[number, count, r.start, r.end], held(body)),
+        1 => text::line_with(b"feed", &[number, count, r.start, r.end], held(body)),
+        13 | 19 => text::line(b"feed", &[number, count, r.start, r.end, r.first]),
+        15 => text::line_with(
+            b"feed",
+            &[number, count, r.start, r.end, r.first, r.second],
+            held(body),
+        ),
         _ => text::line(b"feed", &[number, count, r.start, r.end]),
     }
 }
