@@ -160,8 +160,12 @@ module _ {limit : ℕ} {b : List ℕ} (s : Scan) (p : Partial limit (s .filled) 
         let five : 5 ≤ lengthOf grown = omega (arith, p .bounds two .0) in
         let longest : lengthOf grown ≤ limit = omega (arith, p .bounds two .1) in
         by-test P (eqb v (s .sum))
-        (λ q. ends Frame (ends-frame (record
-        { true-length = full; shortest = five; longest = longest; sum-holds = last ∙ eqb-true v (s .sum) q ∙ sym due })))
+        (λ q. ends Frame (ends-frame (record {
+          true-length = full;
+          shortest = five;
+          longest = longest;
+          sum-holds = last ∙ eqb-true v (s .sum) q ∙ sym due;
+        })))
         (λ q. subst (λ (k : ℕ). P (endedOf s v (Sum k (s .sum)))) last
         (subst (λ (k : ℕ). P (endedOf s v (Sum (foundSum grown) k))) due
         (ends (Sum (foundSum grown) (computedSum grown)) (ends-sum (record {

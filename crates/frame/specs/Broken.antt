@@ -21,7 +21,8 @@ Answers limit calls number start end values body =
     (decisionsOf (logOf limit (freshOf limit) calls))
 
 -- ---- each-break: wherever the stream has the byte x after an FF that follows the body bytes b of a frame, the calls
--- answer STUFF after one to five of them and STUFFLATE after six or more, with x; STUFFLATE where only the sum is missing
+-- answer STUFF after one to five of them and STUFFLATE after six or more, with x; where only the sum is missing, that is
+-- STUFFLATE
 pub record BreakAnswered (limit : ℕ) (calls : List Call) (before b : List ℕ) (x : ℕ) : Type 0 where
   pub early : length b ≤ 5
       → Answers limit calls 13 (length before) (length before + length (wire b) + 2) (x ∷ []) []
@@ -37,8 +38,8 @@ EachBreak =
     → stream (logOf limit (freshOf limit) calls) ≡ before ++ (wire b ++ 255 ∷ x ∷ after)
     → Unfinished limit b → x ≢ 85 → x ≢ 255 → BreakAnswered limit calls before b x
 
--- ---- each-sum: wherever the stream has a frame of the bytes h and a last byte s that is not their sum, the calls answer
--- SUM with s, then the total of h modulo 256
+-- ---- each-sum: wherever the stream has a body of true length whose last byte s is not the sum of the others, the calls
+-- answer SUM with s, then that sum
 abbrev pub EachSum : Type 0
 EachSum =
     (limit : ℕ) → limit ≤ widest → (calls : List Call) (before after p : List ℕ) (b0 b1 b2 b3 b4 b5 s : ℕ)
@@ -51,9 +52,8 @@ EachSum =
     (s ∷ (b0 + b1 + b2 + b3 + b4 + b5 + total p) % 256 ∷ [])
     (b0 ∷ b1 ∷ b2 ∷ b3 ∷ b4 ∷ b5 ∷ (p ++ s ∷ []))
 
--- ---- break-exactly: of any reader in range, made up or not, with an FF that waits; the next byte x is 55, or not
-
--- the byte x, offered with others after it
+-- ---- break-exactly: the byte x that breaks the stuffing, offered with any bytes after it to any reader in range, made
+-- up or not
 pub record BreakExactly (limit : ℕ) (r : State) (x : ℕ) (bytes : List ℕ) : Type 0 where
   pub early : r .scan .filled ≤ 5 → feedOf limit r (x ∷ bytes) .row
       ≡ row 13 (1 ∷ r .scan .start ∷ (r .scan .consumed + 1) ∷ x ∷ [])

@@ -20,7 +20,7 @@ example-listing = refl
 
 pub each-kind : EachKind
 unfolding logOf runOf zeros textsOf columnsOf decimalOf digitsIn
-each-kind = record { short = refl; long = refl; stuff = refl; sum = refl; left-open = refl }
+each-kind = record { short = refl; long = refl; stuff = refl; stuff-late = refl; sum = refl; left-open = refl }
 
 pub worked-columns : WorkedColumns
 unfolding logOf runOf zeros textsOf columnsOf decimalOf digitsIn

@@ -37,6 +37,9 @@ pub record EachKind : Type 0 where
       ≡ headingText [] ++ ascii "long 1 5 - - - -\nclean 5\n"
   pub stuff : listingOf [] frameLimit (feed (0xFF ∷ 0xFF ∷ 0x00 ∷ 0x05 ∷ 0x07 ∷ 0xFF ∷ 0x00 ∷ []) ∷ finish ∷ [])
       ≡ headingText [] ++ ascii "stuff 0 7 - - - -\nclean 7\n"
+  pub stuff-late : listingOf [] frameLimit
+      (feed (0xFF ∷ 0xFF ∷ 0x00 ∷ 0x05 ∷ 0x07 ∷ 0x01 ∷ 0x00 ∷ 0x00 ∷ 0xFF ∷ 0x00 ∷ []) ∷ finish ∷ [])
+      ≡ headingText [] ++ ascii "stufflate 0 10 - - - -\nclean 10\n"
   pub sum : listingOf [] frameLimit
       (feed (0xFF ∷ 0xFF ∷ 0x00 ∷ 0x05 ∷ 0x07 ∷ 0x01 ∷ 0x00 ∷ 0x00 ∷ 0x0E ∷ []) ∷ finish ∷ [])
       ≡ headingText [] ++ ascii "sum 0 9 - - - -\nclean 9\n"
