@@ -131,4 +131,11 @@ unfolding zeros
 fresh-reader = refl
 
 pub limits : Limits
-limits = record { code = refl; greatest = refl; allowed = omega arith }
+limits =
+    record {
+      code = refl;
+      greatest = refl;
+      allowed = omega arith;
+      head = refl;
+      head-is = λ size command number flags. refl;
+    }

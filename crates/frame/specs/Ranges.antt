@@ -1,4 +1,4 @@
--- Claims: limits, ranges and the fresh reader in literal numbers. PROTOCOL 2.4, 2.10, 3.1, 4.10, 4.11, 4.17, 4.18.
+-- Claims: limits, ranges and the fresh reader in literal numbers. PROTOCOL 2.4, 2.10, 3.1, 4.10, 4.11, 4.17 to 4.19.
 use Prim.Native.Nat.{ℕ, _+_, _≤_, _<_}
 use mathlib.Core.List.{List, [], _∷_}
 use mathlib.Core.Logic.{_⊎_}
@@ -8,7 +8,7 @@ use Rattle.base.specs.Outcomes.{outcome}
 use Rattle.base.specs.Rows.{row}
 use Rattle.frame.specs.Calls.{freshOf, feedOf, finishOf}
 use Rattle.frame.specs.State.{Idle, State}
-use Rattle.frame.specs.Wire.{widest, frameLimit}
+use Rattle.frame.specs.Wire.{headSize, headOf, widest, frameLimit}
 
 -- a field is out of range: more than 2^62 bytes consumed, or more than 1,025 body bytes so far
 abbrev pub OutOfRange : State → Type 0
@@ -50,8 +50,10 @@ FreshReader =
       body = replicate 1026 0;
     }
 
--- ---- limits: the limit of the code, and the greatest one of the claims about streams
+-- ---- limits: the limit of the code, the greatest one of the claims about streams, and the size of a body's head
 pub record Limits : Type 0 where
   pub code : frameLimit ≡ 1024
   pub greatest : widest ≡ 65279
   pub allowed : frameLimit ≤ widest
+  pub head : headSize ≡ 6
+  pub head-is : (size command number flags : ℕ) → length (headOf size command number flags) ≡ headSize
