@@ -1,49 +1,76 @@
--- each-break, each-sum, break-exactly and worked-breaks. Assumes nothing.
-use Prim.Native.Nat.{ℕ, _+_, _≤_}
+-- The claims of Broken: each-decision at the bytes of each refused frame, and one byte of any reader. Assumes nothing.
+use Prim.Native.Nat.{ℕ, _+_, _≤_, _<_}
 use mathlib.Core.Path.{_≡_, refl, sym, ap, _∙_}
 use mathlib.Core.List.{List, [], _∷_, _++_, append-assoc}
-use mathlib.Core.Logic.{_≢_}
+use mathlib.Core.Bool.{false}
+use mathlib.Core.Logic.{_≢_, _⊎_, inl, inr}
 use native.Mathlib.Omega.{arith}
-use borrow.Author.Tests.{ne-eqb, lt-ltb, le-ltb, le-leb}
+use borrow.Author.Tests.{ne-eqb, lt-ltb, le-ltb, ltb-false}
+use lib.Dec.{ltb}
 use lib.ListN.{length, length-append}
-use Rattle.base.specs.Rows.{Row}
-use Rattle.base.specs.Outcomes.{Outcome}
-use Rattle.frame.specs.Broken.{Answers, EachBreak, EachSum, BreaksExactly, WorkedBreaks}
-use Rattle.frame.specs.Calls.{freshOf, feedOf, runOf, zeros}
-use Rattle.frame.specs.Decisions.{Unfinished, Breaks, WrongSum, Decides, is-stuff, is-stuff-late, is-sum}
-use Rattle.frame.specs.Logs.{Call, stream}
-use Rattle.frame.specs.LogsComputed.{logOf}
-use Rattle.frame.specs.Wire.{wire, lengthOf, headSize, widest}
+use Rattle.base.proofs.Tests.{either-way}
+use Rattle.frame.specs.Broken.{streamOf, Answers, EachLength, EachBreak, EachCut, EachSum, BrokenAt, OnlyBreaks}
+use Rattle.frame.specs.Broken.{BreaksExactly, SumsExactly, WorkedBreaks}
+use Rattle.frame.specs.Calls.{runOf, zeros}
+use Rattle.frame.specs.Decisions.{Breaks, WrongSum, Decides, is-frame, is-short, is-long, is-stuff, is-stuff-late}
+use Rattle.frame.specs.Decisions.{is-cut, is-sum, Decision, IsDecision}
+use Rattle.frame.specs.Logs.{Call}
+use Rattle.frame.specs.Rules.{bodyByteOf, completedOf, advanceOf}
+use Rattle.frame.specs.State.{Header, Open, Scan}
+use Rattle.frame.specs.Wire.{wire, headSize, widest}
 use Rattle.frame.proofs.BodyLayout.{body-layout}
 use Rattle.frame.proofs.Decisions.{each-decision}
 use Rattle.frame.proofs.Stored.{feed-run}
 
+-- ---- over a stream
+
 -- what the bytes `raw` of the stream decide is answered
 module _ (limit : ℕ) (small : limit ≤ widest) (calls : List Call) (before raw after : List ℕ)
-    (bytes : stream (logOf limit (freshOf limit) calls) ≡ before ++ (raw ++ after)) where
+    (bytes : streamOf limit calls ≡ before ++ (raw ++ after)) where
   answered : {number end : ℕ} {values body : List ℕ} → end ≡ length before + length raw
       → Decides limit raw number values body → Answers limit calls number (length before) end values body
   answered e d =
       each-decision limit small calls .complete _
       (record { before = before; raw = raw; after = after; bytes = bytes; starts = refl; ends = e; decides = d })
 
+-- the bytes of a frame that an FF and a byte x end
+regroup : (before b after : List ℕ) (x : ℕ)
+    → before ++ ((wire b ++ 255 ∷ x ∷ []) ++ after) ≡ before ++ (wire b ++ 255 ∷ x ∷ after)
+regroup before b after x = ap (λ (t : List ℕ). before ++ t) (append-assoc (wire b) (255 ∷ x ∷ []) after)
+
+end-at : (before b : List ℕ) (x : ℕ)
+    → length before + length (wire b) + 2 ≡ length before + length (wire b ++ 255 ∷ x ∷ [])
+end-at before b x = omega (arith, length-append (wire b) (255 ∷ x ∷ []))
+
+pub each-length : EachLength
+each-length limit small calls before after b0 b1 bytes =
+    let b : List ℕ = b0 ∷ b1 ∷ [] in
+    record {
+      short = λ low. answered limit small calls before (wire b) after bytes refl
+          (is-short b refl refl refl refl refl low);
+      long = λ first five high. answered limit small calls before (wire b) after bytes refl
+          (is-long b refl refl refl refl refl first five high);
+    }
+
 pub each-break : EachBreak
 each-break limit small calls before b after x bytes unfinished k n =
     let raw : List ℕ = wire b ++ 255 ∷ x ∷ [] in
-    let whole : stream (logOf limit (freshOf limit) calls) ≡ before ++ (raw ++ after) =
-    bytes ∙ ap (λ (t : List ℕ). before ++ t) (sym (append-assoc (wire b) (255 ∷ x ∷ []) after)) in
+    let whole : streamOf limit calls ≡ before ++ (raw ++ after) = bytes ∙ sym (regroup before b after x) in
     let broken : Breaks limit raw b x =
     record { bytes = refl; unfinished = unfinished; not-stuffed = k; not-header = n } in
-    let end : length before + length (wire b) + 2 ≡ length before + length raw =
-    omega (arith, length-append (wire b) (255 ∷ x ∷ [])) in
     record {
-      early = λ few. answered limit small calls before raw after whole end
+      early = λ few. answered limit small calls before raw after whole (end-at before b x)
           (is-stuff b x refl refl refl broken (omega arith));
-      late = λ many. answered limit small calls before raw after whole end
+      late = λ many. answered limit small calls before raw after whole (end-at before b x)
           (is-stuff-late b x refl refl refl broken many);
-      at-sum = λ two all. answered limit small calls before raw after whole end
+      at-sum = λ two all. answered limit small calls before raw after whole (end-at before b x)
           (is-stuff-late b x refl refl refl broken (omega (arith, unfinished .bounds two .0)));
     }
+
+pub each-cut : EachCut
+each-cut limit small calls before b after bytes unfinished =
+    answered limit small calls before (wire b ++ 255 ∷ 255 ∷ []) after (bytes ∙ sym (regroup before b after 255))
+    (end-at before b 255) (is-cut b refl refl refl refl unfinished)
 
 pub each-sum : EachSum
 each-sum limit small calls before after p b0 b1 b2 b3 b4 b5 s bytes true-length longest wrong =
@@ -58,14 +85,90 @@ each-sum limit small calls before after p b0 b1 b2 b3 b4 b5 s bytes true-length 
     answered limit small calls before (wire b) after bytes refl
     (is-sum b refl (rw (sums .0, sums .1)) refl refl sum)
 
+module _ (limit : ℕ) (t : List ℕ) (l : Decision) (d : IsDecision limit t l) where
+  broken-at : (b : List ℕ) (x : ℕ) → l .values ≡ x ∷ [] → l .body ≡ [] → Breaks limit (d .raw) b x
+      → BrokenAt limit t l b
+  broken-at b x values body w =
+      record {
+        before = d .before;
+        x = x;
+        after = d .after;
+        bytes = rw (w .bytes) at (d .bytes) ∙ regroup (d .before) b (d .after) x;
+        unfinished = w .unfinished;
+        not-stuffed = w .not-stuffed;
+        not-header = w .not-header;
+        starts = d .starts;
+        ends = rw (w .bytes) at (d .ends) ∙ sym (end-at (d .before) b x);
+        values-are = values;
+        body-is = body;
+      }
+
+  -- a decision of one of these two numbers
+  is-early : Decides limit (d .raw) (l .number) (l .values) (l .body) → l .number ≡ 13
+      → (b : List ℕ) × (length b ≤ 5) × BrokenAt limit t l b
+  is-early (is-frame b n v h e g) k = absurd (omega arith)
+  is-early (is-short b n v h e g i) k = absurd (omega arith)
+  is-early (is-long b n v h e g f i j) k = absurd (omega arith)
+  is-early (is-stuff b x n v h w few) k = (b, omega arith, broken-at b x v h w)
+  is-early (is-stuff-late b x n v h w many) k = absurd (omega arith)
+  is-early (is-cut b n v h e u) k = absurd (omega arith)
+  is-early (is-sum b n v h e w) k = absurd (omega arith)
+
+  is-late : Decides limit (d .raw) (l .number) (l .values) (l .body) → l .number ≡ 19
+      → (b : List ℕ) × (6 ≤ length b) × BrokenAt limit t l b
+  is-late (is-frame b n v h e g) k = absurd (omega arith)
+  is-late (is-short b n v h e g i) k = absurd (omega arith)
+  is-late (is-long b n v h e g f i j) k = absurd (omega arith)
+  is-late (is-stuff b x n v h w few) k = absurd (omega arith)
+  is-late (is-stuff-late b x n v h w many) k = (b, many, broken-at b x v h w)
+  is-late (is-cut b n v h e u) k = absurd (omega arith)
+  is-late (is-sum b n v h e w) k = absurd (omega arith)
+
+pub only-breaks : OnlyBreaks
+only-breaks limit small calls l m =
+    let d : IsDecision limit (streamOf limit calls) l = each-decision limit small calls .sound l m in
+    record {
+      early = is-early limit (streamOf limit calls) l d (d .decides);
+      late = is-late limit (streamOf limit calls) l d (d .decides);
+    }
+
+-- ---- one byte of any reader
+
 pub break-exactly : BreaksExactly
 unfolding runOf
 break-exactly limit r x bytes waits inside room k n =
-    let run : feedOf limit r (x ∷ bytes) .row ≡ runOf limit (x ∷ bytes) 0 r .row =
-    ap (λ (y : Outcome _). y .row) (feed-run limit r (x ∷ bytes) inside room) in
+    let run = feed-run limit r (x ∷ bytes) inside room in
     record {
       early = λ few. run ∙ rw (ne-eqb x 255 n, waits, ne-eqb x 85 k, lt-ltb (r .scan .filled) headSize (omega arith));
       late = λ many. run ∙ rw (ne-eqb x 255 n, waits, ne-eqb x 85 k, le-ltb (r .scan .filled) headSize many);
+    }
+
+-- a body byte that is the last one
+last-byte : (limit : ℕ) (s : Scan) (v : ℕ) → 2 ≤ s .filled → (s .length < s .filled) ⊎ (limit < s .filled)
+    → bodyByteOf limit s v ≡ completedOf s v
+last-byte limit s v two full = rw (ne-eqb (s .filled) 0 (λ e. omega arith), ne-eqb (s .filled) 1 (λ e. omega arith))
+    (either-way (ltb (s .length) (s .filled)) (λ t. rw t) (λ t. rw (t, lt-ltb limit (s .filled) (most t full))))
+  where
+    most : ltb (s .length) (s .filled) ≡ false → (s .length < s .filled) ⊎ (limit < s .filled) → limit < s .filled
+    most t (inl known) = absurd (omega (arith, ltb-false (s .length) (s .filled) t))
+    most t (inr high) = high
+
+-- a byte other than FF in these phases is a body byte
+plain-byte : (limit : ℕ) (s : Scan) (x : ℕ) → (s .phase ≡ Header) ⊎ (s .phase ≡ Open) → x ≢ 255
+    → advanceOf limit s x ≡ bodyByteOf limit s x
+plain-byte limit s x (inl p) k = rw (ne-eqb x 255 k, p)
+plain-byte limit s x (inr p) k = rw (ne-eqb x 255 k, p)
+
+pub sum-exactly : SumsExactly
+unfolding runOf
+sum-exactly limit r x bytes two full inside room =
+    let run = feed-run limit r (x ∷ bytes) inside room in
+    let s : Scan = r .scan in
+    record {
+      plain = λ phase k wrong. run
+          ∙ rw (plain-byte limit s x phase k, last-byte limit s x two full, ne-eqb x (s .sum) wrong);
+      stuffed = λ waits is wrong. run
+          ∙ rw (is, waits, last-byte limit s 255 two full, ne-eqb 255 (s .sum) wrong);
     }
 
 pub worked-breaks : WorkedBreaks
@@ -85,5 +188,6 @@ worked-breaks =
       after-6 = refl;
       after-7 = refl;
       after-8 = refl;
+      cut = refl;
       stuffed-six = refl;
     }

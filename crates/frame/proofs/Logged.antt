@@ -15,7 +15,7 @@ use Rattle.frame.specs.Frames.{Found, frontBody}
 use Rattle.frame.specs.FramesComputed.{framesFrom}
 use Rattle.base.specs.Rows.{Row, row}
 use Rattle.base.specs.Keys.{among}
-use Rattle.frame.specs.Table.{verdictNumber, eventRow}
+use Rattle.frame.specs.Table.{eventRow}
 use Rattle.frame.specs.Rules.{advanceOf, decidesOf, inRangeOf, maxConsumed, maxFilled}
 use Rattle.base.specs.Outcomes.{Outcome, outcome}
 use Rattle.frame.specs.Calls.{nextOf, finishRowIn, runOf, feedOf, finishOf}

@@ -1,4 +1,4 @@
--- Claims: the body byte by byte, with literal places. PROTOCOL 2.2 to 2.5, 2.9, 2.11, 6.6.
+-- Claims: the body byte by byte, with literal places. PROTOCOL 2.2 to 2.5, 2.9, 2.11, 4.20, 6.6.
 use Prim.Native.Nat.{ℕ, _+_, _-_, _*_, _%_, _≤_}
 use mathlib.Core.List.{List, [], _∷_, _++_}
 use mathlib.Core.Path.{_≡_}
@@ -7,7 +7,7 @@ use Rattle.base.specs.Sums.{total}
 use Rattle.frame.specs.Wire.{lengthOf, commandOf, numberOf, flagsOf, payloadOf, bodyOf, joinedChunks, foundSum}
 use Rattle.frame.specs.Wire.{computedSum, Good}
 
--- ---- body-layout: the first six bytes of a body are b0 to b5; in a good body the payload p and the sum s follow
+-- ---- body-layout: the head of a body is b0 to b5; in a body of true length the payload p and the sum s follow
 --
 --    b0 b1 | b2      | b3       | b4 b5 | p ..    | s
 --    length| command | sequence | flags | payload | sum

@@ -1,24 +1,43 @@
--- Claims: what broken stuffing and a wrong sum answer, in literal numbers. PROTOCOL 3.11, 4.6, 4.8, 4.19, 4.20, 11.4.
-use Prim.Native.Nat.{ℕ, _+_, _*_, _%_, _≤_}
+-- Claims: what each refused frame answers, in literal numbers. PROTOCOL 3.10 to 3.16, 4.4 to 4.8, 4.19, 4.20, 11.4.
+use Prim.Native.Nat.{ℕ, _+_, _*_, _%_, _≤_, _<_}
 use mathlib.Core.List.{List, [], _∷_, _++_, List·Memᴰ}
-use mathlib.Core.Logic.{_≢_}
+use mathlib.Core.Logic.{_≢_, _⊎_}
 use mathlib.Core.Path.{_≡_}
-use lib.ListN.{length}
-use Rattle.base.specs.Rows.{Row, row}
+use lib.ListN.{length, set}
+use Rattle.base.specs.Outcomes.{outcome}
+use Rattle.base.specs.Rows.{row}
 use Rattle.base.specs.Sums.{total}
 use Rattle.frame.specs.Calls.{freshOf, feedOf}
 use Rattle.frame.specs.Decisions.{Unfinished, Decision}
 use Rattle.frame.specs.Logs.{Call, stream, decisionsOf}
 use Rattle.frame.specs.LogsComputed.{logOf}
-use Rattle.frame.specs.State.{Escape, State}
+use Rattle.frame.specs.State.{Idle, Header, Open, Escape, State}
 use Rattle.frame.specs.Wire.{wire, lengthOf, widest}
 use Rattle.frame.specs.WorkedReader.{read}
 
--- the calls answer so: number, start and end, further values, body held
+-- the bytes that calls of a fresh reader consumed
+abbrev pub streamOf : ℕ → List Call → List ℕ
+streamOf limit calls = stream (logOf limit (freshOf limit) calls)
+
+-- these calls answer so: number, start and end, further values, body held
 abbrev pub Answers : ℕ → List Call → ℕ → ℕ → ℕ → List ℕ → List ℕ → Type 0
 Answers limit calls number start end values body =
     List·Memᴰ (record { number = number; start = start; end = end; values = values; body = body })
     (decisionsOf (logOf limit (freshOf limit) calls))
+
+-- ---- each-length: wherever the stream has a header and the length bytes b0 and b1, the calls answer SHORT where they
+-- name less than 5, and LONG where they name more than the limit, without further values
+pub record LengthAnswered (limit : ℕ) (calls : List Call) (before : List ℕ) (b0 b1 : ℕ) : Type 0 where
+  pub short : b0 * 256 + b1 < 5
+      → Answers limit calls 11 (length before) (length before + length (wire (b0 ∷ b1 ∷ []))) [] []
+  pub long : b0 ≢ 255 → 5 ≤ b0 * 256 + b1 → limit < b0 * 256 + b1
+      → Answers limit calls 12 (length before) (length before + length (wire (b0 ∷ b1 ∷ []))) [] []
+
+-- of every list of calls of a fresh reader
+abbrev pub EachLength : Type 0
+EachLength =
+    (limit : ℕ) → limit ≤ widest → (calls : List Call) (before after : List ℕ) (b0 b1 : ℕ)
+    → streamOf limit calls ≡ before ++ (wire (b0 ∷ b1 ∷ []) ++ after) → LengthAnswered limit calls before b0 b1
 
 -- ---- each-break: wherever the stream has the byte x after an FF that follows the body bytes b of a frame, the calls
 -- answer STUFF after one to five of them and STUFFLATE after six or more, with x; where only the sum is missing, that is
@@ -31,20 +50,26 @@ pub record BreakAnswered (limit : ℕ) (calls : List Call) (before b : List ℕ)
   pub at-sum : 2 ≤ length b → length b ≡ lengthOf b + 1
       → Answers limit calls 19 (length before) (length before + length (wire b) + 2) (x ∷ []) []
 
--- of every list of calls of a fresh reader
+-- of every byte that is neither 55 nor FF
 abbrev pub EachBreak : Type 0
 EachBreak =
     (limit : ℕ) → limit ≤ widest → (calls : List Call) (before b after : List ℕ) (x : ℕ)
-    → stream (logOf limit (freshOf limit) calls) ≡ before ++ (wire b ++ 255 ∷ x ∷ after)
+    → streamOf limit calls ≡ before ++ (wire b ++ 255 ∷ x ∷ after)
     → Unfinished limit b → x ≢ 85 → x ≢ 255 → BreakAnswered limit calls before b x
+
+-- ---- each-cut: where that byte is FF, they answer CUT, after however many body bytes
+abbrev pub EachCut : Type 0
+EachCut =
+    (limit : ℕ) → limit ≤ widest → (calls : List Call) (before b after : List ℕ)
+    → streamOf limit calls ≡ before ++ (wire b ++ 255 ∷ 255 ∷ after) → Unfinished limit b
+    → Answers limit calls 14 (length before) (length before + length (wire b) + 2) [] []
 
 -- ---- each-sum: wherever the stream has a body of true length whose last byte s is not the sum of the others, the calls
 -- answer SUM with s, then that sum
 abbrev pub EachSum : Type 0
 EachSum =
     (limit : ℕ) → limit ≤ widest → (calls : List Call) (before after p : List ℕ) (b0 b1 b2 b3 b4 b5 s : ℕ)
-    → stream (logOf limit (freshOf limit) calls)
-    ≡ before ++ (wire (b0 ∷ b1 ∷ b2 ∷ b3 ∷ b4 ∷ b5 ∷ (p ++ s ∷ [])) ++ after)
+    → streamOf limit calls ≡ before ++ (wire (b0 ∷ b1 ∷ b2 ∷ b3 ∷ b4 ∷ b5 ∷ (p ++ s ∷ [])) ++ after)
     → b0 * 256 + b1 ≡ length p + 5 → length p + 5 ≤ limit
     → s ≢ (b0 + b1 + b2 + b3 + b4 + b5 + total p) % 256
     → Answers limit calls 15 (length before)
@@ -52,13 +77,50 @@ EachSum =
     (s ∷ (b0 + b1 + b2 + b3 + b4 + b5 + total p) % 256 ∷ [])
     (b0 ∷ b1 ∷ b2 ∷ b3 ∷ b4 ∷ b5 ∷ (p ++ s ∷ []))
 
--- ---- break-exactly: the byte x that breaks the stuffing, offered with any bytes after it to any reader in range, made
--- up or not
+-- ---- only-breaks: STUFF and STUFFLATE are answered for nothing else
+
+-- what an answer stands for: in the stream, the byte x after an FF that follows the body bytes b of a frame
+pub record BrokenAt (limit : ℕ) (t : List ℕ) (l : Decision) (b : List ℕ) : Type 0 where
+  pub before : List ℕ
+  pub x : ℕ
+  pub after : List ℕ
+  pub bytes : t ≡ before ++ (wire b ++ 255 ∷ x ∷ after)
+  pub unfinished : Unfinished limit b
+  pub not-stuffed : x ≢ 85
+  pub not-header : x ≢ 255
+  pub starts : l .start ≡ length before
+  pub ends : l .end ≡ length before + length (wire b) + 2
+  pub values-are : l .values ≡ x ∷ []
+  pub body-is : l .body ≡ []
+
+-- of every answer
+pub record OnlyBreak (limit : ℕ) (t : List ℕ) (l : Decision) : Type 0 where
+  pub early : l .number ≡ 13 → (b : List ℕ) × (length b ≤ 5) × BrokenAt limit t l b
+  pub late : l .number ≡ 19 → (b : List ℕ) × (6 ≤ length b) × BrokenAt limit t l b
+
+-- to every list of calls of a fresh reader
+abbrev pub OnlyBreaks : Type 0
+OnlyBreaks =
+    (limit : ℕ) → limit ≤ widest → (calls : List Call) (l : Decision)
+    → List·Memᴰ l (decisionsOf (logOf limit (freshOf limit) calls)) → OnlyBreak limit (streamOf limit calls) l
+
+-- ---- break-exactly: a feed whose first byte x breaks the stuffing, of any reader in range, made up or not: the answer,
+-- and the reader afterwards
+
+-- no frame is open, one byte more is consumed, and these bytes are kept
+abbrev pub idleAfter : State → List ℕ → State
+idleAfter r body =
+    record {
+      scan = record { phase = Idle; consumed = r .scan .consumed + 1; start = 0; filled = 0; length = 0; sum = 0 };
+      body = body;
+    }
+
+-- the answer of a feed that consumed one byte, with these further values, and what it leaves
 pub record BreakExactly (limit : ℕ) (r : State) (x : ℕ) (bytes : List ℕ) : Type 0 where
-  pub early : r .scan .filled ≤ 5 → feedOf limit r (x ∷ bytes) .row
-      ≡ row 13 (1 ∷ r .scan .start ∷ (r .scan .consumed + 1) ∷ x ∷ [])
-  pub late : 6 ≤ r .scan .filled → feedOf limit r (x ∷ bytes) .row
-      ≡ row 19 (1 ∷ r .scan .start ∷ (r .scan .consumed + 1) ∷ x ∷ [])
+  pub early : r .scan .filled ≤ 5 → feedOf limit r (x ∷ bytes)
+      ≡ outcome (row 13 (1 ∷ r .scan .start ∷ (r .scan .consumed + 1) ∷ x ∷ [])) (idleAfter r (r .body))
+  pub late : 6 ≤ r .scan .filled → feedOf limit r (x ∷ bytes)
+      ≡ outcome (row 19 (1 ∷ r .scan .start ∷ (r .scan .consumed + 1) ∷ x ∷ [])) (idleAfter r (r .body))
 
 -- of every byte that is neither 55 nor FF
 abbrev pub BreaksExactly : Type 0
@@ -67,6 +129,25 @@ BreaksExactly =
     → r .scan .phase ≡ Escape → r .scan .filled ≤ limit + 1
     → r .scan .consumed + length (x ∷ bytes) ≤ 4611686018427387904
     → x ≢ 85 → x ≢ 255 → BreakExactly limit r x bytes
+
+-- ---- sum-exactly: the same of a byte that completes a body, where the sum so far is another one
+pub record SumExactly (limit : ℕ) (r : State) (x : ℕ) (bytes : List ℕ) : Type 0 where
+  pub plain : (r .scan .phase ≡ Header) ⊎ (r .scan .phase ≡ Open) → x ≢ 255 → x ≢ r .scan .sum
+      → feedOf limit r (x ∷ bytes)
+      ≡ outcome (row 15 (1 ∷ r .scan .start ∷ (r .scan .consumed + 1) ∷ x ∷ r .scan .sum ∷ []))
+      (idleAfter r (set (r .body) (r .scan .filled) x))
+  pub stuffed : r .scan .phase ≡ Escape → x ≡ 85 → 255 ≢ r .scan .sum
+      → feedOf limit r (x ∷ bytes)
+      ≡ outcome (row 15 (1 ∷ r .scan .start ∷ (r .scan .consumed + 1) ∷ 255 ∷ r .scan .sum ∷ []))
+      (idleAfter r (set (r .body) (r .scan .filled) 255))
+
+-- of every reader in range whose next body byte is the last
+abbrev pub SumsExactly : Type 0
+SumsExactly =
+    (limit : ℕ) (r : State) (x : ℕ) (bytes : List ℕ)
+    → 2 ≤ r .scan .filled → (r .scan .length < r .scan .filled) ⊎ (limit < r .scan .filled)
+    → r .scan .filled ≤ limit + 1 → r .scan .consumed + length (x ∷ bytes) ≤ 4611686018427387904
+    → SumExactly limit r x bytes
 
 -- ---- worked-breaks: broken frames for a fresh reader, by computation. PROTOCOL 11.4
 pub record WorkedBreaks : Type 0 where
@@ -91,6 +172,9 @@ pub record WorkedBreaks : Type 0 where
       ≡ row 19 (11 ∷ 0 ∷ 11 ∷ 9 ∷ [])
   pub after-8 : read (0xFF ∷ 0xFF ∷ 0x00 ∷ 0x08 ∷ 0x01 ∷ 0x02 ∷ 0x03 ∷ 0x04 ∷ 0x05 ∷ 0x06 ∷ 0xFF ∷ 0x09 ∷ [])
       ≡ row 19 (12 ∷ 0 ∷ 12 ∷ 9 ∷ [])
+  -- a header after six body bytes
+  pub cut : read (0xFF ∷ 0xFF ∷ 0x00 ∷ 0x05 ∷ 0x07 ∷ 0x01 ∷ 0x00 ∷ 0x00 ∷ 0xFF ∷ 0xFF ∷ [])
+      ≡ row 14 (10 ∷ 0 ∷ 10 ∷ [])
   -- six body bytes in nine on the wire; the byte after the FF, and not the one before it
   pub stuffed-six : read
       (0xFF ∷ 0xFF ∷ 0x00 ∷ 0x08 ∷ 0xFF ∷ 0x55 ∷ 0xFF ∷ 0x55 ∷ 0xFF ∷ 0x55 ∷ 0x03 ∷ 0xFF ∷ 0x09 ∷ [])

@@ -1,5 +1,5 @@
 -- Model: what feed, finish and write answer and leave, held to `Logs` and `Wire` by stream-correct and writer-exact.
--- The contracts equate the code with these. PROTOCOL 3.1, 3.3, 4.1 to 4.18, 6.1 to 6.5.
+-- The contracts equate the code with these. PROTOCOL 3.1, 3.3, 4.1 to 4.20, 6.1 to 6.5.
 use Prim.Native.Nat.{ℕ, _+_, _%_, _^_}
 use mathlib.Core.Bool.{cond}
 use mathlib.Core.List.{List, [], _∷_, _++_}
@@ -84,7 +84,7 @@ writeOf limit command number flags payload out =
 abbrev pub Writes : WriteResult → List ℕ → Output → Type 0
 Writes r after w = output (writeRowOf r) after ≡ w
 
--- the frame on the wire of a body by its first six bytes, its payload and its sum
+-- the frame on the wire of a body by its head, its payload and its sum
 abbrev pub framed : List ℕ → List ℕ → ℕ → List ℕ
 framed head payload sum = wire (head ++ (payload ++ sum ∷ []))
 

@@ -17,7 +17,6 @@ pub mod FramesComputed
 -- Claims: what is proved. StreamCorrect is the buyer's third demand
 pub mod StreamCorrect
 pub mod WrongLogs
-pub mod Broken
 pub mod LogExact
 pub mod Sending
 pub mod EachCall
@@ -30,3 +29,4 @@ pub mod RoundTrip
 pub mod Variants
 pub mod Injective
 pub mod WorkedReader
+pub mod Broken

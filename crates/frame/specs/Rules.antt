@@ -1,5 +1,5 @@
 -- Model: the byte rules, held to the frames of a stream by stream-correct and each-decision.
--- PROTOCOL 3.2, 3.4 to 3.18, 4.17, 4.18.
+-- PROTOCOL 3.2, 3.4 to 3.18, 4.6, 4.17 to 4.20.
 use Prim.Native.Nat.{ℕ, _+_, _-_, _*_, _%_, _^_, _≤_}
 use mathlib.Core.Bool.{Bool, true, false, cond, _&&_}
 use mathlib.Core.List.{List}

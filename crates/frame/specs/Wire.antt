@@ -39,13 +39,13 @@ numberOf b = getD b 3 0
 abbrev pub flagsOf : List ℕ → ℕ
 flagsOf b = twoAt b 4
 
--- the payload, from place 6 on: PROTOCOL 2.11
-abbrev pub payloadOf : List ℕ → List ℕ
-payloadOf b = take (lengthOf b - 5) (drop 6 b)
-
--- the size of a body's head: the bytes before its payload, which are length, command, sequence number and flags
+-- the size of a body's head, a term of ours: length, command, sequence number and flags
 abbrev pub headSize : ℕ
 headSize = 6
+
+-- the payload, after the head: PROTOCOL 2.11
+abbrev pub payloadOf : List ℕ → List ℕ
+payloadOf b = take (lengthOf b - 5) (drop headSize b)
 
 -- the head of a body whose payload has this size
 abbrev pub headOf : ℕ → ℕ → ℕ → ℕ → List ℕ
@@ -68,7 +68,7 @@ frameOf command number flags payload = wire (bodyOf command number flags payload
 abbrev pub joinedChunks : List ℕ → List ℕ → List ℕ → List ℕ
 joinedChunks first second third = first ++ (second ++ third)
 
--- the sum that a body has: its last byte, at place L + 1
+-- the sum that a body has, at place L + 1, which is its last byte where its length is true
 abbrev pub foundSum : List ℕ → ℕ
 foundSum b = getD b (lengthOf b + 1) 0
 

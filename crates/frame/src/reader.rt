@@ -1,4 +1,4 @@
-// The streaming reader: feed and finish. PROTOCOL 3.1 to 3.3, 4.1 to 4.18.
+// The streaming reader: feed and finish. PROTOCOL 3.1 to 3.3, 4.1 to 4.20.
 use super::LIMIT;
 use super::place::MAX_CONSUMED;
 use super::place::WirePlace;

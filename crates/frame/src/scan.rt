@@ -1,4 +1,5 @@
-// The byte rules: what one byte on the wire does to the reader's scan. PROTOCOL 3.4 to 3.18.
+// The byte rules: what one byte on the wire does to the reader's scan. PROTOCOL 3.4 to 3.18, 4.6, 4.19, 4.20.
+use super::HEAD_SIZE;
 use super::place::BodyPlace;
 use super::place::MAX_CONSUMED;
 use super::place::WirePlace;
@@ -33,9 +34,6 @@ pub struct Scan {
     pub length: u16,
     pub sum: u8,
 }
-
-// The bytes of a body before its payload: length, command, sequence number, flags.
-const HEAD_SIZE: usize = 6;
 
 // What an open frame ends in: PROTOCOL 4.2, 4.4 to 4.8.
 pub enum Verdict {

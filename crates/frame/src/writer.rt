@@ -22,7 +22,7 @@ struct Measure {
     sum: u8,
 }
 
-// The first six bytes of a body: length, command, sequence number, flags.
+// The head of a body: length, command, sequence number, flags.
 fn head_of(size: usize, command: u8, number: u8, flags: u16) -> [u8; 6]
     requires { ⌜ size + 5 ≤ 65279 ⌝ }
     ensures { λ r. ⌜ r ≡ headOf size command number flags ⌝ }
