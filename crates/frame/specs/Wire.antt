@@ -39,13 +39,13 @@ numberOf b = getD b 3 0
 abbrev pub flagsOf : List ℕ → ℕ
 flagsOf b = twoAt b 4
 
--- the size of a body's head, a term of ours: length, command, sequence number and flags
+-- the payload, from place 6 on: PROTOCOL 2.11
+abbrev pub payloadOf : List ℕ → List ℕ
+payloadOf b = take (lengthOf b - 5) (drop 6 b)
+
+-- the size of a body's head, a term of ours: length, command, sequence number and flags. PROTOCOL 4.19
 abbrev pub headSize : ℕ
 headSize = 6
-
--- the payload, after the head: PROTOCOL 2.11
-abbrev pub payloadOf : List ℕ → List ℕ
-payloadOf b = take (lengthOf b - 5) (drop headSize b)
 
 -- the head of a body whose payload has this size
 abbrev pub headOf : ℕ → ℕ → ℕ → ℕ → List ℕ

@@ -8,9 +8,6 @@ mod writer;
 // The greatest length L of a frame: PROTOCOL 2.4.
 pub const LIMIT: usize = 1024;
 
-// The size of a body's head: length, command, sequence number and flags. PROTOCOL 2.2, 4.19.
-pub(crate) const HEAD_SIZE: usize = 6;
-
 pub use body::command;
 pub use body::flags;
 pub use body::number;

@@ -1,5 +1,4 @@
 // The byte rules: what one byte on the wire does to the reader's scan. PROTOCOL 3.4 to 3.18, 4.6, 4.19, 4.20.
-use super::HEAD_SIZE;
 use super::place::BodyPlace;
 use super::place::MAX_CONSUMED;
 use super::place::WirePlace;
@@ -34,6 +33,9 @@ pub struct Scan {
     pub length: u16,
     pub sum: u8,
 }
+
+// The size of a body's head: length, command, sequence number and flags. PROTOCOL 4.19.
+const HEAD_SIZE: usize = 6;
 
 // What an open frame ends in: PROTOCOL 4.2, 4.4 to 4.8.
 pub enum Verdict {
