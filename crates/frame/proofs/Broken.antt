@@ -9,15 +9,15 @@ use borrow.Author.Tests.{ne-eqb, lt-ltb, le-ltb, ltb-false}
 use lib.Dec.{ltb}
 use lib.ListN.{length, length-append}
 use Rattle.base.proofs.Tests.{either-way}
-use Rattle.frame.specs.Broken.{streamOf, Answers, EachLength, EachBreak, EachCut, EachSum, BrokenAt, OnlyBreaks}
-use Rattle.frame.specs.Broken.{BreaksExactly, SumsExactly, WorkedBreaks}
+use Rattle.frame.specs.Broken.{streamOf, Answers, EachLength, EachBreak, EachCut, EachSum, Stretch, BrokenAt}
+use Rattle.frame.specs.Broken.{WrongAt, OnlyBroken, AllOnlyBroken, BreaksExactly, SumsExactly, WorkedBreaks}
 use Rattle.frame.specs.Calls.{runOf, zeros}
 use Rattle.frame.specs.Decisions.{Breaks, WrongSum, Decides, is-frame, is-short, is-long, is-stuff, is-stuff-late}
 use Rattle.frame.specs.Decisions.{is-cut, is-sum, Decision, IsDecision}
 use Rattle.frame.specs.Logs.{Call}
 use Rattle.frame.specs.Rules.{bodyByteOf, completedOf, advanceOf}
 use Rattle.frame.specs.State.{Header, Open, Scan}
-use Rattle.frame.specs.Wire.{wire, headSize, widest}
+use Rattle.frame.specs.Wire.{wire, headSize, foundSum, computedSum, widest}
 use Rattle.frame.proofs.BodyLayout.{body-layout}
 use Rattle.frame.proofs.Decisions.{each-decision}
 use Rattle.frame.proofs.Stored.{feed-run}
@@ -86,51 +86,77 @@ each-sum limit small calls before after p b0 b1 b2 b3 b4 b5 s bytes true-length 
     (is-sum b refl (rw (sums .0, sums .1)) refl refl sum)
 
 module _ (limit : ℕ) (t : List ℕ) (l : Decision) (d : IsDecision limit t l) where
-  broken-at : (b : List ℕ) (x : ℕ) → l .values ≡ x ∷ [] → l .body ≡ [] → Breaks limit (d .raw) b x
-      → BrokenAt limit t l b
-  broken-at b x values body w =
+  stretch-of : (raw : List ℕ) → d .raw ≡ raw → Stretch t l raw
+  stretch-of raw e =
       record {
         before = d .before;
-        x = x;
         after = d .after;
-        bytes = rw (w .bytes) at (d .bytes) ∙ regroup (d .before) b (d .after) x;
+        bytes = rw e at (d .bytes);
+        starts = d .starts;
+        ends = rw e at (d .ends);
+      }
+
+  broken-at : (b : List ℕ) (x : ℕ) → l .values ≡ x ∷ [] → l .body ≡ [] → Breaks limit (d .raw) b x
+      → BrokenAt limit t l b x
+  broken-at b x values body w =
+      record {
+        stretch = stretch-of (wire b ++ 255 ∷ x ∷ []) (w .bytes);
         unfinished = w .unfinished;
         not-stuffed = w .not-stuffed;
         not-header = w .not-header;
-        starts = d .starts;
-        ends = rw (w .bytes) at (d .ends) ∙ sym (end-at (d .before) b x);
         values-are = values;
         body-is = body;
       }
 
-  -- a decision of one of these two numbers
-  is-early : Decides limit (d .raw) (l .number) (l .values) (l .body) → l .number ≡ 13
-      → (b : List ℕ) × (length b ≤ 5) × BrokenAt limit t l b
-  is-early (is-frame b n v h e g) k = absurd (omega arith)
-  is-early (is-short b n v h e g i) k = absurd (omega arith)
-  is-early (is-long b n v h e g f i j) k = absurd (omega arith)
-  is-early (is-stuff b x n v h w few) k = (b, omega arith, broken-at b x v h w)
-  is-early (is-stuff-late b x n v h w many) k = absurd (omega arith)
-  is-early (is-cut b n v h e u) k = absurd (omega arith)
-  is-early (is-sum b n v h e w) k = absurd (omega arith)
+  wrong-at : (b : List ℕ) → l .values ≡ foundSum b ∷ computedSum b ∷ [] → l .body ≡ b → d .raw ≡ wire b
+      → WrongSum limit b → WrongAt limit t l
+  wrong-at b values body raw w =
+      let same : b ≡ l .body = sym body in
+      let s : WrongSum limit (l .body) = rw same at w in
+      record {
+        stretch = stretch-of (wire (l .body)) (raw ∙ ap wire same);
+        true-length = s .true-length;
+        in-limits = (s .shortest, s .longest);
+        found = foundSum (l .body);
+        computed = computedSum (l .body);
+        values-are = rw same at values;
+        found-is = refl;
+        computed-is = refl;
+        differ = s .sum-fails;
+      }
 
-  is-late : Decides limit (d .raw) (l .number) (l .values) (l .body) → l .number ≡ 19
-      → (b : List ℕ) × (6 ≤ length b) × BrokenAt limit t l b
-  is-late (is-frame b n v h e g) k = absurd (omega arith)
-  is-late (is-short b n v h e g i) k = absurd (omega arith)
-  is-late (is-long b n v h e g f i j) k = absurd (omega arith)
-  is-late (is-stuff b x n v h w few) k = absurd (omega arith)
-  is-late (is-stuff-late b x n v h w many) k = (b, many, broken-at b x v h w)
-  is-late (is-cut b n v h e u) k = absurd (omega arith)
-  is-late (is-sum b n v h e w) k = absurd (omega arith)
+  -- an answer of another number
+  others : l .number ≢ 13 → l .number ≢ 19 → l .number ≢ 15 → OnlyBroken limit t l
+  others p q w = record { early = λ e. absurd (p e); late = λ e. absurd (q e); sum = λ e. absurd (w e) }
 
-pub only-breaks : OnlyBreaks
-only-breaks limit small calls l m =
+  only : Decides limit (d .raw) (l .number) (l .values) (l .body) → OnlyBroken limit t l
+  only (is-frame b n v h e g) = others (omega arith) (omega arith) (omega arith)
+  only (is-short b n v h e g i) = others (omega arith) (omega arith) (omega arith)
+  only (is-long b n v h e g f i j) = others (omega arith) (omega arith) (omega arith)
+  only (is-stuff b x n v h w few) =
+      record {
+        early = λ k. (b, x, omega arith, broken-at b x v h w);
+        late = λ k. absurd (omega arith);
+        sum = λ k. absurd (omega arith);
+      }
+  only (is-stuff-late b x n v h w many) =
+      record {
+        early = λ k. absurd (omega arith);
+        late = λ k. (b, x, many, broken-at b x v h w);
+        sum = λ k. absurd (omega arith);
+      }
+  only (is-cut b n v h e u) = others (omega arith) (omega arith) (omega arith)
+  only (is-sum b n v h e w) =
+      record {
+        early = λ k. absurd (omega arith);
+        late = λ k. absurd (omega arith);
+        sum = λ k. wrong-at b v h e w;
+      }
+
+pub only-broken : AllOnlyBroken
+only-broken limit small calls l m =
     let d : IsDecision limit (streamOf limit calls) l = each-decision limit small calls .sound l m in
-    record {
-      early = is-early limit (streamOf limit calls) l d (d .decides);
-      late = is-late limit (streamOf limit calls) l d (d .decides);
-    }
+    only limit (streamOf limit calls) l d (d .decides)
 
 -- ---- one byte of any reader
 
@@ -188,6 +214,7 @@ worked-breaks =
       after-6 = refl;
       after-7 = refl;
       after-8 = refl;
+      after-noise = refl;
       cut = refl;
       stuffed-six = refl;
     }

@@ -3,7 +3,7 @@ use Prim.Native.Nat.{ℕ, _+_, _*_, _%_, _≤_, _<_}
 use mathlib.Core.List.{List, [], _∷_, _++_, List·Memᴰ}
 use mathlib.Core.Logic.{_≢_, _⊎_}
 use mathlib.Core.Path.{_≡_}
-use lib.ListN.{length, set}
+use lib.ListN.{length, getD, take, set}
 use Rattle.base.specs.Outcomes.{outcome}
 use Rattle.base.specs.Rows.{row}
 use Rattle.base.specs.Sums.{total}
@@ -77,32 +77,48 @@ EachSum =
     (s ∷ (b0 + b1 + b2 + b3 + b4 + b5 + total p) % 256 ∷ [])
     (b0 ∷ b1 ∷ b2 ∷ b3 ∷ b4 ∷ b5 ∷ (p ++ s ∷ []))
 
--- ---- only-breaks: STUFF and STUFFLATE are answered for nothing else
+-- ---- only-broken: STUFF, STUFFLATE and SUM are answered for nothing else
 
--- what an answer stands for: in the stream, the byte x after an FF that follows the body bytes b of a frame
-pub record BrokenAt (limit : ℕ) (t : List ℕ) (l : Decision) (b : List ℕ) : Type 0 where
+-- the bytes `raw` of the stream t stand from the answer's start to its end
+pub record Stretch (t : List ℕ) (l : Decision) (raw : List ℕ) : Type 0 where
   pub before : List ℕ
-  pub x : ℕ
   pub after : List ℕ
-  pub bytes : t ≡ before ++ (wire b ++ 255 ∷ x ∷ after)
+  pub bytes : t ≡ before ++ (raw ++ after)
+  pub starts : l .start ≡ length before
+  pub ends : l .end ≡ length before + length raw
+
+-- the answer returns x, and stands for an FF and x after the body bytes b of a frame
+pub record BrokenAt (limit : ℕ) (t : List ℕ) (l : Decision) (b : List ℕ) (x : ℕ) : Type 0 where
+  pub stretch : Stretch t l (wire b ++ 255 ∷ x ∷ [])
   pub unfinished : Unfinished limit b
   pub not-stuffed : x ≢ 85
   pub not-header : x ≢ 255
-  pub starts : l .start ≡ length before
-  pub ends : l .end ≡ length before + length (wire b) + 2
   pub values-are : l .values ≡ x ∷ []
   pub body-is : l .body ≡ []
 
+-- the answer stands for a body of true length, whose last byte and the sum of the others differ; it returns both
+pub record WrongAt (limit : ℕ) (t : List ℕ) (l : Decision) : Type 0 where
+  pub stretch : Stretch t l (wire (l .body))
+  pub true-length : length (l .body) ≡ lengthOf (l .body) + 2
+  pub in-limits : (5 ≤ lengthOf (l .body)) × (lengthOf (l .body) ≤ limit)
+  pub found : ℕ
+  pub computed : ℕ
+  pub values-are : l .values ≡ found ∷ computed ∷ []
+  pub found-is : found ≡ getD (l .body) (lengthOf (l .body) + 1) 0
+  pub computed-is : computed ≡ total (take (lengthOf (l .body) + 1) (l .body)) % 256
+  pub differ : found ≢ computed
+
 -- of every answer
-pub record OnlyBreak (limit : ℕ) (t : List ℕ) (l : Decision) : Type 0 where
-  pub early : l .number ≡ 13 → (b : List ℕ) × (length b ≤ 5) × BrokenAt limit t l b
-  pub late : l .number ≡ 19 → (b : List ℕ) × (6 ≤ length b) × BrokenAt limit t l b
+pub record OnlyBroken (limit : ℕ) (t : List ℕ) (l : Decision) : Type 0 where
+  pub early : l .number ≡ 13 → (b : List ℕ) × (x : ℕ) × (length b ≤ 5) × BrokenAt limit t l b x
+  pub late : l .number ≡ 19 → (b : List ℕ) × (x : ℕ) × (6 ≤ length b) × BrokenAt limit t l b x
+  pub sum : l .number ≡ 15 → WrongAt limit t l
 
 -- to every list of calls of a fresh reader
-abbrev pub OnlyBreaks : Type 0
-OnlyBreaks =
+abbrev pub AllOnlyBroken : Type 0
+AllOnlyBroken =
     (limit : ℕ) → limit ≤ widest → (calls : List Call) (l : Decision)
-    → List·Memᴰ l (decisionsOf (logOf limit (freshOf limit) calls)) → OnlyBreak limit (streamOf limit calls) l
+    → List·Memᴰ l (decisionsOf (logOf limit (freshOf limit) calls)) → OnlyBroken limit (streamOf limit calls) l
 
 -- ---- break-exactly: a feed whose first byte x breaks the stuffing, of any reader in range, made up or not: the answer,
 -- and the reader afterwards
@@ -172,6 +188,10 @@ pub record WorkedBreaks : Type 0 where
       ≡ row 19 (11 ∷ 0 ∷ 11 ∷ 9 ∷ [])
   pub after-8 : read (0xFF ∷ 0xFF ∷ 0x00 ∷ 0x08 ∷ 0x01 ∷ 0x02 ∷ 0x03 ∷ 0x04 ∷ 0x05 ∷ 0x06 ∷ 0xFF ∷ 0x09 ∷ [])
       ≡ row 19 (12 ∷ 0 ∷ 12 ∷ 9 ∷ [])
+  -- after noise and one more FF
+  pub after-noise : read
+      (0x07 ∷ 0xFF ∷ 0xFF ∷ 0xFF ∷ 0x00 ∷ 0x05 ∷ 0x07 ∷ 0x01 ∷ 0x00 ∷ 0x00 ∷ 0xFF ∷ 0x03 ∷ [])
+      ≡ row 19 (12 ∷ 2 ∷ 12 ∷ 3 ∷ [])
   -- a header after six body bytes
   pub cut : read (0xFF ∷ 0xFF ∷ 0x00 ∷ 0x05 ∷ 0x07 ∷ 0x01 ∷ 0x00 ∷ 0x00 ∷ 0xFF ∷ 0xFF ∷ [])
       ≡ row 14 (10 ∷ 0 ∷ 10 ∷ [])

@@ -36,22 +36,27 @@ pub record WrongLogs (limit : ℕ) (r q : State) : Type 0 where
   pub finish-state : Refused limit finish (row 17 (0 ∷ [])) r q
   pub finish-99 : Refused limit finish (row 99 (0 ∷ [])) r q
   pub finish-other : (v : List ℕ) (k : ℕ) → among k (2 ∷ 16 ∷ []) ≡ false → Refused limit finish (row k v) r q
-  -- more is consumed than was offered
-  pub too-many : Refused limit (feed (7 ∷ [])) (row 11 (2 ∷ 0 ∷ 2 ∷ [])) r q
+  -- more is consumed than was offered, whatever the answer
+  pub too-many : (k : ℕ) (v : List ℕ) → Refused limit (feed (7 ∷ [])) (row k (2 ∷ v)) r q
   -- MORE consumes one byte of two, or none of one
   pub more-one : Refused limit (feed (7 ∷ 7 ∷ [])) (row 0 (1 ∷ [])) r q
   pub more-none : Refused limit (feed (7 ∷ [])) (row 0 (0 ∷ [])) r q
-  -- a refused frame consumes no byte
-  pub short-none : Refused limit (feed (7 ∷ [])) (row 11 (0 ∷ 0 ∷ 0 ∷ [])) r q
-  -- a feed with no data decides something, or changes the reader
-  pub empty-short : Refused limit (feed []) (row 11 (0 ∷ 0 ∷ 0 ∷ [])) r q
+  -- an answer other than USED consumes no byte
+  pub none-consumed : (k : ℕ) (v : List ℕ) → k ≢ 18 → Refused limit (feed (7 ∷ [])) (row k (0 ∷ v)) r q
+  -- a feed with no data is not answered MORE, or changes the reader
+  pub empty-decides : (k : ℕ) (v : List ℕ) → k ≢ 0 → Refused limit (feed []) (row k v) r q
   pub empty-changes : q ≢ r → Refused limit (feed []) (row 0 (0 ∷ [])) r q
-  -- a refused frame has an end that the counts do not add up to
+  -- a decision has an end that the counts do not add up to
+  pub frame-end : Refused limit (feed (7 ∷ [])) (row 1 (1 ∷ 0 ∷ 9 ∷ [])) r q
   pub short-end : Refused limit (feed (7 ∷ [])) (row 11 (1 ∷ 0 ∷ 9 ∷ [])) r q
+  pub long-end : Refused limit (feed (7 ∷ [])) (row 12 (1 ∷ 0 ∷ 9 ∷ [])) r q
+  pub stuff-end : Refused limit (feed (7 ∷ [])) (row 13 (1 ∷ 0 ∷ 9 ∷ 7 ∷ [])) r q
+  pub cut-end : Refused limit (feed (7 ∷ [])) (row 14 (1 ∷ 0 ∷ 9 ∷ [])) r q
+  pub sum-end : Refused limit (feed (7 ∷ [])) (row 15 (1 ∷ 0 ∷ 9 ∷ 7 ∷ 8 ∷ [])) r q
   pub late-end : Refused limit (feed (7 ∷ [])) (row 19 (1 ∷ 0 ∷ 9 ∷ 7 ∷ [])) r q
   -- USED comes too soon, or does not come; it consumes a byte; it changes the reader
   pub used-soon : Refused limit (feed (7 ∷ [])) (row 18 (0 ∷ [])) r q
-  pub used-not : (bytes : List ℕ) → 2 ^ 62 < length bytes → Refused limit (feed bytes) (row 0 (length bytes ∷ [])) r q
+  pub used-not : (bytes v : List ℕ) (k : ℕ) → 2 ^ 62 < length bytes → k ≢ 18 → Refused limit (feed bytes) (row k v) r q
   pub used-consumes : (bytes : List ℕ) → Refused limit (feed bytes) (row 18 (1 ∷ [])) r q
   pub used-changes : (bytes : List ℕ) → q ≢ r → Refused limit (feed bytes) (row 18 (0 ∷ [])) r q
   -- a finish returns another total, or changes the reader
