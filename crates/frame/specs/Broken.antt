@@ -40,8 +40,8 @@ EachLength =
     → streamOf limit calls ≡ before ++ (wire (b0 ∷ b1 ∷ []) ++ after) → LengthAnswered limit calls before b0 b1
 
 -- ---- each-break: wherever the stream has the byte x after an FF that follows the body bytes b of a frame, the calls
--- answer STUFF after one to five of them and STUFFLATE after six or more, with x; where only the sum is missing, that is
--- STUFFLATE
+-- answer STUFF after one to five of them and STUFFLATE after six or more, with x. Where only the sum is missing, this
+-- is STUFFLATE
 pub record BreakAnswered (limit : ℕ) (calls : List Call) (before b : List ℕ) (x : ℕ) : Type 0 where
   pub early : length b ≤ 5
       → Answers limit calls 13 (length before) (length before + length (wire b) + 2) (x ∷ []) []
@@ -64,8 +64,8 @@ EachCut =
     → streamOf limit calls ≡ before ++ (wire b ++ 255 ∷ 255 ∷ after) → Unfinished limit b
     → Answers limit calls 14 (length before) (length before + length (wire b) + 2) [] []
 
--- ---- each-sum: wherever the stream has a body of true length whose last byte s is not the sum of the others, the calls
--- answer SUM with s, then that sum
+-- ---- each-sum: wherever the stream has a body of true length whose last byte s is not the sum of the others, the
+-- calls answer SUM with s, then that sum
 abbrev pub EachSum : Type 0
 EachSum =
     (limit : ℕ) → limit ≤ widest → (calls : List Call) (before after p : List ℕ) (b0 b1 b2 b3 b4 b5 s : ℕ)
@@ -120,7 +120,7 @@ AllOnlyBroken =
     (limit : ℕ) → limit ≤ widest → (calls : List Call) (l : Decision)
     → List·Memᴰ l (decisionsOf (logOf limit (freshOf limit) calls)) → OnlyBroken limit (streamOf limit calls) l
 
--- ---- break-exactly: a feed whose first byte x breaks the stuffing, of any reader in range, made up or not: the answer,
+-- ---- break-exactly: a feed whose first byte x breaks the stuffing, of any reader in range, made up or not: its answer
 -- and the reader afterwards
 
 -- no frame is open, one byte more is consumed, and these bytes are kept

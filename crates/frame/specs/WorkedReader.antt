@@ -1,5 +1,5 @@
--- Claims: the reader worked out: literal bytes for a fresh reader, and its answer. PROTOCOL 3.4 to 3.18, 4.3, 4.9, 4.19,
--- 4.20.
+-- Claims: the reader worked out: literal bytes for a fresh reader, and its answer. PROTOCOL 3.4 to 3.18, 4.3, 4.9,
+-- 4.19, 4.20.
 -- MORE is 0, FRAME 1, SHORT 11, LONG 12, STUFF 13, CUT 14, SUM 15; their values are count, start and end, at STUFF then
 -- the byte that breaks the stuffing, at SUM the sum found and the sum computed.
 use Prim.Native.Nat.{ℕ}

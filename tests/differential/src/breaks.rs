@@ -105,7 +105,7 @@ fn add_noise(stream: &mut Vec<u8>, rng: &mut Rng) {
     stream.extend(if rng.once_in(2) { rng.bytes(size) } else { rng.bytes_from(&[0xFF, 0x55, 0x00], size) });
 }
 
-/// A good body. In half of them most bytes are FF, so that places on the wire and places in the body differ early.
+/// A good body. In half of them most bytes are FF, so that a place on the wire is soon above its place in the body.
 fn any_body(payload_size: usize, rng: &mut Rng) -> Vec<u8> {
     let size = payload_size + 4;
     body_of(&if rng.once_in(2) { rng.bytes(size) } else { rng.bytes_from(&[0xFF, 0xFF, 0x55, 0x00], size) })
