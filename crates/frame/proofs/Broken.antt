@@ -7,17 +7,18 @@ use mathlib.Core.Logic.{_≢_, _⊎_, inl, inr}
 use native.Mathlib.Omega.{arith}
 use borrow.Author.Tests.{ne-eqb, lt-ltb, le-ltb, ltb-false}
 use lib.Dec.{ltb}
-use lib.ListN.{length, length-append}
+use lib.ListN.{length, getD, length-append}
 use Rattle.base.proofs.Tests.{either-way}
-use Rattle.frame.specs.Broken.{streamOf, Answers, EachLength, EachBreak, EachCut, EachSum, Stretch, BrokenAt}
-use Rattle.frame.specs.Broken.{WrongAt, OnlyBroken, AllOnlyBroken, BreaksExactly, SumsExactly, WorkedBreaks}
+use Rattle.frame.specs.Broken.{streamOf, Answers, EachLength, EachBreak, EachCut, EachSum, Says, StandsFor}
+use Rattle.frame.specs.Broken.{for-frame, for-short, for-long, for-stuff, for-stuff-late, for-cut, for-sum}
+use Rattle.frame.specs.Broken.{AllStandFor, BreaksExactly, SumsExactly, WorkedBreaks}
 use Rattle.frame.specs.Calls.{runOf, zeros}
 use Rattle.frame.specs.Decisions.{Breaks, WrongSum, Decides, is-frame, is-short, is-long, is-stuff, is-stuff-late}
 use Rattle.frame.specs.Decisions.{is-cut, is-sum, Decision, IsDecision}
 use Rattle.frame.specs.Logs.{Call}
 use Rattle.frame.specs.Rules.{bodyByteOf, completedOf, advanceOf}
 use Rattle.frame.specs.State.{Header, Open, Scan}
-use Rattle.frame.specs.Wire.{wire, headSize, foundSum, computedSum, widest}
+use Rattle.frame.specs.Wire.{wire, lengthOf, headSize, foundSum, computedSum, widest}
 use Rattle.frame.proofs.BodyLayout.{body-layout}
 use Rattle.frame.proofs.Decisions.{each-decision}
 use Rattle.frame.proofs.Stored.{feed-run}
@@ -86,77 +87,55 @@ each-sum limit small calls before after p b0 b1 b2 b3 b4 b5 s bytes true-length 
     (is-sum b refl (rw (sums .0, sums .1)) refl refl sum)
 
 module _ (limit : ℕ) (t : List ℕ) (l : Decision) (d : IsDecision limit t l) where
-  stretch-of : (raw : List ℕ) → d .raw ≡ raw → Stretch t l raw
-  stretch-of raw e =
+  says : {values body : List ℕ} (raw : List ℕ) → d .raw ≡ raw → l .values ≡ values → l .body ≡ body
+      → Says t l raw values body
+  says raw e values body =
       record {
-        before = d .before;
-        after = d .after;
-        bytes = rw e at (d .bytes);
-        starts = d .starts;
-        ends = rw e at (d .ends);
-      }
-
-  broken-at : (b : List ℕ) (x : ℕ) → l .values ≡ x ∷ [] → l .body ≡ [] → Breaks limit (d .raw) b x
-      → BrokenAt limit t l b x
-  broken-at b x values body w =
-      record {
-        stretch = stretch-of (wire b ++ 255 ∷ x ∷ []) (w .bytes);
-        unfinished = w .unfinished;
-        not-stuffed = w .not-stuffed;
-        not-header = w .not-header;
+        stretch = record {
+          before = d .before;
+          after = d .after;
+          bytes = rw e at (d .bytes);
+          starts = d .starts;
+          ends = rw e at (d .ends);
+        };
         values-are = values;
         body-is = body;
       }
 
-  wrong-at : (b : List ℕ) → l .values ≡ foundSum b ∷ computedSum b ∷ [] → l .body ≡ b → d .raw ≡ wire b
-      → WrongSum limit b → WrongAt limit t l
-  wrong-at b values body raw w =
-      let same : b ≡ l .body = sym body in
-      let s : WrongSum limit (l .body) = rw same at w in
-      record {
-        stretch = stretch-of (wire (l .body)) (raw ∙ ap wire same);
-        true-length = s .true-length;
-        in-limits = (s .shortest, s .longest);
-        found = foundSum (l .body);
-        computed = computedSum (l .body);
-        values-are = rw same at values;
-        found-is = refl;
-        computed-is = refl;
-        differ = s .sum-fails;
-      }
+  -- two length bytes are a body of length 2
+  two-bytes : (P : List ℕ → Type 0) → ((b0 b1 : ℕ) → P (b0 ∷ b1 ∷ [])) → (b : List ℕ) → length b ≡ 2 → P b
+  two-bytes P f [] e = absurd (omega arith)
+  two-bytes P f (b0 ∷ []) e = absurd (omega arith)
+  two-bytes P f (b0 ∷ b1 ∷ []) e = f b0 b1
+  two-bytes P f (b0 ∷ b1 ∷ b2 ∷ b) e = absurd (omega arith)
 
-  -- an answer of another number
-  others : l .number ≢ 13 → l .number ≢ 19 → l .number ≢ 15 → OnlyBroken limit t l
-  others p q w = record { early = λ e. absurd (p e); late = λ e. absurd (q e); sum = λ e. absurd (w e) }
+  abbrev Stands : Type 0
+  Stands = StandsFor limit t l
 
-  only : Decides limit (d .raw) (l .number) (l .values) (l .body) → OnlyBroken limit t l
-  only (is-frame b n v h e g) = others (omega arith) (omega arith) (omega arith)
-  only (is-short b n v h e g i) = others (omega arith) (omega arith) (omega arith)
-  only (is-long b n v h e g f i j) = others (omega arith) (omega arith) (omega arith)
-  only (is-stuff b x n v h w few) =
-      record {
-        early = λ k. (b, x, omega arith, broken-at b x v h w);
-        late = λ k. absurd (omega arith);
-        sum = λ k. absurd (omega arith);
-      }
-  only (is-stuff-late b x n v h w many) =
-      record {
-        early = λ k. absurd (omega arith);
-        late = λ k. (b, x, many, broken-at b x v h w);
-        sum = λ k. absurd (omega arith);
-      }
-  only (is-cut b n v h e u) = others (omega arith) (omega arith) (omega arith)
-  only (is-sum b n v h e w) =
-      record {
-        early = λ k. absurd (omega arith);
-        late = λ k. absurd (omega arith);
-        sum = λ k. wrong-at b v h e w;
-      }
+  stands : Decides limit (d .raw) (l .number) (l .values) (l .body) → Stands
+  stands (is-frame b n v h e g) = for-frame b n g (says (wire b) e v h)
+  stands (is-short b n v h e two low) =
+      two-bytes (λ (b : List ℕ). lengthOf b < 5 → d .raw ≡ wire b → Stands)
+      (λ b0 b1 low e. for-short b0 b1 n low (says (wire (b0 ∷ b1 ∷ [])) e v h)) b two low e
+  stands (is-long b n v h e two first five high) =
+      two-bytes (λ (b : List ℕ). getD b 0 0 ≢ 255 → 5 ≤ lengthOf b → limit < lengthOf b → d .raw ≡ wire b → Stands)
+      (λ b0 b1 first five high e. for-long b0 b1 n first five high (says (wire (b0 ∷ b1 ∷ [])) e v h))
+      b two first five high e
+  stands (is-stuff b x n v h w few) =
+      for-stuff b x n (omega arith) (w .unfinished) (w .not-stuffed) (w .not-header)
+      (says (wire b ++ 255 ∷ x ∷ []) (w .bytes) v h)
+  stands (is-stuff-late b x n v h w many) =
+      for-stuff-late b x n many (w .unfinished) (w .not-stuffed) (w .not-header)
+      (says (wire b ++ 255 ∷ x ∷ []) (w .bytes) v h)
+  stands (is-cut b n v h e u) = for-cut b n u (says (wire b ++ 255 ∷ 255 ∷ []) e v h)
+  stands (is-sum b n v h e w) =
+      for-sum b (foundSum b) (computedSum b) n (w .true-length) (w .shortest) (w .longest) refl refl (w .sum-fails)
+      (says (wire b) e v h)
 
-pub only-broken : AllOnlyBroken
-only-broken limit small calls l m =
+pub stands-for : AllStandFor
+stands-for limit small calls l m =
     let d : IsDecision limit (streamOf limit calls) l = each-decision limit small calls .sound l m in
-    only limit (streamOf limit calls) l d (d .decides)
+    stands limit (streamOf limit calls) l d (d .decides)
 
 -- ---- one byte of any reader
 

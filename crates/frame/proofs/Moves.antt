@@ -103,6 +103,11 @@ found-path : {s s′ e e′ : ℕ} {b b′ : List ℕ} → s ≡ s′ → e ≡ 
     → _≡_ {A = Found} (record { start = s; end = e; body = b }) (record { start = s′; end = e′; body = b′ })
 found-path p q r = λ i. record { start = p i; end = q i; body = r i }
 
+-- broken stuffing delivers no frame
+none-delivered : (filled x : ℕ) (f : Found) (l : List Found) → deliveredBy (Decided (brokenOf filled x)) f l ≡ l
+none-delivered filled x f l =
+    broken-cases (λ (v : Verdict). deliveredBy (Decided v) f l ≡ l) filled x (λ _. refl) (λ _. refl)
+
 -- ---- one more byte of a list
 
 pub wire-snoc : (b : List ℕ) (x : ℕ) (t : List ℕ) → x ≢ 255 → wire (b ++ x ∷ []) ++ t ≡ wire b ++ x ∷ t
@@ -243,11 +248,6 @@ module _ (limit : ℕ) (small : limit ≤ 65279) (r : State) (room : length (r .
             ∙ ap (λ (j : List ℕ). framesFrom limit at j) (same t) ∙ m .frames t;
       }
 
-  -- broken stuffing delivers no frame
-  none-delivered : (x : ℕ) (f : Found) (l : List Found) → deliveredBy (Decided (brokenOf (r .scan .filled) x)) f l ≡ l
-  none-delivered x f l =
-      broken-cases (λ (v : Verdict). deliveredBy (Decided v) f l ≡ l) (r .scan .filled) x (λ _. refl) (λ _. refl)
-
   -- a frame that is begun, followed by bytes with which it cannot go on, is not a frame of the stream
   broken : (x : ℕ) (t : List ℕ) {n : ℕ} → Begun limit (r .scan) b n → x ≢ 85
       → framesFrom limit at (wire b ++ 255 ∷ x ∷ t) ≡ framesFrom limit (at + length (wire b)) (255 ∷ x ∷ t)
@@ -329,8 +329,9 @@ module _ (limit : ℕ) (small : limit ≤ 65279) (r : State) (room : length (r .
         holds = record { phase = tt; room = room; inside = omega arith };
         frames = λ t.
             ap (λ (j : List ℕ). framesFrom limit at j) (wire-wait b (x ∷ t)) ∙ broken x t i (eqb-false x 85 q)
-            ∙ pass-pair limit n 255 x t k ∙ pass-other limit (suc n) x t k ∙ at-place limit t (omega (arith, i .place))
-            ∙ sym (none-delivered x _ _);
+            ∙ pass-pair limit n 255 x t k ∙ pass-other limit (suc n) x t k
+            ∙ at-place limit t {n = r .scan .consumed + 1} (omega (arith, i .place))
+            ∙ sym (none-delivered (r .scan .filled) x _ _);
       })
 
 -- a byte, of any reader that calls can reach

@@ -1,4 +1,5 @@
--- Claims: what each refused frame answers, in literal numbers. PROTOCOL 3.10 to 3.16, 4.4 to 4.8, 4.19, 4.20, 11.4.
+-- Claims: what each refused frame answers, in literal numbers. PROTOCOL 3.10 to 3.16, 4.2, 4.4 to 4.8, 4.19, 4.20,
+-- 5.10, 11.4.
 use Prim.Native.Nat.{ℕ, _+_, _*_, _%_, _≤_, _<_}
 use mathlib.Core.List.{List, [], _∷_, _++_, List·Memᴰ}
 use mathlib.Core.Logic.{_≢_, _⊎_}
@@ -12,7 +13,7 @@ use Rattle.frame.specs.Decisions.{Unfinished, Decision}
 use Rattle.frame.specs.Logs.{Call, stream, decisionsOf}
 use Rattle.frame.specs.LogsComputed.{logOf}
 use Rattle.frame.specs.State.{Idle, Header, Open, Escape, State}
-use Rattle.frame.specs.Wire.{wire, lengthOf, widest}
+use Rattle.frame.specs.Wire.{wire, lengthOf, Good, widest}
 use Rattle.frame.specs.WorkedReader.{read}
 
 -- the bytes that calls of a fresh reader consumed
@@ -77,7 +78,7 @@ EachSum =
     (s ∷ (b0 + b1 + b2 + b3 + b4 + b5 + total p) % 256 ∷ [])
     (b0 ∷ b1 ∷ b2 ∷ b3 ∷ b4 ∷ b5 ∷ (p ++ s ∷ []))
 
--- ---- only-broken: STUFF, STUFFLATE and SUM are answered for nothing else
+-- ---- stands-for: a decision is answered for nothing else
 
 -- the bytes `raw` of the stream t stand from the answer's start to its end
 pub record Stretch (t : List ℕ) (l : Decision) (raw : List ℕ) : Type 0 where
@@ -87,38 +88,43 @@ pub record Stretch (t : List ℕ) (l : Decision) (raw : List ℕ) : Type 0 where
   pub starts : l .start ≡ length before
   pub ends : l .end ≡ length before + length raw
 
--- the answer returns x, and stands for an FF and x after the body bytes b of a frame
-pub record BrokenAt (limit : ℕ) (t : List ℕ) (l : Decision) (b : List ℕ) (x : ℕ) : Type 0 where
-  pub stretch : Stretch t l (wire b ++ 255 ∷ x ∷ [])
-  pub unfinished : Unfinished limit b
-  pub not-stuffed : x ≢ 85
-  pub not-header : x ≢ 255
-  pub values-are : l .values ≡ x ∷ []
-  pub body-is : l .body ≡ []
+-- the answer stands for these bytes, returns these further values, and the reader then holds this body
+pub record Says (t : List ℕ) (l : Decision) (raw values body : List ℕ) : Type 0 where
+  pub stretch : Stretch t l raw
+  pub values-are : l .values ≡ values
+  pub body-is : l .body ≡ body
 
--- the answer stands for a body of true length, whose last byte and the sum of the others differ; it returns both
-pub record WrongAt (limit : ℕ) (t : List ℕ) (l : Decision) : Type 0 where
-  pub stretch : Stretch t l (wire (l .body))
-  pub true-length : length (l .body) ≡ lengthOf (l .body) + 2
-  pub in-limits : (5 ≤ lengthOf (l .body)) × (lengthOf (l .body) ≤ limit)
-  pub found : ℕ
-  pub computed : ℕ
-  pub values-are : l .values ≡ found ∷ computed ∷ []
-  pub found-is : found ≡ getD (l .body) (lengthOf (l .body) + 1) 0
-  pub computed-is : computed ≡ total (take (lengthOf (l .body) + 1) (l .body)) % 256
-  pub differ : found ≢ computed
+-- by the number of the answer
+pub data StandsFor (limit : ℕ) (t : List ℕ) (l : Decision) : Type 0 where
+  -- FRAME
+  for-frame : (b : List ℕ) → l .number ≡ 1 → Good limit b → Says t l (wire b) [] b → StandsFor limit t l
+  -- SHORT and LONG: two length bytes
+  for-short : (b0 b1 : ℕ)
+      → l .number ≡ 11 → b0 * 256 + b1 < 5 → Says t l (wire (b0 ∷ b1 ∷ [])) [] [] → StandsFor limit t l
+  for-long : (b0 b1 : ℕ)
+      → l .number ≡ 12 → b0 ≢ 255 → 5 ≤ b0 * 256 + b1 → limit < b0 * 256 + b1
+      → Says t l (wire (b0 ∷ b1 ∷ [])) [] [] → StandsFor limit t l
+  -- STUFF and STUFFLATE: an FF and x after the body bytes b, which is neither 55 nor FF
+  for-stuff : (b : List ℕ) (x : ℕ)
+      → l .number ≡ 13 → length b ≤ 5 → Unfinished limit b → x ≢ 85 → x ≢ 255
+      → Says t l (wire b ++ 255 ∷ x ∷ []) (x ∷ []) [] → StandsFor limit t l
+  for-stuff-late : (b : List ℕ) (x : ℕ)
+      → l .number ≡ 19 → 6 ≤ length b → Unfinished limit b → x ≢ 85 → x ≢ 255
+      → Says t l (wire b ++ 255 ∷ x ∷ []) (x ∷ []) [] → StandsFor limit t l
+  -- CUT: a header after the body bytes b
+  for-cut : (b : List ℕ)
+      → l .number ≡ 14 → Unfinished limit b → Says t l (wire b ++ 255 ∷ 255 ∷ []) [] [] → StandsFor limit t l
+  -- SUM: a body of true length, whose last byte and the sum of the others differ
+  for-sum : (b : List ℕ) (found computed : ℕ)
+      → l .number ≡ 15 → length b ≡ lengthOf b + 2 → 5 ≤ lengthOf b → lengthOf b ≤ limit
+      → found ≡ getD b (lengthOf b + 1) 0 → computed ≡ total (take (lengthOf b + 1) b) % 256 → found ≢ computed
+      → Says t l (wire b) (found ∷ computed ∷ []) b → StandsFor limit t l
 
--- of every answer
-pub record OnlyBroken (limit : ℕ) (t : List ℕ) (l : Decision) : Type 0 where
-  pub early : l .number ≡ 13 → (b : List ℕ) × (x : ℕ) × (length b ≤ 5) × BrokenAt limit t l b x
-  pub late : l .number ≡ 19 → (b : List ℕ) × (x : ℕ) × (6 ≤ length b) × BrokenAt limit t l b x
-  pub sum : l .number ≡ 15 → WrongAt limit t l
-
--- to every list of calls of a fresh reader
-abbrev pub AllOnlyBroken : Type 0
-AllOnlyBroken =
+-- each answer to every list of calls of a fresh reader
+abbrev pub AllStandFor : Type 0
+AllStandFor =
     (limit : ℕ) → limit ≤ widest → (calls : List Call) (l : Decision)
-    → List·Memᴰ l (decisionsOf (logOf limit (freshOf limit) calls)) → OnlyBroken limit (streamOf limit calls) l
+    → List·Memᴰ l (decisionsOf (logOf limit (freshOf limit) calls)) → StandsFor limit (streamOf limit calls) l
 
 -- ---- break-exactly: a feed whose first byte x breaks the stuffing, of any reader in range, made up or not: its answer
 -- and the reader afterwards
