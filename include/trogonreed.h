@@ -40,6 +40,11 @@ extern "C" {
  * payload and sum, with a 55 stuffed after each FF of these. It writes every command, every number and all flags. The
  * rest of `out` stays as it was.
  *
+ * A box gives each command of its own the next number: 0 first, then up to 255, then 0 again. Where no reply comes
+ * within 200 ms it sends the command again under the same number, at most twice, and then drops it. A reply has the
+ * number of the frame that it replies to (docs/PROTOCOL.md, 8.1 and section 9). This function keeps no count: the
+ * caller does.
+ *
  * Returns the count of bytes written, at most TROGONREED_MAX_FRAME, or a refusal. TROGONREED_REFUSED_PAYLOAD is tested
  * first, then TROGONREED_REFUSED_ROOM. A refusal writes nothing: `out` stays as it was.
  *

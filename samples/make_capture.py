@@ -67,12 +67,12 @@ def records():
     yield 5900, BOX, bench[511:529], "05 leaf 261"
     yield 5921, MODULE, bench[529:538], "06"
     yield 6100, BOX, bench[538:556], "05 leaf 262, the last one of the volume; the feeder stands still"
-    yield 6121, MODULE, reply(8), "06"
-    yield 65536, BOX, report(9, 4, 1), "05 volume 4, leaf 1"
-    yield 65557, MODULE, reply(9), "06"
-    yield 66100, BOX, report(10, 4, 2), "05 leaf 2"
-    yield 66700, BOX, report(11, 4, 3), "05 leaf 3"
-    yield 66712, MODULE, reply(10) + reply(11), "06 twice"
+    yield 6121, MODULE, reply(7), "06"
+    yield 65536, BOX, report(8, 4, 1), "05 volume 4, leaf 1"
+    yield 65557, MODULE, reply(8), "06"
+    yield 66100, BOX, report(9, 4, 2), "05 leaf 2"
+    yield 66700, BOX, report(10, 4, 3), "05 leaf 3"
+    yield 66712, MODULE, reply(9) + reply(10), "06 twice"
 
 
 def record_head(milliseconds, direction, data):

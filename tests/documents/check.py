@@ -147,7 +147,7 @@ def check_api(checks):
     checks.none("variants without their fields in order", misnamed(text))
     checks.test("two exchanged fields are found", misnamed(text.replace("{ index, total }", "{ total, index }")) != [])
     checks.none("public constants without their value", misvalued(text))
-    other = text.replace("`MAX_REPEATS` 3", "`MAX_REPEATS` 2")
+    other = text.replace("`MAX_REPEATS` 2", "`MAX_REPEATS` 3")
     checks.test("another value is found", misvalued(other) == ["MAX_REPEATS"])
 
 

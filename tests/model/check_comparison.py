@@ -15,20 +15,32 @@ WRONG = [
     ("two lines exchanged", b"two\none\nthree\n"),
 ]
 
-# Calls on a link (counting.py) with their lines: an offer of 05 at clock 0, ticks, and the frame that fits.
+# Calls on a link (counting.py) with their lines: an offer of 05 at clock 0, ticks, and the frame that fits; then a wait
+# that gives up; then number 255 and the number after it.
 CALLS = [
-    ("00 05 00 00 00 00000000", "offer 0 1 : 2 5 1 0 0"),
-    ("01 00 00 00 00 000000C7", "tick 0 : 2 5 1 0 0"),
-    ("01 00 00 00 00 000000C8", "tick 0 1 5 1 : 2 5 1 200 1"),
-    ("02 06 01 00 00 000000C9", "answer 0 5 1 : 2"),
-    ("00 05 00 00 00 000000C9", "offer 0 2 : 3 5 2 201 0"),
+    ("00 05 00 00 00 00000000", "offer 0 0 : 1 5 0 0 0"),
+    ("01 00 00 00 00 000000C7", "tick 0 : 1 5 0 0 0"),
+    ("01 00 00 00 00 000000C8", "tick 0 1 5 0 : 1 5 0 200 1"),
+    ("02 06 00 00 00 000000C9", "answer 0 5 0 : 1"),
+    ("00 05 00 00 00 000000C9", "offer 0 1 : 2 5 1 201 0"),
+    ("01 00 00 00 00 00000191", "tick 0 1 5 1 : 2 5 1 401 1"),
+    ("01 00 00 00 00 00000259", "tick 0 1 5 1 : 2 5 1 601 2"),
+    ("01 00 00 00 00 00000321", "tick 0 2 5 1 : 2"),
+    ("03 FF 00 00 00 00000000", "set : 255"),
+    ("00 05 00 00 00 00000000", "offer 0 255 : 0 5 255 0 0"),
+    ("02 06 FF 00 00 00000000", "answer 0 5 255 : 0"),
+    ("00 05 00 00 00 00000000", "offer 0 0 : 1 5 0 0 0"),
 ]
 MISCOUNTED = [
-    ("another number", 0, "offer 0 2 : 3 5 2 0 0"),
-    ("a repeat too early", 1, "tick 0 1 5 1 : 2 5 1 199 1"),
-    ("a repeat that is missing", 2, "tick 0 : 2 5 1 0 0"),
-    ("another waiting command", 3, "answer 0 9 1 : 2"),
-    ("a number used twice", 4, "offer 0 1 : 2 5 1 201 0"),
+    ("a fresh link that starts at 1", 0, "offer 0 1 : 2 5 1 0 0"),
+    ("a repeat too early", 1, "tick 0 1 5 0 : 1 5 0 199 1"),
+    ("a repeat that is missing", 2, "tick 0 : 1 5 0 0 0"),
+    ("another waiting command", 3, "answer 0 9 0 : 1"),
+    ("a number used twice", 4, "offer 0 0 : 1 5 0 201 0"),
+    ("a number left out", 4, "offer 0 2 : 3 5 2 201 0"),
+    ("giving up after one repeat", 6, "tick 0 2 5 1 : 2"),
+    ("a third repeat", 7, "tick 0 1 5 1 : 2 5 1 801 3"),
+    ("number 1 after 255", 11, "offer 0 1 : 2 5 1 0 0"),
 ]
 
 # Streams that are one refused frame: its answer, start, end, body and further values; and wrong ones.
@@ -65,7 +77,7 @@ def check(checks):
     for name, text in WRONG:
         checks.test(f"{name}: found in a text", difference(PIECES, text) != "")
     calls, lines = [bytes.fromhex(call) for call, _ in CALLS], [line for _, line in CALLS]
-    tally = dict.fromkeys(["numbers used", "waits of four due ticks"], 0)
+    tally = dict.fromkeys(["numbers used", "waits of three due ticks"], 0)
     checks.test("the right lines are counted right", miscounted(calls, lines, tally) == "")
     for name, place, line in MISCOUNTED:
         wrong = [*lines[:place], line, *lines[place + 1 :]]

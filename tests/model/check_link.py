@@ -16,22 +16,21 @@ from stated_link import scripts
 TIMES = [199, 200, 2**31 - 1, 2**31]
 
 
-def out_of_range(number, command=5, under=1, last=0, repeats=0):
-    out = {"next number": number not in range(1, 256), "command": command not in WAITING}
-    out |= {"number": under not in range(1, 256), "repeats": repeats not in range(4)}
-    return [name for name, is_out in out.items() if is_out]
+def out_of_range(command=5, _number=0, _last=0, repeats=0):
+    """Of a command that waits; where nothing waits, no field can be out of range."""
+    return ["command"] * (command not in WAITING) + ["repeats"] * (repeats not in range(3))
 
 
 def kinds(calls, lines):
     """The kinds of each answer, by its line and the link that the previous line shows."""
-    link, used = [1], []
+    link, used = [0], []
     for call, line in zip(calls, lines):
         operation, a, b, _, _, clock = struct.unpack(">5BI", call)
         answer, _, state = line.partition(" : ")
         word, *answer = answer.split(" ")
         wait = link[1:]
         if operation in (OFFER, *TICKS, RECEIVE) and answer[0] == "17":
-            out = out_of_range(*link)
+            out = out_of_range(*wait)
             # Another field out of range could hide that this one is not seen.
             yield f"{word} refused for {out[0]}" if len(out) == 1 else f"{word} refused for several fields"
             if operation == TICK_IN_PLACE:
@@ -41,11 +40,11 @@ def kinds(calls, lines):
         elif operation in TICKS:
             yield from tick_kinds(operation, clock, answer, wait)
         elif operation == RECEIVE:
-            yield receive_kind(a, b, answer, wait)
+            yield from receive_kinds(a, b, answer, wait)
         elif operation == ELAPSED:
             yield f"elapsed {answer[0]}"
         else:
-            used = [] if operation >= FRESH_LINK else [0]
+            used = [] if operation >= FRESH_LINK else [None]
         link = [int(number) for number in state.split(" ")]
 
 
@@ -54,10 +53,12 @@ def offer_kinds(command, answer, wait, used):
     yield "offered", command, bool(wait)
     if answer[0] == "0":
         used.append(int(answer[1]))
-        if used[-2:] == [255, 1]:
-            yield "number 1 after 255"
-        if used == [*range(1, 256), 1]:
-            yield "the 256th number of a fresh link"
+        if used[-1] == 0:
+            yield "accepted under number 0"
+        if used[-2:] == [255, 0]:
+            yield "number 0 after 255"
+        if used == [*range(256), 0]:
+            yield "the 257th number of a fresh link"
 
 
 def tick_kinds(operation, clock, answer, wait):
@@ -69,6 +70,8 @@ def tick_kinds(operation, clock, answer, wait):
         yield "nothing, too early" if elapsed < 200 else "nothing, clock before the sending"
     else:
         yield f"send again, repeat {wait[3] + 1}" if does == "send again" else "given up"
+        if wait[1] == 0:
+            yield f"{does} under number 0"
     if operation == TICK_IN_PLACE:
         yield f"in place, {does}"
     if wait and clock < wait[2] and elapsed < 2**31:
@@ -77,25 +80,29 @@ def tick_kinds(operation, clock, answer, wait):
         yield f"tick at elapsed {elapsed}"
 
 
-def receive_kind(command, number, answer, wait):
+def receive_kinds(command, number, answer, wait):
     reason = ["nothing waits"]
     if wait:
         reason = ["other command"] * (command != wait[0] + 1) + ["other number"] * (number != wait[1])
-    return "fits" if answer[0] == "0" else f"stray, {' and '.join(reason)}"
+    does = "fits" if answer[0] == "0" else f"stray, {' and '.join(reason)}"
+    yield does
+    if number == 0:
+        yield f"{does} under number 0"
 
 
-CALLS, FIELD_NAMES = ["offer", "tick", "answer"], ["next number", "command", "number", "repeats"]
+CALLS, FIELD_NAMES = ["offer", "tick", "answer"], ["command", "repeats"]
 OFTEN = ["accepted", "busy", "unsent, none waits", "unsent, one waits"]
 OFTEN += [f"{call} refused for {name}" for call in CALLS for name in FIELD_NAMES]
 OFTEN += ["nothing, none waits", "nothing, too early", "nothing, clock before the sending"]
-OFTEN += ["send again, repeat 1", "send again, repeat 2", "send again, repeat 3", "given up"]
+OFTEN += ["send again, repeat 1", "send again, repeat 2", "given up"]
 OFTEN += [f"in place, {answer}" for answer in ("nothing", "send again", "given up", "refused")]
 OFTEN += ["fits", "stray, nothing waits", "stray, other command", "stray, other number"]
 OFTEN += ["stray, other command and other number"]
+OFTEN += [f"{what} under number 0" for what in ("accepted", "send again", "given up", "fits")]
 OFTEN += ["clock wrapped, due", "clock wrapped, not due"]
 OFTEN += [f"tick at elapsed {span}" for span in TIMES] + [f"elapsed {span}" for span in TIMES]
-OFTEN += ["numbers used", "waits of four due ticks"]  # by counting
-SELDOM = ["number 1 after 255", "the 256th number of a fresh link"]
+OFTEN += ["numbers used", "waits of three due ticks"]  # by counting
+SELDOM = ["number 0 after 255", "the 257th number of a fresh link", "stray, other number under number 0"]
 # How often each kind has to be seen in 400 scripts.
 WANTED = dict.fromkeys(OFTEN, 100) | dict.fromkeys(SELDOM, 20)
 

@@ -9,8 +9,8 @@ import struct
 
 
 def numbers_from(first):
-    """first, .. 254, 255, 1, 2, .. 255, 1, .."""
-    return itertools.chain(range(first, 256), itertools.cycle(range(1, 256)))
+    """first, .. 254, 255, 0, 1, .. 255, 0, .."""
+    return itertools.chain(range(first, 256), itertools.cycle(range(256)))
 
 
 def late_enough(last, clock):
@@ -21,19 +21,19 @@ def late_enough(last, clock):
 def miscounted(calls, lines, tally):
     """Where the lines first go against the counts, or ''.
 
-    The numbers in their order are 1, 2, .. 255, 1, ..; a wait has at most three repeats, one at each due tick, and the
-    due tick after the third ends it. The counts begin at a fresh link, or at one in any state on which nothing waits.
+    The numbers in their order are 0, 1, .. 255, 0, ..; a wait has at most two repeats, one at each due tick, and the
+    due tick after the second ends it. The counts begin at a fresh link, or at one in any state on which nothing waits.
     """
     if len(calls) != len(lines):
         return f"{len(lines)} lines for {len(calls)} records"
-    numbers, wait = numbers_from(1), None
+    numbers, wait = numbers_from(0), None
     for place, (call, line) in enumerate(zip(calls, lines), 1):
         operation, a, b, _, _, clock = struct.unpack(">5BI", call)
         operation = 1 if operation == 6 else operation
         found = line.partition(" :")[0].split(" ")[1:]
         if operation > 2 and operation != 5:
-            first = {3: a, 4: 0}.get(operation, 1)
-            numbers, wait = numbers_from(first) if first else None, None
+            first = {3: a, 4: None}.get(operation, 0)
+            numbers, wait = None if first is None else numbers_from(first), None
         refused = operation != 1 and found[:1] != ["0"]
         if numbers is None or operation > 2 or refused:
             continue
@@ -46,10 +46,10 @@ def miscounted(calls, lines, tally):
             wait = None
         elif wait and late_enough(last, clock):
             dues, last = dues + 1, clock
-            should = [0, 1 if dues <= 3 else 2, *wait]
-            if dues > 3:
+            should = [0, 1 if dues <= 2 else 2, *wait]
+            if dues > 2:
                 wait = None
-                tally["waits of four due ticks"] += 1
+                tally["waits of three due ticks"] += 1
         else:
             should = [0]
         if found != [str(number) for number in should]:

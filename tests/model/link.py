@@ -2,13 +2,13 @@
 from answers import BUSY, DONE, STATE, STRAY, UNSENT
 
 WAITING = bytes.fromhex("05 09 0B 13 15 17 1B 27 29")  # PROTOCOL 9.1
-MAX_REPEATS = 3
+MAX_REPEATS = 2  # PROTOCOL 9.6
 AGAIN, GIVEN_UP = 1, 2  # PROTOCOL 9.13
 
 
 def next_number(number):
     """PROTOCOL 9.2."""
-    return 1 if number == 255 else number + 1
+    return 0 if number == 255 else number + 1
 
 
 def elapsed(since, clock):
@@ -27,17 +27,15 @@ class Link:
     A call answers a list: the answer's number and its values.
     """
 
-    def __init__(self, number=1, waits=None):
+    def __init__(self, number=0, waits=None):
         self.number, self.waits = number, waits
 
     def in_range(self):
-        """PROTOCOL 9.15."""
-        if not 1 <= self.number <= 255:
-            return False
+        """PROTOCOL 9.15. Any number and any clock are in range."""
         if self.waits is None:
             return True
-        command, number, _, repeats = self.waits
-        return command in WAITING and 1 <= number <= 255 and 0 <= repeats <= MAX_REPEATS
+        command, _, _, repeats = self.waits
+        return command in WAITING and repeats <= MAX_REPEATS
 
     def offer(self, command, clock):
         """PROTOCOL 9.2, 9.5, 9.10 and 9.11."""

@@ -90,7 +90,7 @@ def empty_records(rand):
 
 def full_records(rand):
     """Records of the longest count and of one byte less, and a record after them."""
-    report = on_wire(5, rand.randint(1, 255), 0, bytes(9))
+    report = on_wire(5, rand.randrange(256), 0, bytes(9))
     payload = (report * (MAX_COUNT // len(report) + 1))[: MAX_COUNT - rand.choice([0, 1])]
     data = capture_of([(rand.choice(DIRECTIONS), 0, payload), (rand.choice(DIRECTIONS), 1, noise(rand, 9) + report)])
     return data[: rand.choice([len(data), rand.randint(HEAD_SIZE, len(data))])]

@@ -77,15 +77,15 @@ def near_the_wrap(script):
 
 
 def long_run(script):
-    """Over 255 accepted commands, most with a reply; between them refused offers and waits that give up."""
+    """Over 256 accepted commands, most with a reply; between them refused offers and waits that give up."""
     rand = script.rand
-    for _ in range(rand.randrange(256, 300)):
+    for _ in range(rand.randrange(257, 300)):
         script.offer()
         more = rand.randrange(20)
         if more == 0:
             script.put(OFFER, rand.randrange(256))
         elif more == 1:
-            for _ in range(rand.randrange(1, 5)):
+            for _ in range(rand.randrange(1, 4)):
                 script.tick(200)
         script.receive()
 
@@ -115,19 +115,21 @@ def every_command(script):
         script.put(OFFER, command, clock=some_clock(rand))
 
 
-# Of each field of a link values in range and out of range.
+# Of each field of a link values in range and out of range. A number is never out of range.
+NUMBERS = [0, 1, 2, 128, 254, 255]
 FIELDS = [
-    ([1, 2, 128, 254, 255], [0]),
+    (NUMBERS, []),
     (list(WAITING), [0, 4, 6, 7, 8, 0x0A, 0x12, 0x14, 0x16, 0x18, 0x1A, 0x1C, 0x26, 0x28, 0x2A, 255]),
-    ([1, 2, 128, 254, 255], [0]),
-    ([0, 1, 2, 3], [4, 5, 128, 255]),
+    (NUMBERS, []),
+    ([0, 1, 2], [3, 4, 128, 255]),
 ]
+BOUNDED = [place for place, (_, outer) in enumerate(FIELDS) if outer]
 
 
 def any_state(script):
     """A link in any state, mostly with no field or one out of range, and some calls on it."""
     rand = script.rand
-    out = rand.choice([(), (0,), (1,), (2,), (3,), rand.sample(range(4), 2)])
+    out = rand.sample(BOUNDED, rand.choice([0, 0, 1, 1, 1, 2]))
     fields = [rand.choice(outer if place in out else inner) for place, (inner, outer) in enumerate(FIELDS)]
     if rand.randrange(4):
         script.put(SET_WAITING, *fields, clock=some_clock(rand))
@@ -154,7 +156,7 @@ def ticks_only(script):
     if begin == 1 and not script.waits:
         script.offer()
     elif begin == 2:
-        script.put(SET_WAITING, 1, rand.choice(WAITING), 255, rand.randrange(4), clock=some_clock(rand))
+        script.put(SET_WAITING, 0, rand.choice(WAITING), 255, rand.randrange(3), clock=some_clock(rand))
     for _ in range(rand.randrange(5, 20)):
         if rand.randrange(2):
             script.edge_tick()

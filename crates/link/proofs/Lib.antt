@@ -6,6 +6,7 @@ pub mod Numbers
 pub mod Moves
 pub mod Waits
 pub mod Histories
+pub mod Figures
 pub mod Refusals
 pub mod Ranges
 pub mod EachCall

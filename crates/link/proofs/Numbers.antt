@@ -1,15 +1,20 @@
--- The numbers in order: the first one, and the one after the k-th. Assumes nothing.
+-- The numbers in order: the first one, below which there is none, and the one after the k-th. Assumes nothing.
 use Prim.Native.Nat.{ℕ, suc, _+_, _-_, _%_, _≤_, _<_}
 use mathlib.Core.Path.{_≡_, ap}
+use mathlib.Core.Bool.{true}
 use native.Mathlib.Nat.{suc-mod, mod-lt, mod-self, add-mod-right, mod-eq-of-lt, zero-mod, add-zero}
 use native.Mathlib.Numerals.{add-one}
 use native.Mathlib.Omega.{arith}
-use borrow.Author.Tests.{eqb-true, eqb-false}
-use lib.Dec.{eqb}
+use borrow.Author.Tests.{eqb-true, eqb-false, le-leb}
+use lib.Dec.{eqb, leb}
 use Rattle.base.proofs.Tests.{by-test}
-use Rattle.link.specs.Sending.{numberAt}
+use Rattle.link.specs.Sending.{firstNumber, numberAt}
 use Rattle.link.specs.Calls.{followingOf}
 use Rattle.link.specs.Numbers.{NumbersRunFrom}
+
+-- no number is below the first one of the code
+pub none-below : (n : ℕ) → leb firstNumber n ≡ true
+none-below n = le-leb 0 n (omega arith)
 
 -- the first number is the 0-th
 pub number-first : (first : ℕ) → numberAt first 0 ≡ first

@@ -10,6 +10,7 @@ use Rattle.link.specs.Logs.{Call, offering, ticking, receiving}
 use Rattle.link.specs.Ranges.{OutOfRange, InRange, LinkRange, LinkRanges}
 use Rattle.link.specs.declared.state.Link.{Link}
 use Rattle.link.specs.declared.state.Wait.the-variants.{Idle, Waiting}
+use Rattle.link.proofs.Numbers.{none-below}
 use Rattle.link.proofs.Refusals.{refused-unchanged}
 
 -- of two tests, the second fails
@@ -32,19 +33,16 @@ module _ (c : Call) where
   ranges : LinkRange c
   ranges =
       record {
-        next-out = λ wait. out (linkOf 0 wait) refl;
-        number-out = λ next command sent repeats.
-            out (linkOf next (Waiting command 0 sent repeats)) (later (leb 1 next) refl);
         repeats-out = λ next command number sent repeats h.
             out (linkOf next (Waiting command number sent repeats))
-            (later (leb 1 next) (later (leb 1 number) (rw (lt-leb repeats 3 (omega (arith, h))))));
+            (rw (none-below next, none-below number, lt-leb repeats 2 (omega (arith, h))));
         command-out = λ next command number sent repeats h.
             out (linkOf next (Waiting command number sent repeats))
-            (later (leb 1 next) (later (leb 1 number) (later (leb repeats 3) h)));
-        idle-in = λ next h. within (linkOf next Idle) (rw (le-leb 1 next h));
-        waiting-in = λ next command number sent repeats a b m w.
+            (rw (none-below next, none-below number) (later (leb repeats 2) h));
+        idle-in = λ next. within (linkOf next Idle) (rw none-below);
+        waiting-in = λ next command number sent repeats m w.
             within (linkOf next (Waiting command number sent repeats))
-            (rw (le-leb 1 next a, le-leb 1 number b, le-leb repeats 3 m) w);
+            (rw (none-below next, none-below number, le-leb repeats 2 m) w);
       }
 
 pub link-ranges : LinkRanges

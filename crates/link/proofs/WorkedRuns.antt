@@ -7,7 +7,7 @@ use Rattle.link.specs.WorkedRuns.{WorkedRun, WorkedWait, Example11}
 
 pub worked-run : WorkedRun
 unfolding among logOf rowsIn
-worked-run = record { rows = refl; last = refl; round = refl }
+worked-run = record { rows = refl; begin = refl; last = refl; round = refl }
 
 pub worked-wait : WorkedWait
 unfolding among logOf noneEnds repeatsIn lastSent dueTicks

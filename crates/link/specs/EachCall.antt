@@ -17,7 +17,7 @@ use Rattle.link.specs.declared.state.Wait.the-variants.{Idle, Waiting}
 
 -- the number that follows another
 abbrev pub numberAfter : ℕ → ℕ
-numberAfter n = cond (eqb n 255) 1 (n + 1)
+numberAfter n = cond (eqb n 255) 0 (n + 1)
 
 -- nothing waits
 pub record IdleExact (next : ℕ) : Type 0 where
@@ -41,10 +41,10 @@ pub record WaitingExact (next command number sent repeats : ℕ) : Type 0 where
   pub not-due : (clock : ℕ) → isDue clock sent ≡ false
       → answerTo (linkOf next (Waiting command number sent repeats)) (ticking clock)
       ≡ outcome (row 0 []) (linkOf next (Waiting command number sent repeats))
-  pub again : (clock : ℕ) → isDue clock sent ≡ true → repeats < 3
+  pub again : (clock : ℕ) → isDue clock sent ≡ true → repeats < 2
       → answerTo (linkOf next (Waiting command number sent repeats)) (ticking clock)
       ≡ outcome (row 0 (1 ∷ command ∷ number ∷ [])) (linkOf next (Waiting command number clock (repeats + 1)))
-  pub given-up : (clock : ℕ) → isDue clock sent ≡ true → repeats ≡ 3
+  pub given-up : (clock : ℕ) → isDue clock sent ≡ true → repeats ≡ 2
       → answerTo (linkOf next (Waiting command number sent repeats)) (ticking clock)
       ≡ outcome (row 0 (2 ∷ command ∷ number ∷ [])) (linkOf next Idle)
   pub replied : answerTo (linkOf next (Waiting command number sent repeats)) (receiving (command + 1) number)
@@ -55,7 +55,6 @@ pub record WaitingExact (next command number sent repeats : ℕ) : Type 0 where
 
 -- of every link in range
 pub record CallsExact : Type 0 where
-  pub idle : (next : ℕ) → 1 ≤ next → IdleExact next
+  pub idle : (next : ℕ) → IdleExact next
   pub waiting : (next command number sent repeats : ℕ)
-      → 1 ≤ next → 1 ≤ number → repeats ≤ 3 → among command waiters ≡ true
-      → WaitingExact next command number sent repeats
+      → repeats ≤ 2 → among command waiters ≡ true → WaitingExact next command number sent repeats

@@ -19,4 +19,5 @@ pub mod EachCall
 pub mod Refusals
 pub mod Entries
 pub mod Histories
+pub mod Figures
 pub mod WorkedRuns

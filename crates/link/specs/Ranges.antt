@@ -12,7 +12,6 @@ use Rattle.link.specs.Calls.{linkOf, freshOf}
 use Rattle.link.specs.Logs.{Call}
 use Rattle.link.specs.LogsComputed.{callOf}
 use Rattle.link.specs.declared.state.Link.{Link}
-use Rattle.link.specs.declared.state.Wait.{Wait}
 use Rattle.link.specs.declared.state.Wait.the-variants.{Idle, Waiting}
 
 -- ---- link-ranges: each field alone, whatever the others are, and all fields together: PROTOCOL 9.15
@@ -33,20 +32,17 @@ InRange l c = answerTo l c .row .number ≢ 17
 abbrev pub waiters : List ℕ
 waiters = 0x05 ∷ 0x09 ∷ 0x0B ∷ 0x13 ∷ 0x15 ∷ 0x17 ∷ 0x1B ∷ 0x27 ∷ 0x29 ∷ []
 
--- of a call; the code's fields have no number above 255
+-- of a call; both sequence numbers are free, and the code's fields have none above 255
 pub record LinkRange (c : Call) : Type 0 where
-  pub next-out : (wait : Wait) → OutOfRange (linkOf 0 wait) c
-  pub number-out : (next command sent repeats : ℕ) → OutOfRange (linkOf next (Waiting command 0 sent repeats)) c
   pub repeats-out : (next command number sent repeats : ℕ)
-      → 4 ≤ repeats → OutOfRange (linkOf next (Waiting command number sent repeats)) c
+      → 3 ≤ repeats → OutOfRange (linkOf next (Waiting command number sent repeats)) c
   pub command-out : (next command number sent repeats : ℕ)
       → among command waiters ≡ false → OutOfRange (linkOf next (Waiting command number sent repeats)) c
-  pub idle-in : (next : ℕ) → 1 ≤ next → InRange (linkOf next Idle) c
+  pub idle-in : (next : ℕ) → InRange (linkOf next Idle) c
   pub waiting-in : (next command number sent repeats : ℕ)
-      → 1 ≤ next → 1 ≤ number → repeats ≤ 3 → among command waiters ≡ true
-      → InRange (linkOf next (Waiting command number sent repeats)) c
+      → repeats ≤ 2 → among command waiters ≡ true → InRange (linkOf next (Waiting command number sent repeats)) c
 
 -- of every call, and a fresh link
 pub record LinkRanges : Type 0 where
   pub each : (c : Call) → LinkRange c
-  pub fresh : freshOf firstNumber ≡ linkOf 1 Idle
+  pub fresh : freshOf firstNumber ≡ linkOf 0 Idle

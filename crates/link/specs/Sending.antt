@@ -16,13 +16,13 @@ mayWait command = among command waitCommands
 
 -- the first sequence number: PROTOCOL 9.2. The definitions take it as `first`, and the contracts state this one
 abbrev pub firstNumber : ℕ
-firstNumber = 1
+firstNumber = 0
 
 -- the repeats that a command gets at most: PROTOCOL 9.6. The definitions take it as `max`
 abbrev pub maxRepeats : ℕ
-maxRepeats = 3
+maxRepeats = 2
 
--- the sequence number of the k-th accepted command, k from 0: PROTOCOL 9.2, with `first` for 1
+-- the sequence number of the k-th accepted command, k from 0: PROTOCOL 9.2, with `first` for 0
 abbrev pub numberAt : ℕ → ℕ → ℕ
 numberAt first k = first + k % (256 - first)
 

@@ -15,41 +15,41 @@ use Rattle.link.specs.declared.state.Link.{Link}
 
 -- ---- worked-run: calls of a fresh link, and what each answers
 
--- a report, refused offers, frames that do not fit; three repeats and the end; an onboarding, and the reply that fits
+-- a report, refused offers, frames that do not fit; two repeats and the end; an onboarding, and the reply that fits
 abbrev pub workedCalls : List Call
 workedCalls =
-    receiving 0x06 1 ∷ offering 0x07 0 ∷ offering 0x05 0 ∷ offering 0x09 0 ∷ offering 0x07 0
-    ∷ receiving 0x06 2 ∷ receiving 0x05 1
-    ∷ ticking 199 ∷ ticking 200 ∷ ticking 399 ∷ ticking 400 ∷ ticking 600 ∷ ticking 800 ∷ ticking 1000
-    ∷ receiving 0x06 1 ∷ offering 0x09 1000 ∷ receiving 0x0A 2 ∷ []
+    receiving 0x06 0 ∷ offering 0x07 0 ∷ offering 0x05 0 ∷ offering 0x09 0 ∷ offering 0x07 0
+    ∷ receiving 0x06 1 ∷ receiving 0x05 0
+    ∷ ticking 199 ∷ ticking 200 ∷ ticking 399 ∷ ticking 400 ∷ ticking 600 ∷ ticking 800
+    ∷ receiving 0x06 0 ∷ offering 0x09 1000 ∷ receiving 0x0A 1 ∷ []
 
 -- their answers
 abbrev pub workedRows : List Row
 workedRows =
-    row 43 [] ∷ row 42 [] ∷ row 0 (1 ∷ []) ∷ row 41 [] ∷ row 42 [] ∷ row 43 [] ∷ row 43 []
-    ∷ row 0 [] ∷ row 0 (1 ∷ 0x05 ∷ 1 ∷ []) ∷ row 0 [] ∷ row 0 (1 ∷ 0x05 ∷ 1 ∷ []) ∷ row 0 (1 ∷ 0x05 ∷ 1 ∷ [])
-    ∷ row 0 (2 ∷ 0x05 ∷ 1 ∷ []) ∷ row 0 []
-    ∷ row 43 [] ∷ row 0 (2 ∷ []) ∷ row 0 (0x09 ∷ 2 ∷ []) ∷ []
+    row 43 [] ∷ row 42 [] ∷ row 0 (0 ∷ []) ∷ row 41 [] ∷ row 42 [] ∷ row 43 [] ∷ row 43 []
+    ∷ row 0 [] ∷ row 0 (1 ∷ 0x05 ∷ 0 ∷ []) ∷ row 0 [] ∷ row 0 (1 ∷ 0x05 ∷ 0 ∷ []) ∷ row 0 (2 ∷ 0x05 ∷ 0 ∷ []) ∷ row 0 []
+    ∷ row 43 [] ∷ row 0 (1 ∷ []) ∷ row 0 (0x09 ∷ 1 ∷ []) ∷ []
 
--- and the numbers begin again after 255
+-- and the numbers run from 0 to 255 and begin again
 pub record WorkedRun : Type 0 where
   pub rows : rowsIn (logOf firstNumber maxRepeats (freshOf firstNumber) workedCalls) ≡ workedRows
-  pub last : numberAt firstNumber 254 ≡ 255
-  pub round : numberAt firstNumber 255 ≡ 1
+  pub begin : numberAt firstNumber 0 ≡ 0
+  pub last : numberAt firstNumber 255 ≡ 255
+  pub round : numberAt firstNumber 256 ≡ 0
 
--- ---- worked-wait: a wait without a reply, which the fourth due tick ends, counted in a log of six ticks: PROTOCOL 9.7
+-- ---- worked-wait: a wait without a reply, which the third due tick ends, counted in a log of five ticks: PROTOCOL 9.7
 
--- a report sent at clock 0, and ticks; those at 200, 400, 600 and 800 are due
+-- a report sent at clock 0, and ticks; those at 200, 400 and 600 are due
 abbrev pub waitLog : List Entry
 waitLog =
     logOf firstNumber maxRepeats (offerOf firstNumber maxRepeats (freshOf firstNumber) 0x05 0 .state)
-    (ticking 199 ∷ ticking 200 ∷ ticking 399 ∷ ticking 400 ∷ ticking 600 ∷ ticking 800 ∷ [])
+    (ticking 199 ∷ ticking 200 ∷ ticking 399 ∷ ticking 400 ∷ ticking 600 ∷ [])
 
--- four ticks are due; three repeat, the last at 600; the fourth ends the wait
+-- three ticks are due; two repeat, the last at 400; the third ends the wait
 pub record WorkedWait : Type 0 where
-  pub due : dueTicks 0 waitLog ≡ 4
-  pub repeats : repeatsIn waitLog ≡ 3
-  pub last : lastSent 0 waitLog ≡ 600
+  pub due : dueTicks 0 waitLog ≡ 3
+  pub repeats : repeatsIn waitLog ≡ 2
+  pub last : lastSent 0 waitLog ≡ 400
   pub ends : noneEnds waitLog ≡ false
 
 -- ---- example-11: example 11 of PROTOCOL 11, also of a fresh link that is offered a report and then ticked
@@ -61,5 +61,5 @@ pub record Example11 : Type 0 where
   pub elapsed : elapsedOf 104 4294967200 ≡ 200
   pub due : isDue 104 4294967200 ≡ true
   pub not-due : isDue 103 4294967200 ≡ false
-  pub again : tickOf firstNumber maxRepeats reportSent 104 .row ≡ againRow 0x05 1
+  pub again : tickOf firstNumber maxRepeats reportSent 104 .row ≡ againRow 0x05 0
   pub nothing : tickOf firstNumber maxRepeats reportSent 103 .row ≡ nothingRow

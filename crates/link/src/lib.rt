@@ -6,10 +6,10 @@ mod state;
 mod ticks;
 
 // The sequence number of a fresh link's first command, and the next after 255: PROTOCOL 9.2.
-pub const FIRST_NUMBER: u8 = 1;
+pub const FIRST_NUMBER: u8 = 0;
 
 // The repeats that a command gets at most, after its first sending: PROTOCOL 9.6.
-pub const MAX_REPEATS: u8 = 3;
+pub const MAX_REPEATS: u8 = 2;
 
 // Milliseconds from a sending until a tick is due: PROTOCOL 9.4.
 pub const TIMEOUT_MS: u32 = 200;

@@ -64,25 +64,19 @@ pub(crate) fn idle(link: Link) -> Link
     }
 }
 
-// Whether each field is in its range: PROTOCOL 9.15.
+// Whether each field is in its range, as both numbers always are: PROTOCOL 9.15.
 pub(crate) fn in_range(link: Link) -> bool
     ensures { λ r. ⌜ r ≡ inRange firstNumber maxRepeats link ⌝ }
 {
-    if link.next < FIRST_NUMBER {
-        return false;
-    }
     let wait = link.wait;
     match wait {
         Wait::Idle => true,
         Wait::Waiting {
             command,
-            number,
+            number: _,
             sent: _,
             repeats,
         } => {
-            if number < FIRST_NUMBER {
-                return false;
-            }
             if MAX_REPEATS < repeats {
                 return false;
             }

@@ -2,7 +2,7 @@
 
 /// Commands that the box sends on its own and that wait for an answer.
 pub const SENDABLE: [u8; 9] = [0x05, 0x09, 0x0B, 0x13, 0x15, 0x17, 0x1B, 0x27, 0x29];
-const MAX_REPEATS: u8 = 3;
+const MAX_REPEATS: u8 = 2;
 const TIMEOUT: u32 = 200;
 /// From here on a clock counts as turned back.
 const HALF_CLOCK: u32 = 1 << 31;
@@ -38,7 +38,7 @@ pub enum Tick {
 
 impl Link {
     pub fn new() -> Link {
-        Link { next: 1, waiting: None }
+        Link { next: 0, waiting: None }
     }
 
     /// A command offered at this clock; returns the sequence number that it is sent under.
@@ -51,7 +51,8 @@ impl Link {
             return Err(Refusal::Busy);
         }
         let number = self.next;
-        self.next = if number == 255 { 1 } else { number + 1 };
+        // 0 comes after 255.
+        self.next = number.wrapping_add(1);
         self.waiting = Some(Waiting { command, number, sent: clock, repeats: 0 });
         Ok(number)
     }
@@ -80,12 +81,10 @@ impl Link {
         Ok((answered.command, answered.number))
     }
 
-    /// A link in any state may have fields that no fresh one reaches.
+    /// A link in any state may have fields that no fresh one reaches; its numbers and its clock may be any.
     fn check(&self) -> Result<(), Refusal> {
-        let waiting_fits = |waiting: Waiting| {
-            SENDABLE.contains(&waiting.command) && waiting.number != 0 && waiting.repeats <= MAX_REPEATS
-        };
-        if self.next != 0 && self.waiting.is_none_or(waiting_fits) {
+        let fits = |waiting: Waiting| SENDABLE.contains(&waiting.command) && waiting.repeats <= MAX_REPEATS;
+        if self.waiting.is_none_or(fits) {
             Ok(())
         } else {
             Err(Refusal::State)
@@ -116,13 +115,40 @@ mod tests {
     }
 
     #[test]
-    fn four_due_ticks_end_a_wait() {
+    fn three_due_ticks_end_a_wait() {
         let mut link = Link::new();
-        assert_eq!(link.offer(5, 0), Ok(1));
-        for repeat in 1..=3 {
-            assert_eq!(link.tick(200 * repeat), Ok(Tick::Again { command: 5, number: 1 }));
+        assert_eq!(link.offer(5, 0), Ok(0));
+        for repeat in 1..=2 {
+            assert_eq!(link.tick(200 * repeat), Ok(Tick::Again { command: 5, number: 0 }));
         }
-        assert_eq!(link.tick(800), Ok(Tick::GivenUp { command: 5, number: 1 }));
-        assert_eq!(link, Link { next: 2, waiting: None });
+        assert_eq!(link.tick(600), Ok(Tick::GivenUp { command: 5, number: 0 }));
+        assert_eq!(link, Link { next: 1, waiting: None });
+    }
+
+    #[test]
+    fn numbers_begin_again_at_0() {
+        let mut link = Link::new();
+        for number in (0..=255).chain([0, 1]) {
+            assert_eq!(link.offer(5, 0), Ok(number));
+            assert_eq!(link.arrive(6, number), Ok((5, number)));
+        }
+    }
+
+    #[test]
+    fn ranges() {
+        let link = |command, repeats| Link { next: 0, waiting: Some(Waiting { command, number: 0, sent: 0, repeats }) };
+        for (command, repeats) in [(5, 3), (5, 255), (6, 0)] {
+            let mut refused = link(command, repeats);
+            assert_eq!(refused.offer(5, 200), Err(Refusal::State));
+            assert_eq!(refused.tick(200), Err(Refusal::State));
+            assert_eq!(refused.arrive(command + 1, 0), Err(Refusal::State));
+            assert_eq!(refused, link(command, repeats));
+        }
+        for repeats in 0..=2 {
+            assert_eq!(link(5, repeats).offer(5, 200), Err(Refusal::Busy));
+            assert_eq!(link(5, repeats).arrive(6, 0), Ok((5, 0)));
+        }
+        assert_eq!(link(5, 1).tick(200), Ok(Tick::Again { command: 5, number: 0 }));
+        assert_eq!(link(5, 2).tick(200), Ok(Tick::GivenUp { command: 5, number: 0 }));
     }
 }

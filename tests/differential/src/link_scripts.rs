@@ -66,15 +66,15 @@ impl Script {
         self.record(ELAPSED, self.clock.wrapping_sub(back).to_be_bytes(), self.clock);
     }
 
-    /// A link in any state; about half of them have a field out of its range.
+    /// A link in any state; about half of them have a command or repeats out of range.
     fn set(&mut self, rng: &mut Rng) {
         let next = rng.pick(&[0, 1, 2, 254, 255, 255]);
-        if rng.once_in(4) {
+        if rng.once_in(5) {
             return self.record(SET_IDLE, [next, rng.byte(), rng.byte(), rng.byte()], self.clock);
         }
         let command = if rng.once_in(4) { rng.byte() } else { rng.pick(&SENDABLE) };
-        let number = rng.pick(&[0, 1, 7, 254, 255, 255, 255]);
-        let repeats = rng.pick(&[0, 1, 2, 3, 3, 4, 255]);
+        let number = rng.pick(&[0, 0, 1, 7, 254, 255, 255]);
+        let repeats = rng.pick(&[0, 1, 2, 2, 3, 3, 4, 255]);
         let sent = self.clock.wrapping_sub(step(rng));
         self.record(SET_WAITING, [next, command, number, repeats], sent);
     }
