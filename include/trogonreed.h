@@ -41,7 +41,7 @@ extern "C" {
  * rest of `out` stays as it was.
  *
  * A box gives each command of its own the next number: 0 first, then up to 255, then 0 again. Where no reply comes
- * within 200 ms it sends the command again under the same number, at most twice, and then drops it. A reply has the
+ * within 200 ms it sends the command again under the same number, at most twice, and then gives up. A reply has the
  * number of the frame that it replies to (docs/PROTOCOL.md, 8.1 and section 9). This function keeps no count: the
  * caller does.
  *

@@ -32,7 +32,7 @@ def reply(number):
 def records():
     """Milliseconds, direction, bytes, and what they are. Most bytes are those of the sample stream."""
     bench = (HERE / "bench.bin").read_bytes()
-    yield 0, BOX, bench[0:5], "power comes on: noise"
+    yield 0, BOX, bench[0:5], "the module is plugged in: noise"
     yield 20, MODULE, bench[5:14], "01, asks for device information"
     yield 31, BOX, bench[14:46], "02, the front of it"
     yield 40, MODULE, b"", "nothing"
@@ -49,8 +49,10 @@ def records():
     yield 3115, BOX, bench[391:401], "08"
     yield 3130, MODULE, bench[174:183], "06"
     yield 4000, BOX, bench[183:201], "05 leaf 255, the 55 after its FF is lost"
-    yield 4200, BOX, bench[201:220] + bench[229:247], "05 leaf 255 again, and 05 leaf 256"
-    yield 4231, MODULE, bench[220:229] + bench[247:256], "06 twice"
+    yield 4200, BOX, bench[201:220], "05 leaf 255 again"
+    yield 4221, MODULE, bench[220:229], "06"
+    yield 4400, BOX, bench[229:247], "05 leaf 256"
+    yield 4421, MODULE, bench[247:256], "06"
     yield 4700, BOX, bench[256:282], "a foot on the cable: noise, then 05 leaf 257 with a wrong sum"
     yield 4900, BOX, bench[282:300], "05 leaf 257 again"
     yield 4921, MODULE, bench[300:309], "06"
@@ -71,8 +73,9 @@ def records():
     yield 65536, BOX, report(8, 4, 1), "05 volume 4, leaf 1"
     yield 65557, MODULE, reply(8), "06"
     yield 66100, BOX, report(9, 4, 2), "05 leaf 2"
-    yield 66700, BOX, report(10, 4, 3), "05 leaf 3"
-    yield 66712, MODULE, reply(9) + reply(10), "06 twice"
+    yield 66121, MODULE, reply(9) + frame(0x07, 7), "06, and 07 heartbeat"
+    yield 66133, BOX, frame(0x08, 7) + report(10, 4, 3), "08, and 05 leaf 3"
+    yield 66154, MODULE, reply(10), "06"
 
 
 def record_head(milliseconds, direction, data):

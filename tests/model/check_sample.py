@@ -6,6 +6,8 @@ import tempfile
 
 import definition
 import listing
+from answers import DONE
+from link import WAITING, Link
 from replay import FROM_BOX, FROM_MODULE, read_capture, replay
 from wire import number_of
 
@@ -30,7 +32,7 @@ class Sent:
     """What one direction sent: its records' bytes joined, and where each of its records ends in them."""
 
     def __init__(self, records, direction):
-        pieces = [payload for d, _, payload in records if d == direction]
+        self.clocks, pieces = zip(*((clock, payload) for d, clock, payload in records if d == direction))
         self.data = b"".join(pieces)
         self.ends = [len(b"".join(pieces[: i + 1])) for i in range(len(pieces))]
         self.frames = definition.frames(self.data)
@@ -45,6 +47,23 @@ class Sent:
     def frames_over_records(self):
         return [start for start, end, _ in self.frames if any(start < place < end for place in self.ends)]
 
+    def messages(self):
+        """Of each frame the clock of the record that has its last byte, its command and its number."""
+        for _, end, body in self.frames:
+            yield next(clock for clock, place in zip(self.clocks, self.ends) if end <= place), body[2], body[3]
+
+
+def missent(box, module):
+    """Where the box's commands and the module's replies are not those of a link whose next number is 255."""
+    link = Link(255)
+    sent = [(*message, link.offer) for message in box.messages() if message[1] in WAITING]
+    sent += [(*message, link.receive) for message in module.messages() if message[1] - 1 in WAITING]
+    for clock, command, number, call in sorted(sent, key=lambda message: message[0]):
+        answer = call(command, clock) if call == link.offer else call(command, number)
+        if answer not in ([DONE, number], [DONE, command - 1, number]):
+            return f"command {command}, number {number} at {clock} ms: {answer}"
+    return "" if len(sent) > 20 else f"only {len(sent)} frames"
+
 
 def contents(checks, data, text):
     """What a sample is to show."""
@@ -57,6 +76,7 @@ def contents(checks, data, text):
     checks.test("the sample has the module's heartbeats and replies", {6, 7} <= set(module.commands()))
     kinds = [line.split()[1] for line in text.splitlines()[1:]]
     checks.test("the sample has broken frames", {"sum", "cut", "stuff", "stufflate"} <= set(kinds), str(kinds))
+    checks.test("the sample's box sends as a link does", not missent(box, module), missent(box, module))
     sizes = [sum(end - start for start, end, _ in sent.frames) for sent in (box, module)]
     checks.test("the sample has noise from both", sizes[0] < len(box.data) and sizes[1] < len(module.data))
 

@@ -1,4 +1,5 @@
 -- The ranges of a link in literal numbers. Assumes nothing.
+use Prim.Native.Nat.{ℕ}
 use mathlib.Core.Path.{_≡_, refl, sym, _∙_}
 use mathlib.Core.Bool.{Bool, true, false, _&&_, true≢false}
 use native.Mathlib.Omega.{arith}
@@ -7,7 +8,8 @@ use lib.Dec.{leb}
 use Rattle.link.specs.Sending.{firstNumber, maxRepeats}
 use Rattle.link.specs.Calls.{linkOf, inRange}
 use Rattle.link.specs.Logs.{Call, offering, ticking, receiving}
-use Rattle.link.specs.Ranges.{OutOfRange, InRange, LinkRange, LinkRanges}
+use Rattle.link.specs.LogsComputed.{callOf}
+use Rattle.link.specs.Ranges.{IsState, InRange, LinkRange, BelowFirst, LinkRanges}
 use Rattle.link.specs.declared.state.Link.{Link}
 use Rattle.link.specs.declared.state.Wait.the-variants.{Idle, Waiting}
 use Rattle.link.proofs.Numbers.{none-below}
@@ -18,15 +20,22 @@ later : (a : Bool) {b : Bool} → b ≡ false → (a && b) ≡ false
 later true e = e
 later false e = refl
 
-module _ (c : Call) where
-  out : (l : Link) → inRange firstNumber maxRepeats l ≡ false → OutOfRange l c
-  out l e = go c
-    where
-      go : (c : Call) → OutOfRange l c
-      go (offering command clock) = rw e
-      go (ticking clock) = rw e
-      go (receiving command number) = rw e
+-- where the definition says so, every call is STATE
+out : (first max : ℕ) (c : Call) (l : Link) → inRange first max l ≡ false → IsState (callOf first max l c) l
+out first max (offering command clock) l e = rw e
+out first max (ticking clock) l e = rw e
+out first max (receiving command number) l e = rw e
 
+below-first : (first max : ℕ) (c : Call) → BelowFirst first max c
+below-first first max c =
+    record {
+      next-out = λ next wait h. out first max c (linkOf next wait) (rw (lt-leb first next h));
+      number-out = λ next command number sent repeats h.
+          out first max c (linkOf next (Waiting command number sent repeats))
+          (later (leb first next) (rw (lt-leb first number h)));
+    }
+
+module _ (c : Call) where
   within : (l : Link) → inRange firstNumber maxRepeats l ≡ true → InRange l c
   within l e n = absurd (true≢false (sym e ∙ refused-unchanged firstNumber maxRepeats l c .state-out n))
 
@@ -34,10 +43,10 @@ module _ (c : Call) where
   ranges =
       record {
         repeats-out = λ next command number sent repeats h.
-            out (linkOf next (Waiting command number sent repeats))
+            out firstNumber maxRepeats c (linkOf next (Waiting command number sent repeats))
             (rw (none-below next, none-below number, lt-leb repeats 2 (omega (arith, h))));
         command-out = λ next command number sent repeats h.
-            out (linkOf next (Waiting command number sent repeats))
+            out firstNumber maxRepeats c (linkOf next (Waiting command number sent repeats))
             (rw (none-below next, none-below number) (later (leb repeats 2) h));
         idle-in = λ next. within (linkOf next Idle) (rw none-below);
         waiting-in = λ next command number sent repeats m w.
@@ -46,4 +55,4 @@ module _ (c : Call) where
       }
 
 pub link-ranges : LinkRanges
-link-ranges = record { each = ranges; fresh = refl }
+link-ranges = record { each = ranges; below = below-first; fresh = refl }

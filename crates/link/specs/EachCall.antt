@@ -53,7 +53,7 @@ pub record WaitingExact (next command number sent repeats : ℕ) : Type 0 where
       → answerTo (linkOf next (Waiting command number sent repeats)) (receiving other under)
       ≡ outcome (row 43 []) (linkOf next (Waiting command number sent repeats))
 
--- of every link in range
+-- of every link in range; both sequence numbers are free
 pub record CallsExact : Type 0 where
   pub idle : (next : ℕ) → IdleExact next
   pub waiting : (next command number sent repeats : ℕ)

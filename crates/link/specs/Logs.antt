@@ -79,9 +79,9 @@ repeated e = repeatedIn (e .call) (e .row)
 abbrev pub ended : Entry → Bool
 ended e = endedIn (e .call) (e .row)
 
--- the number that an accepted offer returns; used of these alone
+-- the number that an accepted offer returns, and 256, which no command has, for an answer without one
 abbrev pub numberIn : Entry → ℕ
-numberIn e = getD (e .row .values) 0 0
+numberIn e = getD (e .row .values) 0 256
 
 -- ---- counted over a log
 

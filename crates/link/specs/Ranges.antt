@@ -1,5 +1,5 @@
 -- Claims: the ranges of a link, in the literal numbers of docs/STATES.md. PROTOCOL 9.15.
-use Prim.Native.Nat.{ℕ, _≤_}
+use Prim.Native.Nat.{ℕ, _≤_, _<_}
 use mathlib.Core.Path.{_≡_}
 use mathlib.Core.Logic.{_≢_}
 use mathlib.Core.Bool.{true, false}
@@ -12,6 +12,7 @@ use Rattle.link.specs.Calls.{linkOf, freshOf}
 use Rattle.link.specs.Logs.{Call}
 use Rattle.link.specs.LogsComputed.{callOf}
 use Rattle.link.specs.declared.state.Link.{Link}
+use Rattle.link.specs.declared.state.Wait.{Wait}
 use Rattle.link.specs.declared.state.Wait.the-variants.{Idle, Waiting}
 
 -- ---- link-ranges: each field alone, whatever the others are, and all fields together: PROTOCOL 9.15
@@ -20,9 +21,13 @@ use Rattle.link.specs.declared.state.Wait.the-variants.{Idle, Waiting}
 abbrev pub answerTo : Link → Call → Outcome Link
 answerTo l c = callOf firstNumber maxRepeats l c
 
--- the call answers STATE, and the link stays
+-- a call answers STATE and leaves the link
+abbrev pub IsState : Outcome Link → Link → Type 0
+IsState y l = y ≡ outcome (row 17 (0 ∷ [])) l
+
+-- the call does so
 abbrev pub OutOfRange : Link → Call → Type 0
-OutOfRange l c = answerTo l c ≡ outcome (row 17 (0 ∷ [])) l
+OutOfRange l c = IsState (answerTo l c) l
 
 -- the call answers something else
 abbrev pub InRange : Link → Call → Type 0
@@ -42,7 +47,16 @@ pub record LinkRange (c : Call) : Type 0 where
   pub waiting-in : (next command number sent repeats : ℕ)
       → repeats ≤ 2 → among command waiters ≡ true → InRange (linkOf next (Waiting command number sent repeats)) c
 
+-- with any first number: one below it is out of range; below 0 there is none
+pub record BelowFirst (first max : ℕ) (c : Call) : Type 0 where
+  pub next-out : (next : ℕ) (wait : Wait) → next < first
+      → IsState (callOf first max (linkOf next wait) c) (linkOf next wait)
+  pub number-out : (next command number sent repeats : ℕ) → number < first
+      → IsState (callOf first max (linkOf next (Waiting command number sent repeats)) c)
+      (linkOf next (Waiting command number sent repeats))
+
 -- of every call, and a fresh link
 pub record LinkRanges : Type 0 where
   pub each : (c : Call) → LinkRange c
+  pub below : (first max : ℕ) (c : Call) → BelowFirst first max c
   pub fresh : freshOf firstNumber ≡ linkOf 0 Idle
