@@ -5,7 +5,7 @@ type, field, variant, file, folder, wrong program or command word. In a table of
 theorems, and in a table of calls public functions. Notes and CHANGELOG.md speak of earlier trees, so their names are
 not looked up. docs/WRONG_PROGRAMS.md is what tests/mutants/table.py makes of the edits.
 Beside this, rules.py checks the numbers of rules and their citations, trace.py what holds each rule, specs.py the
-specifications, and promises.py the promises of public calls.
+specifications, promises.py the promises of public calls, and states.py the fields of records.
 """
 import itertools
 import pathlib
@@ -15,6 +15,7 @@ import sys
 import promises
 import rules
 import specs
+import states
 import trace
 from tree import ROOT, SPAN, edits, files, found, name_of, tables, text_of, theorems
 
@@ -180,7 +181,7 @@ def main():
     checks = Faults("documents")
     for check in (check_names, check_api, check_wrong_programs, check_columns):
         check(checks)
-    for module in (rules, trace, specs, promises):
+    for module in (rules, trace, specs, promises, states):
         module.check(checks)
     return checks.end()
 

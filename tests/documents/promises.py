@@ -1,7 +1,8 @@
 """Promises of the code's form that no theorem can state (PROTOCOL 1.3, 12.1 and 12.2).
 
-A public call of a library has no `requires` and has an `ensures`. Of the proofs of another layer, the proofs of a layer
-cite only theorems that are claims there. base has laws for all crates and is not a layer.
+A public call of a library has no `requires` and has an `ensures`. A definition that is over any limit, first number or
+count of repeats is stated there with the code's own, by name: no claim reads a contract. Of the proofs of another
+layer, the proofs of a layer cite only theorems that are claims there. base has laws for all crates and is not a layer.
 """
 import re
 
@@ -9,6 +10,8 @@ from specs import claims_of
 from tree import files, name_of, text_of
 
 CALL = re.compile(r"^ *pub (?:extern \"C\" )?fn (\w+)(.*?)\{$", re.M | re.S)  # up to the brace that opens its body
+LIMIT, SENDING = {"limit": "frameLimit"}, {"first": "firstNumber", "max": "maxRepeats"}  # parameters: the code's own
+DEFINED = re.compile(r"^ghost use Rattle·(\w+?)(?:·specs\.specs|\.specs)\.(\w+)\.\{([^}]*)\};", re.M)
 LAYERS = ("message", "link", "firmware", "listing", "capture", "replay")
 ALONE = ("capture",)  # cites definitions of other layers, and no theorem
 CITED = re.compile(r"^use Rattle·(\w+)\.proofs\.(\w+(?:\.\w+)*)(?:\.\{([^}]*)\})?", re.M)
@@ -23,6 +26,23 @@ def unpromised(text):
     """Public calls that require something, or that leave their result unstated."""
     requiring = [f"{name} requires something" for name, contract in calls_in(text) if "requires" in contract]
     return requiring + [f"{name} ensures nothing" for name, contract in calls_in(text) if "ensures" not in contract]
+
+
+def parameters(text, own):
+    """What follows the name of each definition that begins with such parameters."""
+    found = re.findall(rf"^(\w+)((?: (?:{'|'.join(own)}))+)\b.* =", text, re.M)
+    return {name: "".join(f" {own[word]}" for word in words.split()) for name, words in found}
+
+
+def unnamed(text, needed):
+    """Public calls whose contract gives something else to a definition, by the crate and file that it is from."""
+    pairs = [((crate, file), name.strip()) for crate, file, names in DEFINED.findall(text) for name in names.split(",")]
+    after = {name: needed.get(origin, {}).get(name, "") for origin, name in pairs}
+    for name, contract in calls_in(text):
+        contract = " ".join(contract.split())
+        for place in re.finditer(r"\w+", contract):
+            if not contract.startswith(after.get(place.group(), ""), place.end()):
+                yield f"{name}: {place.group()}"
 
 
 def cited_inside(text, claims):
@@ -49,6 +69,23 @@ def check_calls(checks):
         checks.none(f"{name_of(path)}: public calls", unpromised(text_of(path)))
 
 
+def check_parameters(checks):
+    needed = parameters("sumOf first max n = n\nsumOf first max (n) =\nboundOf limit = limit\n", SENDING)
+    checks.test("parameters are found", needed == {"sumOf": " firstNumber maxRepeats"})
+    used = "ghost use Rattle.link.specs.Sums.{sumOf};\n"
+    call = used + "pub fn f(n: u8) -> u8\n    ensures { r ≡ sumOf firstNumber maxRepeats n }\n{\n"
+    needed = {("link", "Sums"): needed}
+    checks.test("a call with the code's own", not list(unnamed(call, needed)))
+    checks.test("one with a number is found", list(unnamed(call.replace("maxRepeats", "3"), needed)) == ["f: sumOf"])
+    owns = [(path, SENDING if path.parents[1].name == "link" else LIMIT) for path in files("crates/*/specs/*.antt")]
+    needed = {(path.parents[1].name, path.stem): parameters(text_of(path), own) for path, own in owns}
+    paths = files("crates/*/src/**/*.rt")
+    stated = [name for path in paths for name in re.findall("frameLimit|maxRepeats", text_of(path))]
+    checks.test("such definitions are stated", len(stated) > 30, f"{len(stated)}")
+    for path in paths:
+        checks.none(f"{name_of(path)}: other parameters", unnamed(text_of(path), needed))
+
+
 def check_layers(checks):
     used = "use Rattle.frame.proofs.Round.{round-trip, made as good}\nuse Rattle.base.proofs.Tests.{tests}\n"
     checks.test("a citation of a claim", cited_inside(used, lambda _: {"round-trip", "made"}) == [])
@@ -65,4 +102,5 @@ def check_layers(checks):
 
 def check(checks):
     check_calls(checks)
+    check_parameters(checks)
     check_layers(checks)

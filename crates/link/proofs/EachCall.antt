@@ -12,29 +12,26 @@ use Rattle.link.proofs.Numbers.{none-below}
 -- past the test for STATE, each call is what its own tests say
 idle-exact : (next : ℕ) → IdleExact next
 idle-exact next =
-    let ranged = none-below next in
     record {
-      accepts = λ command clock w. rw (ranged, w);
-      unsent = λ command clock w. rw (ranged, w);
-      nothing = λ clock. rw ranged;
-      stray = λ command number. rw ranged;
+      accepts = λ command clock w. simp (none-below, w);
+      unsent = λ command clock w. simp (none-below, w);
+      nothing = λ clock. simp none-below;
+      stray = λ command number. simp none-below;
     }
 
 waiting-exact : (next command number sent repeats : ℕ)
     → repeats ≤ 2 → among command waiters ≡ true → WaitingExact next command number sent repeats
 waiting-exact next command number sent repeats m w =
-    let next-in = none-below next in
-    let number-in = none-below number in
     let repeats-in = le-leb repeats 2 m in
     record {
-      busy = λ other clock o. rw (next-in, number-in, repeats-in, w, o);
-      unsent = λ other clock o. rw (next-in, number-in, repeats-in, w, o);
-      not-due = λ clock d. rw (next-in, number-in, repeats-in, w, d);
-      again = λ clock d l. rw (next-in, number-in, repeats-in, w, d, lt-ltb repeats 2 l);
-      given-up = λ clock d e. rw (next-in, number-in, repeats-in, w, d, le-ltb repeats 2 (omega (arith, e)));
+      busy = λ other clock o. simp (none-below, repeats-in, w, o);
+      unsent = λ other clock o. simp (none-below, repeats-in, w, o);
+      not-due = λ clock d. simp (none-below, repeats-in, w, d);
+      again = λ clock d l. simp (none-below, repeats-in, w, d, lt-ltb repeats 2 l);
+      given-up = λ clock d e. simp (none-below, repeats-in, w, d, le-ltb repeats 2 (omega (arith, e)));
       replied =
-          rw (next-in, number-in, repeats-in, w, eq-eqb (command + 1) (command + 1) refl, eq-eqb number number refl);
-      stray = λ other under n. rw (next-in, number-in, repeats-in, w, n);
+          simp (none-below, repeats-in, w, eq-eqb (command + 1) (command + 1) refl, eq-eqb number number refl);
+      stray = λ other under n. simp (none-below, repeats-in, w, n);
     }
 
 pub calls-exact : CallsExact

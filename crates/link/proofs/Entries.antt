@@ -5,9 +5,17 @@ use mathlib.Core.List.{List, [], _∷_, map, List·Memᴰ, List·Memᴰ·not-nil
 use mathlib.Core.Logic.{_⊎_, inl, inr}
 use Rattle.link.specs.Logs.{Call, offering, ticking, receiving, Entry}
 use Rattle.link.specs.LogsComputed.{callOf, logOf}
-use Rattle.link.specs.Entries.{callIn, Answered, Chains, LogsExact}
+use Rattle.link.specs.Entries.{CallsStated, callIn, Answered, Chains, LogsExact}
 use Rattle.link.specs.declared.state.Link.{Link}
 use Rattle.link.proofs.Moves.{entryOf}
+
+pub calls-stated : CallsStated
+calls-stated =
+    record {
+      offers = λ first max l command clock. refl;
+      ticks = λ first max l clock. refl;
+      receives = λ first max l command number. refl;
+    }
 
 module _ (first max : ℕ) where
   answered-first : (l : Link) (c : Call) → Answered first max (entryOf first max l c) c

@@ -9,7 +9,7 @@ use Rattle.link.specs.Sending.{firstNumber, maxRepeats}
 use Rattle.link.specs.Calls.{linkOf, inRange}
 use Rattle.link.specs.Logs.{Call, offering, ticking, receiving}
 use Rattle.link.specs.LogsComputed.{callOf}
-use Rattle.link.specs.Ranges.{IsState, InRange, LinkRange, BelowFirst, LinkRanges}
+use Rattle.link.specs.Ranges.{IsState, InRange, LinkRange, LinkRanges, LinkWhole, BelowEachFirst}
 use Rattle.link.specs.declared.state.Link.{Link}
 use Rattle.link.specs.declared.state.Wait.the-variants.{Idle, Waiting}
 use Rattle.link.proofs.Numbers.{none-below}
@@ -26,7 +26,10 @@ out first max (offering command clock) l e = rw e
 out first max (ticking clock) l e = rw e
 out first max (receiving command number) l e = rw e
 
-below-first : (first max : ℕ) (c : Call) → BelowFirst first max c
+pub link-whole : LinkWhole
+link-whole l = refl
+
+pub below-first : BelowEachFirst
 below-first first max c =
     record {
       next-out = λ next wait h. out first max c (linkOf next wait) (rw (lt-leb first next h));
@@ -44,15 +47,15 @@ module _ (c : Call) where
       record {
         repeats-out = λ next command number sent repeats h.
             out firstNumber maxRepeats c (linkOf next (Waiting command number sent repeats))
-            (rw (none-below next, none-below number, lt-leb repeats 2 (omega (arith, h))));
+            (simp (none-below, lt-leb repeats 2 (omega (arith, h))));
         command-out = λ next command number sent repeats h.
             out firstNumber maxRepeats c (linkOf next (Waiting command number sent repeats))
-            (rw (none-below next, none-below number) (later (leb repeats 2) h));
-        idle-in = λ next. within (linkOf next Idle) (rw none-below);
+            (simp none-below (later (leb repeats 2) h));
+        idle-in = λ next. within (linkOf next Idle) (simp none-below);
         waiting-in = λ next command number sent repeats m w.
             within (linkOf next (Waiting command number sent repeats))
-            (rw (none-below next, none-below number, le-leb repeats 2 m) w);
+            (simp (none-below, le-leb repeats 2 m) w);
       }
 
 pub link-ranges : LinkRanges
-link-ranges = record { each = ranges; below = below-first; fresh = refl }
+link-ranges = record { each = ranges; fresh = refl }

@@ -1,12 +1,20 @@
--- Claims: the entries of a log are its calls, one by one. PROTOCOL 9.13, 12.2.
+-- Claims: the entries of a log are its calls, one by one, and these are what the contracts state. PROTOCOL 9.13, 12.2.
 use Prim.Native.Nat.{ℕ}
 use mathlib.Core.Path.{_≡_}
 use mathlib.Core.List.{List, [], _∷_, map, List·Memᴰ}
 use Rattle.base.specs.Outcomes.{outcome}
 use Rattle.link.specs.Calls.{offerOf, tickOf, receiveOf}
 use Rattle.link.specs.Logs.{Call, offering, ticking, receiving, Entry}
-use Rattle.link.specs.LogsComputed.{logOf}
+use Rattle.link.specs.LogsComputed.{callOf, logOf}
 use Rattle.link.specs.declared.state.Link.{Link}
+
+-- ---- calls-stated: a call of the claims is what the contract of its function states
+pub record CallsStated : Type 0 where
+  pub offers : (first max : ℕ) (l : Link) (command clock : ℕ)
+      → callOf first max l (offering command clock) ≡ offerOf first max l command clock
+  pub ticks : (first max : ℕ) (l : Link) (clock : ℕ) → callOf first max l (ticking clock) ≡ tickOf first max l clock
+  pub receives : (first max : ℕ) (l : Link) (command number : ℕ)
+      → callOf first max l (receiving command number) ≡ receiveOf first max l command number
 
 -- the call of an entry
 abbrev pub callIn : Entry → Call

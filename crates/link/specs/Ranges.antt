@@ -47,7 +47,16 @@ pub record LinkRange (c : Call) : Type 0 where
   pub waiting-in : (next command number sent repeats : ℕ)
       → repeats ≤ 2 → among command waiters ≡ true → InRange (linkOf next (Waiting command number sent repeats)) c
 
--- with any first number: one below it is out of range; below 0 there is none
+-- of every call, and a fresh link
+pub record LinkRanges : Type 0 where
+  pub each : (c : Call) → LinkRange c
+  pub fresh : freshOf firstNumber ≡ linkOf 0 Idle
+
+-- ---- link-whole: every link has this form
+abbrev pub LinkWhole : Type 0
+LinkWhole = (l : Link) → linkOf (l .next) (l .wait) ≡ l
+
+-- ---- below-first: with any first number, one below it is out of range; below the code's own there is none
 pub record BelowFirst (first max : ℕ) (c : Call) : Type 0 where
   pub next-out : (next : ℕ) (wait : Wait) → next < first
       → IsState (callOf first max (linkOf next wait) c) (linkOf next wait)
@@ -55,8 +64,6 @@ pub record BelowFirst (first max : ℕ) (c : Call) : Type 0 where
       → IsState (callOf first max (linkOf next (Waiting command number sent repeats)) c)
       (linkOf next (Waiting command number sent repeats))
 
--- of every call, and a fresh link
-pub record LinkRanges : Type 0 where
-  pub each : (c : Call) → LinkRange c
-  pub below : (first max : ℕ) (c : Call) → BelowFirst first max c
-  pub fresh : freshOf firstNumber ≡ linkOf 0 Idle
+-- of every call, with any bound of the repeats
+abbrev pub BelowEachFirst : Type 0
+BelowEachFirst = (first max : ℕ) (c : Call) → BelowFirst first max c
