@@ -3,35 +3,36 @@ use Prim.Native.Nat.{ℕ, _+_, _≤_}
 use mathlib.Core.Path.{_≡_, refl}
 use mathlib.Core.Bool.{true}
 use native.Mathlib.Omega.{arith}
-use borrow.Author.Tests.{le-leb, le-ltb, lt-ltb, eq-eqb}
+use borrow.Author.Tests.{le-ltb, lt-ltb, eq-eqb}
 use Rattle.base.specs.Keys.{among}
+use Rattle.link.specs.Sending.{maxRepeats}
 use Rattle.link.specs.Ranges.{waiters}
 use Rattle.link.specs.EachCall.{IdleExact, WaitingExact, CallsExact}
-use Rattle.link.proofs.Numbers.{none-below}
+use Rattle.link.proofs.Ranges.{idle-ranged, waiting-ranged}
 
 -- past the test for STATE, each call is what its own tests say
 idle-exact : (next : ℕ) → IdleExact next
 idle-exact next =
+    let ranged = idle-ranged next in
     record {
-      accepts = λ command clock w. simp (none-below, w);
-      unsent = λ command clock w. simp (none-below, w);
-      nothing = λ clock. simp none-below;
-      stray = λ command number. simp none-below;
+      accepts = λ command clock w. simp (ranged, w);
+      unsent = λ command clock w. simp (ranged, w);
+      nothing = λ clock. simp ranged;
+      stray = λ command number. simp ranged;
     }
 
 waiting-exact : (next command number sent repeats : ℕ)
     → repeats ≤ 2 → among command waiters ≡ true → WaitingExact next command number sent repeats
 waiting-exact next command number sent repeats m w =
-    let repeats-in = le-leb repeats 2 m in
+    let ranged = waiting-ranged next command number sent repeats m w in
     record {
-      busy = λ other clock o. simp (none-below, repeats-in, w, o);
-      unsent = λ other clock o. simp (none-below, repeats-in, w, o);
-      not-due = λ clock d. simp (none-below, repeats-in, w, d);
-      again = λ clock d l. simp (none-below, repeats-in, w, d, lt-ltb repeats 2 l);
-      given-up = λ clock d e. simp (none-below, repeats-in, w, d, le-ltb repeats 2 (omega (arith, e)));
-      replied =
-          simp (none-below, repeats-in, w, eq-eqb (command + 1) (command + 1) refl, eq-eqb number number refl);
-      stray = λ other under n. simp (none-below, repeats-in, w, n);
+      busy = λ other clock o. simp (ranged, o);
+      unsent = λ other clock o. simp (ranged, o);
+      not-due = λ clock d. simp (ranged, d);
+      again = λ clock d l. simp (ranged, d, lt-ltb repeats maxRepeats (omega (arith, l)));
+      given-up = λ clock d e. simp (ranged, d, le-ltb repeats maxRepeats (omega (arith, e)));
+      replied = simp (ranged, eq-eqb (command + 1) (command + 1) refl, eq-eqb number number refl);
+      stray = λ other under n. simp (ranged, n);
     }
 
 pub calls-exact : CallsExact

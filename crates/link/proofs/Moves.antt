@@ -104,7 +104,7 @@ module _ (first max k : ℕ) (small : first ≤ 255) where
 
   -- it passes the test for STATE
   in-range : (w : Wait) → Ranges first max w → inRange first max (standing w) ≡ true
-  in-range Idle h = simp (le-leb first (numberAt first k) (omega arith))
+  in-range Idle h = search (le-leb first (numberAt first k) (omega arith))
   in-range (Waiting command number sent repeats) h =
       simp (le-leb first (numberAt first k) (omega arith), le-leb first number (h .0), le-leb repeats max (h .1), h .2)
 

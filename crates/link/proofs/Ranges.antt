@@ -1,15 +1,16 @@
--- The ranges of a link in literal numbers. Assumes nothing.
-use Prim.Native.Nat.{ℕ}
+-- The ranges of a link, in literal numbers and for any first number. Assumes nothing.
+use Prim.Native.Nat.{ℕ, _≤_}
 use mathlib.Core.Path.{_≡_, refl, sym, _∙_}
 use mathlib.Core.Bool.{Bool, true, false, _&&_, true≢false}
 use native.Mathlib.Omega.{arith}
 use borrow.Author.Tests.{le-leb, lt-leb}
 use lib.Dec.{leb}
+use Rattle.base.specs.Keys.{among}
 use Rattle.link.specs.Sending.{firstNumber, maxRepeats}
 use Rattle.link.specs.Calls.{linkOf, inRange}
 use Rattle.link.specs.Logs.{Call, offering, ticking, receiving}
 use Rattle.link.specs.LogsComputed.{callOf}
-use Rattle.link.specs.Ranges.{IsState, InRange, LinkRange, LinkRanges, LinkWhole, BelowEachFirst}
+use Rattle.link.specs.Ranges.{IsState, InRange, waiters, LinkRange, LinkRanges, LinkWhole, BelowEachFirst}
 use Rattle.link.specs.declared.state.Link.{Link}
 use Rattle.link.specs.declared.state.Wait.the-variants.{Idle, Waiting}
 use Rattle.link.proofs.Numbers.{none-below}
@@ -29,6 +30,16 @@ out first max (receiving command number) l e = rw e
 pub link-whole : LinkWhole
 link-whole l = refl
 
+-- with the code's own figures every idle link is in range
+pub idle-ranged : (next : ℕ) → inRange firstNumber maxRepeats (linkOf next Idle) ≡ true
+idle-ranged next = search none-below
+
+-- and so is every wait of one of the nine, with at most two repeats
+pub waiting-ranged : (next command number sent repeats : ℕ) → repeats ≤ 2 → among command waiters ≡ true
+    → inRange firstNumber maxRepeats (linkOf next (Waiting command number sent repeats)) ≡ true
+waiting-ranged next command number sent repeats m w =
+    simp (none-below, le-leb repeats maxRepeats (omega (arith, m))) w
+
 pub below-first : BelowEachFirst
 below-first first max c =
     record {
@@ -47,14 +58,14 @@ module _ (c : Call) where
       record {
         repeats-out = λ next command number sent repeats h.
             out firstNumber maxRepeats c (linkOf next (Waiting command number sent repeats))
-            (simp (none-below, lt-leb repeats 2 (omega (arith, h))));
+            (simp (none-below, lt-leb repeats maxRepeats (omega (arith, h))));
         command-out = λ next command number sent repeats h.
             out firstNumber maxRepeats c (linkOf next (Waiting command number sent repeats))
-            (simp none-below (later (leb repeats 2) h));
-        idle-in = λ next. within (linkOf next Idle) (simp none-below);
+            (simp none-below (later (leb repeats maxRepeats) h));
+        idle-in = λ next. within (linkOf next Idle) (idle-ranged next);
         waiting-in = λ next command number sent repeats m w.
             within (linkOf next (Waiting command number sent repeats))
-            (simp (none-below, le-leb repeats 2 m) w);
+            (waiting-ranged next command number sent repeats m w);
       }
 
 pub link-ranges : LinkRanges

@@ -33,15 +33,15 @@ module _ (first max : ℕ) (l : Link) where
   offered command clock =
       by-test Fair (mayWait command) (λ _. accepted-or-busy (l .wait) command clock) λ _. (λ _. refl, omega arith)
 
-  due-ticked : (command number repeats clock : ℕ) → Fair (dueTickOf max l command number repeats clock)
-  due-ticked command number repeats clock =
-      by-test Fair (ltb repeats max) (λ _. (λ n. absurd (n refl), omega arith))
+  due-ticked : (most command number repeats clock : ℕ) → Fair (dueTickOf most l command number repeats clock)
+  due-ticked most command number repeats clock =
+      by-test Fair (ltb repeats most) (λ _. (λ n. absurd (n refl), omega arith))
       λ _. (λ n. absurd (n refl), omega arith)
 
   ticked : (w : Wait) (clock : ℕ) → Fair (tickIn w max l clock)
   ticked Idle clock = (λ _. refl, omega arith)
   ticked (Waiting command number sent repeats) clock =
-      by-test Fair (isDue clock sent) (λ _. due-ticked command number repeats clock) λ _. (λ _. refl, omega arith)
+      by-test Fair (isDue clock sent) (λ _. due-ticked _ command number repeats _) λ _. (λ _. refl, omega arith)
 
   received : (w : Wait) (command number : ℕ) → Fair (receiveIn w l command number)
   received Idle command number = (λ _. refl, omega arith)

@@ -1,4 +1,4 @@
--- Claims: the ranges of a link, in the literal numbers of docs/STATES.md. PROTOCOL 9.15.
+-- Claims: the ranges of a link, in the literal numbers of docs/STATES.md, and for any first number. PROTOCOL 9.15.
 use Prim.Native.Nat.{ℕ, _≤_, _<_}
 use mathlib.Core.Path.{_≡_}
 use mathlib.Core.Logic.{_≢_}
@@ -21,11 +21,11 @@ use Rattle.link.specs.declared.state.Wait.the-variants.{Idle, Waiting}
 abbrev pub answerTo : Link → Call → Outcome Link
 answerTo l c = callOf firstNumber maxRepeats l c
 
--- a call answers STATE and leaves the link
+-- what comes back is STATE, and the link as it was
 abbrev pub IsState : Outcome Link → Link → Type 0
 IsState y l = y ≡ outcome (row 17 (0 ∷ [])) l
 
--- the call does so
+-- the call answers STATE, and the link stays
 abbrev pub OutOfRange : Link → Call → Type 0
 OutOfRange l c = IsState (answerTo l c) l
 
