@@ -2,6 +2,7 @@
 import random
 
 import stated_calls
+import stored
 from device import drive
 from driver import FRESH_LINK, stream_pieces
 from random_link import Script, any_state, near_the_wrap
@@ -25,6 +26,7 @@ def message_steps():
     for _, step, _ in [*steps(), *stated_calls.steps()]:
         yield step
     yield NAMED
+    yield from stored.transfer_steps()
 
 
 def byte_by_byte():

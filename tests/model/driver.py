@@ -9,7 +9,7 @@ from message import INFORMATION_SIZES, QUERY, parts_of, read_message, write_mess
 from reader import Reader, decided
 from records import FEED, FINISH, FINISH_CAPTURE, FRESH, LINK, MAX_DATA, NEXT, REPLY, SET, STREAM, WRITE, WRITE_HEAD
 from records import WRITE_MESSAGE, WRITE_RECORD, record
-from reply import NOTHING, REJECTION, WANTED, cause_of, reply_to
+from reply import reply_row
 from wire import MAX_WIRE, in_bytes, number_of, write_frame
 
 
@@ -60,14 +60,9 @@ REPLY_ROOM = 16
 
 
 def reply_line(answer, values, command, number, output, room):
-    what, sent, payload = reply_to(answer, values, command)
-    if what == NOTHING:
-        return "answer 0"
-    if what == WANTED:
-        return f"answer 0 0 {sent} {number}"
-    refused, count = write_frame(sent, number, 0, payload, output, room)
-    rejection = [sent, payload[0], cause_of(answer, command)] if sent == REJECTION and not refused else []
-    return words("answer", refused, count, *rejection) + in_hex(output[: 3 if refused else count])
+    row = reply_row(answer, values, command, number, output, room)
+    shown = output[:3] if row[0] == ROOM else output[: sum(row[1:2])]
+    return words("answer", *row) + (in_hex(shown) if shown else "")
 
 
 def frame_lines(body):

@@ -183,20 +183,26 @@ STATED = [
         "answer 0",
     ),
     (
-        "19 with a check code of 2 bytes",
+        "19 with a check code of 2 bytes is handed to the caller",
         "FF FF 00 0D 19 0C 00 00 00 00 04 00 00 02 61 62 FB",
         "frame 25 12 0 8",
         "read 0 25 1024",
         "part 6 : 61 62",
         "write 0 17 : ff ff 00 0d 19 0c 00 00 00 00 04 00 00 02 61 62 fb",
-        "answer 0",
+        "answer 0 0 26 12",
     ),
     (
-        "19 with a byte more than its count",
+        "19 with a byte more than its count is handed to the caller too",
         "FF FF 00 0D 19 0C 00 00 00 00 04 00 00 01 61 62 FA",
         "frame 25 12 0 8",
         "read 32",
-        "answer 0 10 18 3 32 : ff ff 00 06 12 0c 00 00 03 27",
+        "answer 0 0 26 12",
+    ),
+    (
+        "19 with a wrong sum gets code 1",
+        "FF FF 00 0D 19 0C 00 00 00 00 04 00 00 02 61 62 FA",
+        "sum 12",
+        "answer 0 10 18 1 15 : ff ff 00 06 12 0c 00 00 01 25",
     ),
     (
         "1B with a check code of 1 byte and pieces of 128",
@@ -208,13 +214,31 @@ STATED = [
         "answer 0 10 18 2 0 : ff ff 00 06 12 0d 00 00 02 27",
     ),
     (
-        "1D, piece 1 of 2 with the data FF 55",
+        "1D, piece 1 of 2 with the data FF 55, is handed to the caller",
         "FF FF 00 0B 1D 05 00 00 00 01 00 02 FF 55 55 84",
         "frame 29 5 0 6",
         "read 0 29 1 2",
         "part 7 : ff 55",
         "write 0 16 : ff ff 00 0b 1d 05 00 00 00 01 00 02 ff 55 55 84",
-        "answer 0",
+        "answer 0 0 30 5",
+    ),
+    (
+        "1D of 3 bytes is handed to the caller too",
+        "FF FF 00 08 1D 05 00 00 00 01 00 2B",
+        "frame 29 5 0 3",
+        "read 32",
+        "answer 0 0 30 5",
+    ),
+    (
+        "1F is handed to the caller, with a byte too many as well",
+        "FF FF 00 05 1F 06 00 00 2A FF FF 00 06 1F 07 00 00 00 2C",
+        "frame 31 6 0 0",
+        "read 0 31",
+        "write 0 9 : ff ff 00 05 1f 06 00 00 2a",
+        "answer 0 0 32 6",
+        "frame 31 7 0 1",
+        "read 32",
+        "answer 0 0 32 7",
     ),
 ]
 
@@ -273,6 +297,9 @@ WRITTEN = [
 REPLIES = [
     ("reply, one byte of room too few", "answer 22 0 : aa aa aa", 0x07, 9, b"", 8),
     ("reply, just enough room", "answer 0 9 : ff ff 00 05 08 09 00 00 16", 0x07, 9, b"", 9),
+    ("19 needs no room", "answer 0 0 26 9", 0x19, 9, bytes(6), 0),
+    ("1D of another size needs no room", "answer 0 0 30 9", 0x1D, 9, bytes(3), 0),
+    ("1F needs no room", "answer 0 0 32 255", 0x1F, 255, b"", 0),
 ]
 # Refused frames that get no reply, whatever their command is (PROTOCOL 8.10).
 NO_REPLY = SHORT, LONG, STUFF, CUT, STUFFLATE

@@ -11,12 +11,15 @@ import sys
 
 sys.path.insert(1, str(pathlib.Path(__file__).resolve().parents[1] / "lib"))
 import stated_calls
+import stated_devices
 import stated_examples
 import stated_link
 import stated_messages
+import stated_transfers
 from checks import lines_of, text_of
 from driver import stream_script
 from records import is_whole
+from transfer_rows import in_one_run
 
 
 def steps():
@@ -34,6 +37,11 @@ def steps():
             yield stated_link.FRESH_STEP
             yield from script
     yield from (step for _, step, _ in stated_calls.steps())
+    yield from transfer_steps()
+
+
+def transfer_steps():
+    return in_one_run(stated_transfers.TRANSFERS + stated_devices.DEVICES)
 
 
 def script():

@@ -1,8 +1,10 @@
--- Laws of tests, rows, lists, stores, keys, sums and numbers that more than one crate cites; then the claims.
+-- Laws of tests, rows, lists, stores, compared bytes, keys, sums and numbers that more than one crate cites; then the
+-- claims.
 pub mod Tests
 pub mod Rows
 pub mod Lists
 pub mod Stores
+pub mod Compared
 pub mod Runs
 pub mod Rising
 pub mod Keys
@@ -13,3 +15,4 @@ pub mod OutcomesExact
 pub mod RunsExact
 pub mod PartsExact
 pub mod KeysExact
+pub mod SameExact

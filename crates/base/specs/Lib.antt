@@ -9,6 +9,7 @@ pub mod Parts
 -- Model: what is computed
 pub mod Keys
 pub mod Stores
+pub mod Same
 pub mod Runs
 -- Claims: what is proved
 pub mod NumbersExact
@@ -16,3 +17,4 @@ pub mod OutcomesExact
 pub mod RunsExact
 pub mod PartsExact
 pub mod KeysExact
+pub mod SameExact

@@ -1,6 +1,7 @@
 // What the layers share: bytes at a place, big-endian numbers, and slices of the caller's data.
 mod bytes;
 mod puts;
+mod same;
 mod slices;
 
 pub use bytes::byte_at;
@@ -9,5 +10,6 @@ pub use bytes::four_bytes;
 pub use bytes::two_at;
 pub use bytes::two_bytes;
 pub use puts::put_bytes;
+pub use same::same_bytes;
 pub use slices::min;
 pub use slices::part;

@@ -27,6 +27,7 @@ pub use receives::Received;
 pub use receives::receive;
 pub use state::Link;
 pub use state::Wait;
+pub use state::in_range;
 pub use ticks::TickResult;
 pub use ticks::Ticked;
 pub use ticks::tick;

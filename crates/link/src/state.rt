@@ -65,7 +65,7 @@ pub(crate) fn idle(link: Link) -> Link
 }
 
 // Whether each field is in its range, as both numbers always are: PROTOCOL 9.15.
-pub(crate) fn in_range(link: Link) -> bool
+pub fn in_range(link: Link) -> bool
     ensures { λ r. ⌜ r ≡ inRange firstNumber maxRepeats link ⌝ }
 {
     let wait = link.wait;

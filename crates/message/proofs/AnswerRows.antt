@@ -238,7 +238,11 @@ doneFrom (count ∷ []) = reply.Acknowledged count
 doneFrom (count ∷ command ∷ []) = reply.Nothing
 doneFrom (count ∷ command ∷ value ∷ l) =
     under command 0x02 (reply.InformationWanted value)
-    (under command 0x04 (reply.StatusWanted value) (reply.Rejected count (codeFrom value) (causeFrom (getD l 0 0))))
+    (under command 0x04 (reply.StatusWanted value)
+    (under command 0x1A (reply.BeginWanted value)
+    (under command 0x1E (reply.StoreWanted value)
+    (under command 0x20 (reply.StopWanted value)
+    (reply.Rejected count (codeFrom value) (causeFrom (getD l 0 0)))))))
 
 abbrev replyFrom : Row → ReplyResult
 replyFrom r = under (r .number) 22 reply.Room (doneFrom (r .values))
@@ -247,6 +251,9 @@ reply-back : (a : ReplyResult) → replyFrom (replyRowOf a) ≡ a
 reply-back reply.Nothing = refl
 reply-back (reply.InformationWanted number) = refl
 reply-back (reply.StatusWanted number) = refl
+reply-back (reply.BeginWanted number) = refl
+reply-back (reply.StoreWanted number) = refl
+reply-back (reply.StopWanted number) = refl
 reply-back (reply.Acknowledged count) = refl
 reply-back (reply.Rejected count code cause) = simp (code-back code, cause-back cause)
 reply-back reply.Room = refl

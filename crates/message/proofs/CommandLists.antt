@@ -9,7 +9,9 @@ use Rattle.base.proofs.Tests.{by-test, either-way, cond-same, both}
 use Rattle.base.specs.Keys.{among}
 use Rattle.message.specs.Commands.{TableEntry, table, unlisted, profileIn, profileOf, kindOf, fromBox, owedOf}
 use Rattle.message.specs.Layouts.{isListed}
-use Rattle.message.specs.CommandLists.{BoxListed, boxCommands, emptyCommands, otherCommands, CommandLists}
+use Rattle.message.specs.Owed.{handed}
+use Rattle.message.specs.CommandLists.{BoxListed, boxCommands, handedCommands, emptyCommands, otherCommands}
+use Rattle.message.specs.CommandLists.{CommandLists}
 use Rattle.message.specs.declared.kind.Kind.{Kind}
 use Rattle.message.specs.declared.kind.Kind.the-variants as kind
 use Rattle.message.specs.declared.kind.Profile.{Profile}
@@ -86,7 +88,7 @@ pub unless : {A : Type 0} {t : Bool} (x : A) {y z : A} → t ≡ false → cond 
 unless x h e = rw h at e
 
 abbrev replied : List ℕ
-replied = 0x01 ∷ 0x03 ∷ 0x07 ∷ 0x0D ∷ 0x0F ∷ []
+replied = 0x01 ∷ 0x03 ∷ 0x07 ∷ 0x0D ∷ 0x0F ∷ handedCommands
 
 abbrev owedUnless : ℕ → Owed
 owedUnless c = cond (among c replied) owes.Nothing (owedOf c)
@@ -110,6 +112,11 @@ command-lists =
       information = refl;
       control = λ values. refl;
       query = λ values. refl;
+      begin = refl;
+      store = refl;
+      stop = refl;
+      handed-over = every (λ c. handed (owedOf c)) (λ c. among c handedCommands) refl
+          (λ c none h. ap (λ (l : Profile). handed (l .owed)) none ∙ sym (none-of handedCommands refl c h));
       no-reply = λ c h.
           unless owes.Nothing h
           (every owedUnless (λ _. owes.Nothing) refl
@@ -120,3 +127,16 @@ command-lists =
 pub box-listed : BoxListed
 unfolding among table profileIn
 box-listed c h = agree (λ c. isListed (kindOf c)) (λ _. true) boxCommands c refl (sym (command-lists .from-box c) ∙ h)
+
+-- a command that is handed to the caller is listed, and the module sends it
+module _ (c : ℕ) (h : handed (owedOf c) ≡ true) where
+  in-list : among c handedCommands ≡ true
+  in-list = sym (command-lists .handed-over c) ∙ h
+
+  pub handed-listed : isListed (kindOf c) ≡ true
+  unfolding among table profileIn
+  handed-listed = agree (λ c. isListed (kindOf c)) (λ _. true) handedCommands c refl in-list
+
+  pub handed-inward : fromBox c ≡ false
+  unfolding among table profileIn
+  handed-inward = agree fromBox (λ _. false) handedCommands c refl in-list

@@ -18,17 +18,17 @@ use Rattle.frame.proofs.RoundTrip.{round-trip}
 use Rattle.message.specs.Commands.{table, profileIn, kindOf, fromBox, owedOf}
 use Rattle.message.specs.Layouts.{codeNumber, isListed, allowed, fits, sizeFits}
 use Rattle.message.specs.Table.{Read, causeNumber}
-use Rattle.message.specs.Owed.{owedFor, codeFor}
+use Rattle.message.specs.Owed.{owedFor, handed, codeFor}
 use Rattle.message.specs.Reading.{decodeAs, readOf}
 use Rattle.message.specs.Replies.{owedTo, rejectOf, replyFrameOf}
-use Rattle.message.specs.CommandLists.{boxCommands}
+use Rattle.message.specs.CommandLists.{boxCommands, handedCommands}
 use Rattle.message.specs.RepliesExact.{FaultsRejected, replyWire, Replied, RejectedWith, ReplyExact, RepliesExact}
 use Rattle.message.specs.RepliesExact.{SilentElse}
 use Rattle.message.specs.declared.kind.Cause.{Cause}
 use Rattle.message.specs.declared.kind.Cause.the-variants as cause
 use Rattle.message.specs.declared.kind.Kind.{Kind}
 use Rattle.message.specs.declared.kind.Owed.the-variants as owes
-use Rattle.message.proofs.CommandLists.{box-listed, command-lists}
+use Rattle.message.proofs.CommandLists.{box-listed, command-lists, handed-listed, handed-inward}
 use Rattle.message.proofs.Numbers.{value}
 use Rattle.message.proofs.Accepted.{Accepted, accepted}
 
@@ -44,20 +44,32 @@ known k command p listed =
     (λ _. by-test Known (allowed k p) (λ _. eqb-false 0 31 refl) (λ _. eqb-false 33 31 refl))
     (λ _. eqb-false 32 31 refl))
 
--- what is not listed is not a command of the box
-inward : (command : ℕ) (p : List ℕ) → readOf command p ≡ row 31 [] → fromBox command ≡ false
-inward command p e =
-    either-way (fromBox command)
-    (λ h. absurd (known (kindOf command) command p (box-listed command h) (ap (λ (r : Row). r .number) e)))
-    (λ h. h)
+-- what is not listed is not a command of the box, and is not handed to the caller
+module _ (command : ℕ) (p : List ℕ) (e : readOf command p ≡ row 31 []) where
+  unlisted : (t : Bool) → (t ≡ true → isListed (kindOf command) ≡ true) → t ≡ false
+  unlisted t listed =
+      either-way t
+      (λ h. absurd (known (kindOf command) command p (listed h) (ap (λ (r : Row). r .number) e)))
+      (λ h. h)
+
+  inward : fromBox command ≡ false
+  inward = unlisted (fromBox command) (box-listed command)
+
+  not-handed : handed (owedOf command) ≡ false
+  not-handed = unlisted (handed (owedOf command)) (handed-listed command)
 
 pub faults-rejected : FaultsRejected
 faults-rejected command p =
     record {
       box-only = λ h. record { cause-is = rw h; shown-is = refl; code-is = refl };
-      unlisted = λ e. record { cause-is = rw (inward command p e, e); shown-is = refl; code-is = refl };
-      size = λ h e. record { cause-is = rw (h, e); shown-is = refl; code-is = refl };
-      field = λ h e. record { cause-is = rw (h, e); shown-is = refl; code-is = refl };
+      unlisted = λ e. record {
+        cause-is = rw (inward command p e, not-handed command p e, e);
+        shown-is = refl;
+        code-is = refl;
+      };
+      handed-over = λ h. rw (handed-inward command h, h);
+      size = λ h n e. record { cause-is = rw (h, n, e); shown-is = refl; code-is = refl };
+      field = λ h n e. record { cause-is = rw (h, n, e); shown-is = refl; code-is = refl };
     }
 
 -- ---- replies are messages
@@ -122,21 +134,31 @@ module _ (limit number : ℕ) (out : List ℕ) (least : 6 ≤ limit) where
     by-box : {b : Bool} → among command boxCommands ≡ b → fromBox command ≡ b
     by-box h = command-lists .from-box command ∙ h
 
+    by-handed : {b : Bool} → among command handedCommands ≡ b → handed (owedOf command) ≡ b
+    by-handed h = command-lists .handed-over command ∙ h
+
     -- what is read has its command first, and is owed what its values say
     first : (values : List ℕ) → readOf command p ≡ row 0 values → command ≡ getD values 0 0
     first values e =
         let a : Accepted (kindOf command) command p values = accepted e in
         value 0 (a .values)
 
-    owes-read : (values : List ℕ) → among (getD values 0 0) boxCommands ≡ false → readOf command p ≡ row 0 values
+    owes-read : (values : List ℕ) → among (getD values 0 0) boxCommands ≡ false
+        → among (getD values 0 0) handedCommands ≡ false → readOf command p ≡ row 0 values
         → owedTo command p ≡ owedFor values
-    owes-read values h e = rw (by-box (ap (λ (c : ℕ). among c boxCommands) (first values e) ∙ h), e)
+    owes-read values h n e =
+        let is : command ≡ getD values 0 0 = first values e in
+        rw (
+          by-box (ap (λ (c : ℕ). among c boxCommands) is ∙ h),
+          by-handed (ap (λ (c : ℕ). among c handedCommands) is ∙ n),
+          e,
+        )
 
-    owed-profile : (values : List ℕ) → among command boxCommands ≡ false → eqb command 0x03 ≡ false
-        → readOf command p ≡ row 0 values → owedTo command p ≡ owedOf command
-    owed-profile values h no-control e =
+    owed-profile : (values : List ℕ) → among command boxCommands ≡ false → among command handedCommands ≡ false
+        → eqb command 0x03 ≡ false → readOf command p ≡ row 0 values → owedTo command p ≡ owedOf command
+    owed-profile values h n no-control e =
         let is : getD values 0 0 ≡ command = sym (first values e) in
-        owes-read values (rw is h) e ∙ rw (is, no-control)
+        owes-read values (rw is h) (rw is n) e ∙ rw (is, no-control)
 
     -- ---- what is owed without a fault
 
@@ -152,17 +174,27 @@ module _ (limit number : ℕ) (out : List ℕ) (least : 6 ≤ limit) where
         λ f b same. agree f (λ _. b) profiles command same h in
         let one : among command acknowledgedOnes ≡ true = all (λ c. among c acknowledgedOnes) true refl in
         let owed : owedTo command p ≡ owedOf command =
-        owed-profile values (all (λ c. among c boxCommands) false refl) (all (λ c. eqb c 0x03) false refl) e in
+        owed-profile values (all (λ c. among c boxCommands) false refl) (all (λ c. among c handedCommands) false refl)
+        (all (λ c. eqb c 0x03) false refl) e in
         acknowledges command one (owed ∙ command-lists .acknowledged command one)
 
     silent : (values : List ℕ) → among command boxCommands ≡ false
-        → among command (0x01 ∷ 0x03 ∷ 0x07 ∷ 0x0D ∷ 0x0F ∷ []) ≡ false → readOf command p ≡ row 0 values
-        → w ≡ output (row 0 []) out
+        → among command (0x01 ∷ 0x03 ∷ 0x07 ∷ 0x0D ∷ 0x0F ∷ handedCommands) ≡ false
+        → readOf command p ≡ row 0 values → w ≡ output (row 0 []) out
     unfolding among
     silent values inward h e =
         let no-control : eqb command 0x03 ≡ false = either-way (eqb command 0x03)
         (λ t. absurd (true≢false (rw (eqb-true command 0x03 t) at h))) (λ q. q) in
-        rw (owed-profile values inward no-control e, command-lists .no-reply command h)
+        let nothing : owedOf command ≡ owes.Nothing = command-lists .no-reply command h in
+        let unhanded : among command handedCommands ≡ false =
+        sym (command-lists .handed-over command) ∙ ap handed nothing in
+        rw (owed-profile values inward unhanded no-control e, nothing)
+
+    -- what is handed to the caller
+    hands : (c : ℕ) → among c handedCommands ≡ true → command ≡ c → owedTo command p ≡ owedOf c
+    hands c h is =
+        faults-rejected command p .handed-over
+        (by-handed (ap (λ (k : ℕ). among k handedCommands) is ∙ h)) ∙ ap (λ (k : ℕ). owedOf k) is
 
     exact : ReplyExact limit command number p out w
     unfolding among
@@ -171,13 +203,16 @@ module _ (limit number : ℕ) (out : List ℕ) (least : 6 ≤ limit) where
         record {
           box-only = λ h. rw (fault .box-only (by-box h) .cause-is) (rejected cause.BoxCommand);
           unlisted = λ e. rw (fault .unlisted e .cause-is) (rejected cause.Command);
-          size = λ h e. rw (fault .size (by-box h) e .cause-is) (rejected cause.Size);
-          field = λ h e. rw (fault .field (by-box h) e .cause-is) (rejected cause.Field);
+          begin = λ is. rw (hands 0x19 refl is ∙ command-lists .begin);
+          store = λ is. rw (hands 0x1D refl is ∙ command-lists .store);
+          stop = λ is. rw (hands 0x1F refl is ∙ command-lists .stop);
+          size = λ h n e. rw (fault .size (by-box h) (by-handed n) e .cause-is) (rejected cause.Size);
+          field = λ h n e. rw (fault .field (by-box h) (by-handed n) e .cause-is) (rejected cause.Field);
           acknowledged = by-profile;
           control = λ values e.
-              acknowledges 0x03 refl (owes-read (0x03 ∷ 1 ∷ values) refl e ∙ command-lists .control values);
-          query = λ values e. rw (owes-read (0x03 ∷ 2 ∷ values) refl e ∙ command-lists .query values);
-          information = λ values e. rw (owes-read (0x01 ∷ values) refl e ∙ command-lists .information);
+              acknowledges 0x03 refl (owes-read (0x03 ∷ 1 ∷ values) refl refl e ∙ command-lists .control values);
+          query = λ values e. rw (owes-read (0x03 ∷ 2 ∷ values) refl refl e ∙ command-lists .query values);
+          information = λ values e. rw (owes-read (0x01 ∷ values) refl refl e ∙ command-lists .information);
           silent = silent;
         }
 

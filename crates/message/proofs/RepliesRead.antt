@@ -15,7 +15,7 @@ use Rattle.base.specs.Keys.{among}
 use Rattle.message.specs.Commands.{table, profileIn, kindOf, fromBox, owedOf}
 use Rattle.message.specs.Layouts.{codeNumber, isListed, allowed, valuesOf, fits, sizeFits}
 use Rattle.message.specs.Table.{Read}
-use Rattle.message.specs.Owed.{owedAfter, codeFor}
+use Rattle.message.specs.Owed.{handed, owedAfter, codeFor}
 use Rattle.message.specs.Reading.{decodeOf}
 use Rattle.message.specs.Replies.{withCause, rejectOf, replyFrameOf}
 use Rattle.message.specs.RepliesRead.{BoxSends, RepliesAreRead}
@@ -70,16 +70,27 @@ abbrev Replied : ℕ → Owed → Type 0
 Replied command owes.Nothing = Unit
 Replied command owes.AskInformation = Unit
 Replied command owes.AskStatus = Unit
+Replied command owes.AskBegin = Unit
+Replied command owes.AskStore = Unit
+Replied command owes.AskStop = Unit
 Replied command (owes.Acknowledge c) = (c ≡ command + 1) × BoxSends c [] (message.Empty c)
 Replied command (owes.Reject why) = Rejects why
 
 abbrev replied : List ℕ
-replied = 0x01 ∷ 0x03 ∷ 0x07 ∷ 0x0D ∷ 0x0F ∷ []
+replied = 0x01 ∷ 0x03 ∷ 0x07 ∷ 0x0D ∷ 0x0F ∷ 0x19 ∷ 0x1D ∷ 0x1F ∷ []
+
+abbrev OwnRead : ℕ → Type 0
+OwnRead c = Replied c (owedOf c)
 
 -- the commands that are owed a reply
-profiles-read : Each (λ c. Replied c (owedOf c)) replied
+profiles-read : Each OwnRead replied
 unfolding table profileIn among fits sizeFits
-profiles-read = (tt, ((refl, (refl, refl)), ((refl, (refl, refl)), ((refl, (refl, refl)), ((refl, (refl, refl)), tt)))))
+profiles-read =
+    let control : OwnRead 0x03 = (refl, (refl, refl)) in
+    let heartbeat : OwnRead 0x07 = (refl, (refl, refl)) in
+    let network : OwnRead 0x0D = (refl, (refl, refl)) in
+    let restart : OwnRead 0x0F = (refl, (refl, refl)) in
+    (tt, (control, (heartbeat, (network, (restart, (tt, (tt, (tt, tt))))))))
 
 reject-read : (why : Cause) → Rejects why
 unfolding table profileIn among fits sizeFits
@@ -89,9 +100,9 @@ reject-read cause.Size = (refl, refl)
 reject-read cause.Field = (refl, refl)
 reject-read cause.BoxCommand = (refl, refl)
 
-owed-read : (command : ℕ) → Replied command (owedOf command)
+owed-read : (command : ℕ) → OwnRead command
 owed-read command =
-    either-way (among command replied) (among-holds (λ c. Replied c (owedOf c)) command replied profiles-read)
+    either-way (among command replied) (among-holds OwnRead command replied profiles-read)
     (λ h. subst (Replied command) (sym (command-lists .no-reply command h)) tt)
 
 module _ (command : ℕ) where
@@ -99,8 +110,11 @@ module _ (command : ℕ) where
   Owes-read r = Replied command (owedAfter command (r .row))
 
   unless-box : (why : Cause) (d : Owed) → Replied command d
-      → Replied command (cond (fromBox command) (owes.Reject why) d)
-  unless-box why d a = by-test (Replied command) (fromBox command) (λ _. reject-read why) (λ _. a)
+      → Replied command
+      (cond (fromBox command) (owes.Reject why) (cond (handed (owedOf command)) (owedOf command) d))
+  unless-box why d a =
+      by-test (Replied command) (fromBox command) (λ _. reject-read why)
+      (λ _. by-test (Replied command) (handed (owedOf command)) (λ _. owed-read command) (λ _. a))
 
   owes-read : (p : List ℕ) → Owes-read (decodeOf command p)
   owes-read p =

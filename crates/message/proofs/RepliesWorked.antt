@@ -16,6 +16,9 @@ worked-decisions limit number v body out =
     record {
       wants-information = refl;
       wants-status = refl;
+      wants-begin = refl;
+      wants-store = refl;
+      wants-stop = refl;
       wrong-sum = refl;
       silent-short = refl;
       silent-long = refl;

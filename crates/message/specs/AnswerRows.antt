@@ -81,8 +81,10 @@ pub record WorkedNames : Type 0 where
   pub replies :
       (n : ℕ)
       → map replyRowOf
-      (reply.Nothing ∷ reply.InformationWanted n ∷ reply.StatusWanted n ∷ reply.Acknowledged n ∷ reply.Room ∷ [])
-      ≡ row 0 [] ∷ row 0 (0 ∷ 2 ∷ n ∷ []) ∷ row 0 (0 ∷ 4 ∷ n ∷ []) ∷ row 0 (n ∷ []) ∷ row 22 (0 ∷ []) ∷ []
+      (reply.Nothing ∷ reply.InformationWanted n ∷ reply.StatusWanted n ∷ reply.BeginWanted n ∷ reply.StoreWanted n
+      ∷ reply.StopWanted n ∷ reply.Acknowledged n ∷ reply.Room ∷ [])
+      ≡ row 0 [] ∷ row 0 (0 ∷ 2 ∷ n ∷ []) ∷ row 0 (0 ∷ 4 ∷ n ∷ []) ∷ row 0 (0 ∷ 26 ∷ n ∷ []) ∷ row 0 (0 ∷ 30 ∷ n ∷ [])
+      ∷ row 0 (0 ∷ 32 ∷ n ∷ []) ∷ row 0 (n ∷ []) ∷ row 22 (0 ∷ []) ∷ []
   -- a rejection, for each code with each cause
   pub rejected :
       (n : ℕ)

@@ -6,7 +6,7 @@ use mathlib.Core.List.{List, [], _∷_, map}
 use Rattle.base.specs.Keys.{among}
 use Rattle.message.specs.Commands.{TableEntry, table, kindOf, fromBox, owedOf}
 use Rattle.message.specs.Layouts.{isListed, sizesOf}
-use Rattle.message.specs.Owed.{owedFor}
+use Rattle.message.specs.Owed.{owedFor, handed}
 use Rattle.message.specs.declared.kind.Kind.the-variants as kind
 use Rattle.message.specs.declared.kind.Owed.the-variants as owes
 
@@ -26,6 +26,10 @@ abbrev pub boxCommands : List ℕ
 boxCommands =
     0x02 ∷ 0x04 ∷ 0x05 ∷ 0x08 ∷ 0x09 ∷ 0x0B ∷ 0x0E ∷ 0x10 ∷ 0x12
     ∷ 0x13 ∷ 0x15 ∷ 0x17 ∷ 0x1A ∷ 0x1B ∷ 0x1E ∷ 0x20 ∷ 0x27 ∷ 0x29 ∷ []
+
+-- the commands that are handed to the caller whatever their payload is: PROTOCOL 8.9
+abbrev pub handedCommands : List ℕ
+handedCommands = 0x19 ∷ 0x1D ∷ 0x1F ∷ []
 
 -- the commands without a payload: PROTOCOL 7.2
 abbrev pub emptyCommands : List ℕ
@@ -49,12 +53,17 @@ pub record CommandLists : Type 0 where
       map kindOf otherCommands
       ≡ kind.Information ∷ kind.Action ∷ kind.Status ∷ kind.Report ∷ kind.Onboarding ∷ kind.Network
       ∷ kind.ModuleReject ∷ kind.BoxReject ∷ kind.Time ∷ kind.Announcement ∷ kind.Ready ∷ kind.Piece ∷ []
-  -- the reply owed without fault: command plus 1, device information, or nothing
+  -- the reply owed without fault: command plus 1, device information, what is handed to the caller, or nothing
   pub acknowledged :
       (command : ℕ) → among command (0x03 ∷ 0x07 ∷ 0x0D ∷ 0x0F ∷ []) ≡ true
       → owedOf command ≡ owes.Acknowledge (command + 1)
   pub information : owedOf 0x01 ≡ owes.AskInformation
   pub control : (values : List ℕ) → owedFor (0x03 ∷ 1 ∷ values) ≡ owes.Acknowledge 0x04
   pub query : (values : List ℕ) → owedFor (0x03 ∷ 2 ∷ values) ≡ owes.AskStatus
+  pub begin : owedOf 0x19 ≡ owes.AskBegin
+  pub store : owedOf 0x1D ≡ owes.AskStore
+  pub stop : owedOf 0x1F ≡ owes.AskStop
+  pub handed-over : (command : ℕ) → handed (owedOf command) ≡ among command handedCommands
   pub no-reply :
-      (command : ℕ) → among command (0x01 ∷ 0x03 ∷ 0x07 ∷ 0x0D ∷ 0x0F ∷ []) ≡ false → owedOf command ≡ owes.Nothing
+      (command : ℕ) → among command (0x01 ∷ 0x03 ∷ 0x07 ∷ 0x0D ∷ 0x0F ∷ 0x19 ∷ 0x1D ∷ 0x1F ∷ []) ≡ false
+      → owedOf command ≡ owes.Nothing

@@ -9,6 +9,7 @@ use Rattle.message.specs.declared.kind.Kind.the-variants.{Onboarding, Ne
 use Rattle.message.specs.declared.kind.Kind.the-variants.{Announcement, Ready, Piece}
 use Rattle.message.specs.declared.kind.Owed.{Owed}
 use Rattle.message.specs.declared.kind.Owed.the-variants.{Nothing, AskInformation, Acknowledge}
+use Rattle.message.specs.declared.kind.Owed.the-variants.{AskBegin, AskStore, AskStop}
 use Rattle.message.specs.declared.kind.Profile.{Profile}
 
 -- ---- the columns
@@ -35,7 +36,7 @@ abbrev pub toBox : Bool
 toBox = false
 
 -- the profile of a command, a term of ours: the kind of its payload, whether only the box sends it, and the reply that
--- is owed to it where it has no fault
+-- is owed to it where it has no fault; 19, 1D and 1F are owed theirs with a fault too (`owedAfter`)
 abbrev pub profileWith : Kind → Bool → Owed → Profile
 profileWith kind outward owed = record { kind = kind; outward = outward; owed = owed }
 
@@ -80,13 +81,13 @@ table =
     ∷ entry 0x16 nothing Empty toBox Nothing
     ∷ entry 0x17 nothing Empty byBox Nothing
     ∷ entry 0x18 (exactly (7 ∷ 11 ∷ [])) Time toBox Nothing
-    ∷ entry 0x19 (counted 4 0) Announcement toBox Nothing
+    ∷ entry 0x19 (counted 4 0) Announcement toBox AskBegin
     ∷ entry 0x1A nothing Empty byBox Nothing
     ∷ entry 0x1B (counted 0 2) Ready byBox Nothing
     ∷ entry 0x1C nothing Empty toBox Nothing
-    ∷ entry 0x1D (from 4) Piece toBox Nothing
+    ∷ entry 0x1D (from 4) Piece toBox AskStore
     ∷ entry 0x1E nothing Empty byBox Nothing
-    ∷ entry 0x1F nothing Empty toBox Nothing
+    ∷ entry 0x1F nothing Empty toBox AskStop
     ∷ entry 0x20 nothing Empty byBox Nothing
     ∷ entry 0x27 nothing Empty byBox Nothing
     ∷ entry 0x28 nothing Empty toBox Nothing

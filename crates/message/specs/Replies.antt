@@ -16,7 +16,8 @@ use Rattle.message.specs.Reading.{readOf}
 use Rattle.message.specs.declared.kind.Cause.{Cause}
 use Rattle.message.specs.declared.kind.Cause.the-variants as cause
 use Rattle.message.specs.declared.kind.Owed.{Owed}
-use Rattle.message.specs.declared.kind.Owed.the-variants.{Nothing, AskInformation, Acknowledge, AskStatus, Reject}
+use Rattle.message.specs.declared.kind.Owed.the-variants.{Nothing, AskInformation, AskStatus, Acknowledge, Reject}
+use Rattle.message.specs.declared.kind.Owed.the-variants.{AskBegin, AskStore, AskStop}
 
 -- ---- what is owed
 
@@ -44,6 +45,9 @@ abbrev pub repliedOf : ℕ → Owed → ℕ → List ℕ → Output
 repliedOf limit Nothing number out = output (row 0 []) out
 repliedOf limit AskInformation number out = output (row 0 (0 ∷ 0x02 ∷ number ∷ [])) out
 repliedOf limit AskStatus number out = output (row 0 (0 ∷ 0x04 ∷ number ∷ [])) out
+repliedOf limit AskBegin number out = output (row 0 (0 ∷ 0x1A ∷ number ∷ [])) out
+repliedOf limit AskStore number out = output (row 0 (0 ∷ 0x1E ∷ number ∷ [])) out
+repliedOf limit AskStop number out = output (row 0 (0 ∷ 0x20 ∷ number ∷ [])) out
 repliedOf limit (Acknowledge command) number out = writeOf limit command number 0 [] out
 repliedOf limit (Reject cause) number out = rejectOf limit cause number out
 

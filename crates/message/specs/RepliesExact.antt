@@ -13,13 +13,13 @@ use Rattle.frame.specs.Calls.{freshOf}
 use Rattle.frame.specs.Logs.{Call, stream}
 use Rattle.frame.specs.LogsComputed.{logOf, stateAfter}
 use Rattle.frame.specs.RoundTrip.{ReadBack}
-use Rattle.message.specs.Commands.{fromBox}
+use Rattle.message.specs.Commands.{fromBox, owedOf}
 use Rattle.message.specs.Layouts.{codeNumber}
 use Rattle.message.specs.Table.{causeNumber}
-use Rattle.message.specs.Owed.{codeFor}
+use Rattle.message.specs.Owed.{handed, codeFor}
 use Rattle.message.specs.Reading.{readOf}
 use Rattle.message.specs.Replies.{owedTo, replyReadOf, replyFrameOf, replyOf}
-use Rattle.message.specs.CommandLists.{boxCommands}
+use Rattle.message.specs.CommandLists.{boxCommands, handedCommands}
 use Rattle.message.specs.declared.kind.Cause.{Cause}
 use Rattle.message.specs.declared.kind.Cause.the-variants as cause
 use Rattle.message.specs.declared.kind.Owed.the-variants as owes
@@ -32,12 +32,17 @@ pub record Rejects (command : ℕ) (p : List ℕ) (why : Cause) (shown code : �
   pub shown-is : causeNumber why ≡ shown
   pub code-is : codeNumber (codeFor why) ≡ code
 
--- each fault
+-- each fault; a command that is handed to the caller is rejected for none
 pub record FaultRejected (command : ℕ) (p : List ℕ) : Type 0 where
   pub box-only : fromBox command ≡ true → Rejects command p cause.BoxCommand 0 2
   pub unlisted : readOf command p ≡ row 31 [] → Rejects command p cause.Command 31 2
-  pub size : fromBox command ≡ false → readOf command p ≡ row 32 [] → Rejects command p cause.Size 32 3
-  pub field : fromBox command ≡ false → readOf command p ≡ row 33 [] → Rejects command p cause.Field 33 3
+  pub handed-over : handed (owedOf command) ≡ true → owedTo command p ≡ owedOf command
+  pub size :
+      fromBox command ≡ false → handed (owedOf command) ≡ false → readOf command p ≡ row 32 []
+      → Rejects command p cause.Size 32 3
+  pub field :
+      fromBox command ≡ false → handed (owedOf command) ≡ false → readOf command p ≡ row 33 []
+      → Rejects command p cause.Field 33 3
 
 -- of every frame
 abbrev pub FaultsRejected : Type 0
@@ -76,8 +81,16 @@ RejectedWith limit number code cause out w =
 pub record ReplyExact (limit command number : ℕ) (p out : List ℕ) (w : Output) : Type 0 where
   pub box-only : among command boxCommands ≡ true → RejectedWith limit number 2 0 out w
   pub unlisted : readOf command p ≡ row 31 [] → RejectedWith limit number 2 31 out w
-  pub size : among command boxCommands ≡ false → readOf command p ≡ row 32 [] → RejectedWith limit number 3 32 out w
-  pub field : among command boxCommands ≡ false → readOf command p ≡ row 33 [] → RejectedWith limit number 3 33 out w
+  -- handed to the caller whatever the payload is, faulty or not: PROTOCOL 8.9
+  pub begin : command ≡ 0x19 → w ≡ output (row 0 (0 ∷ 0x1A ∷ number ∷ [])) out
+  pub store : command ≡ 0x1D → w ≡ output (row 0 (0 ∷ 0x1E ∷ number ∷ [])) out
+  pub stop : command ≡ 0x1F → w ≡ output (row 0 (0 ∷ 0x20 ∷ number ∷ [])) out
+  pub size :
+      among command boxCommands ≡ false → among command handedCommands ≡ false → readOf command p ≡ row 32 []
+      → RejectedWith limit number 3 32 out w
+  pub field :
+      among command boxCommands ≡ false → among command handedCommands ≡ false → readOf command p ≡ row 33 []
+      → RejectedWith limit number 3 33 out w
   pub acknowledged :
       (values : List ℕ) → among command (0x07 ∷ 0x0D ∷ 0x0F ∷ []) ≡ true → readOf command p ≡ row 0 values
       → Replied limit number (command + 1) [] [] out w
@@ -90,8 +103,8 @@ pub record ReplyExact (limit command number : ℕ) (p out : List ℕ) (w : Outpu
       (values : List ℕ) → readOf command p ≡ row 0 (0x01 ∷ values) → w ≡ output (row 0 (0 ∷ 0x02 ∷ number ∷ [])) out
   pub silent :
       (values : List ℕ) → among command boxCommands ≡ false
-      → among command (0x01 ∷ 0x03 ∷ 0x07 ∷ 0x0D ∷ 0x0F ∷ []) ≡ false → readOf command p ≡ row 0 values
-      → w ≡ output (row 0 []) out
+      → among command (0x01 ∷ 0x03 ∷ 0x07 ∷ 0x0D ∷ 0x0F ∷ 0x19 ∷ 0x1D ∷ 0x1F ∷ []) ≡ false
+      → readOf command p ≡ row 0 values → w ≡ output (row 0 []) out
 
 -- to every frame, read already or not, to a delivered one, and to one with a wrong sum
 pub record RepliesInto (limit : ℕ) (out : List ℕ) : Type 0 where

@@ -18,6 +18,13 @@ pub record WorkedDecision (limit number : ℕ) (v body out : List ℕ) : Type 0 
   pub wants-status :
       replyOf limit (row 1 v) (0 ∷ 6 ∷ 0x03 ∷ number ∷ 0 ∷ 0 ∷ 2 ∷ []) out
       ≡ output (row 0 (0 ∷ 0x04 ∷ number ∷ [])) out
+  -- 19, 1D and 1F, whatever stands behind the sequence number
+  pub wants-begin :
+      replyOf limit (row 1 v) (0 ∷ 5 ∷ 0x19 ∷ number ∷ body) out ≡ output (row 0 (0 ∷ 0x1A ∷ number ∷ [])) out
+  pub wants-store :
+      replyOf limit (row 1 v) (0 ∷ 5 ∷ 0x1D ∷ number ∷ body) out ≡ output (row 0 (0 ∷ 0x1E ∷ number ∷ [])) out
+  pub wants-stop :
+      replyOf limit (row 1 v) (0 ∷ 5 ∷ 0x1F ∷ number ∷ body) out ≡ output (row 0 (0 ∷ 0x20 ∷ number ∷ [])) out
   pub wrong-sum : replyOf limit (row 15 v) body out ≡ rejectOf limit cause.Sum (numberOf body) out
   pub silent-short : replyOf limit (row 11 v) body out ≡ output (row 0 []) out
   pub silent-long : replyOf limit (row 12 v) body out ≡ output (row 0 []) out
@@ -96,7 +103,7 @@ pub record ReplyCase : Type 0 where
 abbrev pub gets : ℕ → List ℕ → Output → ReplyCase
 gets command payload expected = record { command = command; payload = payload; expected = expected }
 
--- every command that has a payload: without fault, then with a wrong size or value
+-- every command that has a payload, and 1F: without fault, then with a wrong size or value
 abbrev pub replyCases : List ReplyCase
 replyCases =
     gets 0x02 (replicate 66 0) boxOnly ∷ gets 0x02 (replicate 67 0) boxOnly
@@ -113,9 +120,11 @@ replyCases =
     ∷ gets 0x11 (4 ∷ []) silence ∷ gets 0x11 (5 ∷ []) badField ∷ gets 0x11 (4 ∷ 4 ∷ []) badSize
     ∷ gets 0x12 (4 ∷ []) boxOnly ∷ gets 0x12 (5 ∷ []) boxOnly
     ∷ gets 0x18 (replicate 7 0) silence ∷ gets 0x18 (replicate 11 0) silence ∷ gets 0x18 (replicate 9 0) badSize
-    ∷ gets 0x19 (replicate 6 0) silence ∷ gets 0x19 (replicate 7 0) badSize
+    ∷ gets 0x19 (replicate 6 0) (wants 0x1A) ∷ gets 0x19 (replicate 7 0) (wants 0x1A)
+    ∷ gets 0x19 (0 ∷ 0 ∷ 0 ∷ 0 ∷ 0 ∷ 1 ∷ []) (wants 0x1A)
     ∷ gets 0x1B (replicate 4 0) boxOnly ∷ gets 0x1B (replicate 5 0) boxOnly
-    ∷ gets 0x1D (replicate 4 0) silence ∷ gets 0x1D (replicate 3 0) badSize
+    ∷ gets 0x1D (replicate 4 0) (wants 0x1E) ∷ gets 0x1D (replicate 3 0) (wants 0x1E)
+    ∷ gets 0x1F [] (wants 0x20) ∷ gets 0x1F (0 ∷ []) (wants 0x20)
     ∷ []
 
 -- every command byte with no payload, with one byte 0, and with a wrong sum, eight a line; none from 30 on is listed
@@ -125,7 +134,7 @@ pub record RepliesTabled : Type 0 where
       ≡ badCommand ∷ wants 2 ∷ boxOnly ∷ badSize ∷ boxOnly ∷ boxOnly ∷ silence ∷ acknowledges 8
       ∷ boxOnly ∷ boxOnly ∷ silence ∷ boxOnly ∷ silence ∷ badSize ∷ boxOnly ∷ acknowledges 0x10
       ∷ boxOnly ∷ badSize ∷ boxOnly ∷ boxOnly ∷ silence ∷ boxOnly ∷ silence ∷ boxOnly
-      ∷ badSize ∷ badSize ∷ boxOnly ∷ boxOnly ∷ silence ∷ badSize ∷ boxOnly ∷ silence
+      ∷ badSize ∷ wants 0x1A ∷ boxOnly ∷ boxOnly ∷ silence ∷ wants 0x1E ∷ boxOnly ∷ wants 0x20
       ∷ boxOnly ∷ badCommand ∷ badCommand ∷ badCommand ∷ badCommand ∷ badCommand ∷ badCommand ∷ boxOnly
       ∷ silence ∷ boxOnly ∷ silence ∷ badCommand ∷ badCommand ∷ badCommand ∷ badCommand ∷ badCommand
       ∷ replicate 208 badCommand
@@ -134,7 +143,7 @@ pub record RepliesTabled : Type 0 where
       ≡ badCommand ∷ badSize ∷ boxOnly ∷ badField ∷ boxOnly ∷ boxOnly ∷ badSize ∷ badSize
       ∷ boxOnly ∷ boxOnly ∷ badSize ∷ boxOnly ∷ badSize ∷ badSize ∷ boxOnly ∷ badSize
       ∷ boxOnly ∷ badField ∷ boxOnly ∷ boxOnly ∷ badSize ∷ boxOnly ∷ badSize ∷ boxOnly
-      ∷ badSize ∷ badSize ∷ boxOnly ∷ boxOnly ∷ badSize ∷ badSize ∷ boxOnly ∷ badSize
+      ∷ badSize ∷ wants 0x1A ∷ boxOnly ∷ boxOnly ∷ badSize ∷ wants 0x1E ∷ boxOnly ∷ wants 0x20
       ∷ boxOnly ∷ badCommand ∷ badCommand ∷ badCommand ∷ badCommand ∷ badCommand ∷ badCommand ∷ boxOnly
       ∷ badSize ∷ boxOnly ∷ badSize ∷ badCommand ∷ badCommand ∷ badCommand ∷ badCommand ∷ badCommand
       ∷ replicate 208 badCommand

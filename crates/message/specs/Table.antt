@@ -65,6 +65,9 @@ abbrev pub replyRowOf : ReplyResult → Row
 replyRowOf reply.Nothing = row 0 []
 replyRowOf (reply.InformationWanted number) = row 0 (0 ∷ 0x02 ∷ number ∷ [])
 replyRowOf (reply.StatusWanted number) = row 0 (0 ∷ 0x04 ∷ number ∷ [])
+replyRowOf (reply.BeginWanted number) = row 0 (0 ∷ 0x1A ∷ number ∷ [])
+replyRowOf (reply.StoreWanted number) = row 0 (0 ∷ 0x1E ∷ number ∷ [])
+replyRowOf (reply.StopWanted number) = row 0 (0 ∷ 0x20 ∷ number ∷ [])
 replyRowOf (reply.Acknowledged count) = row 0 (count ∷ [])
 replyRowOf (reply.Rejected count code cause) = row 0 (count ∷ 0x12 ∷ codeNumber code ∷ causeNumber cause ∷ [])
 replyRowOf reply.Room = row 22 (0 ∷ [])

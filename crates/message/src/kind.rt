@@ -1,5 +1,6 @@
 // The table of commands: the kind of payload of each, whether only the box sends it, and the reply that the box owes.
-// PROTOCOL 7.1 to 7.3, 8.2 to 8.4. A new command is a line of `profile_of` and of the table in specs/Commands.antt.
+// PROTOCOL 7.1 to 7.3, 8.2 to 8.4, 8.9. A new command is a line of `profile_of` and of the table in
+// specs/Commands.antt.
 ghost use mathlib.Core.Path.{_≡_};
 ghost use Rattle.message.specs.Commands.{byBox, toBox, profileWith, profileOf};
 ghost use Rattle.message.specs.Table.{causeNumber};
@@ -32,16 +33,20 @@ pub enum Cause {
     BoxCommand,
 }
 
-// The reply that is owed to a received frame.
+// The reply that is owed to a received frame. `AskBegin`, `AskStore` and `AskStop` hand 19, 1D and 1F to the caller.
 pub enum Owed {
     Nothing,
     AskInformation,
     AskStatus,
+    AskBegin,
+    AskStore,
+    AskStop,
     Acknowledge { command: u8 },
     Reject { cause: Cause },
 }
 
-// The profile of a command: `outward` where only the box sends it; `owed` is the reply to it without fault.
+// The profile of a command: `outward` where only the box sends it; `owed` is the reply to it without fault. For 19, 1D
+// and 1F it is the reply to a faulty one too.
 pub struct Profile {
     pub kind: Kind,
     pub outward: bool,
@@ -93,7 +98,7 @@ pub(crate) fn profile_of(command: u8) -> Profile
         0x03 => to_box(Kind::Action, Owed::Acknowledge { command: 0x04 }),
         0x04 => by_box(Kind::Status),
         0x05 => by_box(Kind::Report),
-        0x06 | 0x0A | 0x0C | 0x14 | 0x16 | 0x1C | 0x1F | 0x28 | 0x2A => {
+        0x06 | 0x0A | 0x0C | 0x14 | 0x16 | 0x1C | 0x28 | 0x2A => {
             to_box(Kind::Empty, Owed::Nothing)
         }
         0x07 => to_box(Kind::Empty, Owed::Acknowledge { command: 0x08 }),
@@ -106,9 +111,10 @@ pub(crate) fn profile_of(command: u8) -> Profile
         0x11 => to_box(Kind::ModuleReject, Owed::Nothing),
         0x12 => by_box(Kind::BoxReject),
         0x18 => to_box(Kind::Time, Owed::Nothing),
-        0x19 => to_box(Kind::Announcement, Owed::Nothing),
+        0x19 => to_box(Kind::Announcement, Owed::AskBegin),
         0x1B => by_box(Kind::Ready),
-        0x1D => to_box(Kind::Piece, Owed::Nothing),
+        0x1D => to_box(Kind::Piece, Owed::AskStore),
+        0x1F => to_box(Kind::Empty, Owed::AskStop),
         _ => to_box(Kind::Unlisted, Owed::Nothing),
     }
 }

@@ -19,7 +19,7 @@ ghost use Rattle.frame.specs.Calls.{writeOf};
 ghost use Rattle.message.specs.Commands.{owedOf};
 ghost use Rattle.message.specs.Messages.{messageIn};
 ghost use Rattle.message.specs.Table.{readingOf, replyRowOf};
-ghost use Rattle.message.specs.Owed.{owedFor, owedAfter, codeFor};
+ghost use Rattle.message.specs.Owed.{owedFor, handed, owedAfter, codeFor};
 ghost use Rattle.message.specs.Replies.{rejectOf, replyReadOf, replyFrameOf, replyOf};
 
 // The reply that was written, or what the caller is asked to send: PROTOCOL 8.13.
@@ -29,6 +29,15 @@ pub enum ReplyResult {
         number: u8,
     },
     StatusWanted {
+        number: u8,
+    },
+    BeginWanted {
+        number: u8,
+    },
+    StoreWanted {
+        number: u8,
+    },
+    StopWanted {
         number: u8,
     },
     Acknowledged {
@@ -71,7 +80,24 @@ fn owed_for(message: Message) -> Owed
     }
 }
 
+// Whether a command that is owed this is handed to the caller whatever its payload is: PROTOCOL 8.9.
+fn is_handed(owed: Owed) -> bool
+    ensures { λ r. ⌜ r ≡ handed owed ⌝ }
+{
+    match owed {
+        Owed::AskBegin => true,
+        Owed::AskStore => true,
+        Owed::AskStop => true,
+        Owed::Nothing => false,
+        Owed::AskInformation => false,
+        Owed::AskStatus => false,
+        Owed::Acknowledge { .. } => false,
+        Owed::Reject { .. } => false,
+    }
+}
+
 // The reply owed to a frame, by its reading. A command of the box is rejected whatever its payload is: PROTOCOL 8.7.
+// 19, 1D and 1F are handed to the caller whatever their payload is: PROTOCOL 8.9.
 fn owed_after(command: u8, reading: ReadResult) -> Owed
     ensures { λ r. ⌜ r ≡ owedAfter command (readingOf reading .row) ⌝ }
 {
@@ -80,6 +106,10 @@ fn owed_after(command: u8, reading: ReadResult) -> Owed
         return Owed::Reject {
             cause: Cause::BoxCommand,
         };
+    }
+    let owes = profile.owed;
+    if is_handed(owes) {
+        return owes;
     }
     match reading {
         ReadResult::Got { message, .. } => owed_for(message),
@@ -148,6 +178,9 @@ pub fn reply_reading(command: u8, number: u8, reading: ReadResult, out: &mut [u8
         Owed::Nothing => ReplyResult::Nothing,
         Owed::AskInformation => ReplyResult::InformationWanted { number },
         Owed::AskStatus => ReplyResult::StatusWanted { number },
+        Owed::AskBegin => ReplyResult::BeginWanted { number },
+        Owed::AskStore => ReplyResult::StoreWanted { number },
+        Owed::AskStop => ReplyResult::StopWanted { number },
         Owed::Acknowledge { command } => acknowledge(command, number, out),
         Owed::Reject { cause } => reject(cause, number, out),
     }

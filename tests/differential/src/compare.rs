@@ -85,12 +85,12 @@ impl Comparison {
                 score.fail(0, program.name(), "missing".into());
             }
         }
-        for (number, (program, input, text)) in worked().into_iter().enumerate() {
-            let name = format!("worked example {} by {}", number + 1, program.name());
-            score.check_text(&format!("{name}, second implementation"), text, Ok(printed_for(program, &input).text));
+        for Worked { name, program, input, text } in worked() {
+            let name = format!("worked example {name} by {}", program.name());
+            score.check_text(&format!("{name}, second implementation"), &text, Ok(printed_for(program, &input).text));
             if self.takes_part(program) {
                 let first = self.run(program, &input).map(|printed| printed.text);
-                score.check_text(&format!("{name}, first implementation"), text, first);
+                score.check_text(&format!("{name}, first implementation"), &text, first);
             }
         }
         score
@@ -232,15 +232,35 @@ impl Score {
     }
 }
 
-/// Inputs with the exact text that is to be printed for them.
-fn worked() -> [(Program, Vec<u8>, &'static str); 5] {
-    [
+/// An input with the exact text that is to be printed for it.
+struct Worked {
+    name: String,
+    program: Program,
+    input: Vec<u8>,
+    text: String,
+}
+
+fn worked() -> Vec<Worked> {
+    let streams = [
         (Program::List, vectors::LISTED.to_vec(), vectors::LISTING),
         (Program::Replay, vectors::replayed(), vectors::REPLAY),
         (Program::List, vectors::broken(), vectors::BROKEN_LISTING),
         (Program::Driver, vectors::broken_script(), vectors::BROKEN_CALLS),
         (Program::Replay, vectors::broken_capture(), vectors::BROKEN_REPLAY),
-    ]
+    ];
+    let streams = streams.into_iter().zip(1..).map(|((program, input, text), number)| Worked {
+        name: number.to_string(),
+        program,
+        input,
+        text: text.into(),
+    });
+    let calls = vectors::calls().into_iter().map(|calls| Worked {
+        name: format!("({})", calls.title),
+        program: Program::Driver,
+        input: calls.script,
+        text: calls.text,
+    });
+    streams.chain(calls).collect()
 }
 
 fn next_of<'a>(tests: &'a [Test], next: &AtomicUsize) -> Option<(usize, &'a Test)> {
@@ -316,8 +336,8 @@ mod tests {
 
     #[test]
     fn worked_examples() {
-        for (program, input, text) in worked() {
-            assert_eq!(String::from_utf8_lossy(&printed_for(program, &input).text), text);
+        for Worked { name, program, input, text } in worked() {
+            assert_eq!(String::from_utf8_lossy(&printed_for(program, &input).text), text, "{name}");
         }
     }
 

@@ -1,11 +1,14 @@
-//! The program `test_driver`: records played on one reader, one link and the writer. Messages to write and the calls of
-//! captures are not played here.
+//! The program `test_driver`: records played on one reader, one link, one transfer and the writer. Messages to write
+//! and the calls of captures are not played here.
 
+use crate::answers;
 use crate::link::Link;
 use crate::links;
 use crate::reader::{Answer, Ending, Reader, Verdict};
 use crate::text;
 use crate::transcript;
+use crate::transfer::Transfer;
+use crate::transfers::{self, TABLE_SIZE};
 use crate::writer;
 use std::io::{self, Read, Write};
 
@@ -15,30 +18,52 @@ pub const FINISH: u8 = 2;
 pub const SET: u8 = 3;
 pub const WRITE: u8 = 4;
 pub const STREAM: u8 = 5;
+pub const REPLY: u8 = 7;
 /// The link's operations begin here.
 pub const LINK: u8 = 128;
 
 pub const MAX_DATA: usize = 4_096;
 pub const MAX_ROOM: usize = 2_100;
+/// The greatest output of a reply alone.
+const REPLY_ROOM: usize = 16;
 /// Each output byte before the call, so that an untouched byte is seen.
 pub const UNTOUCHED: u8 = 0xAA;
+
+/// What the program holds from one record to the next.
+pub struct Driver {
+    pub reader: Reader,
+    pub link: Link,
+    pub transfer: Transfer,
+    pub table: Vec<u8>,
+}
 
 /// Plays the script to its end, or to the first record that is too large or incomplete. Each record's lines are written
 /// before more is read.
 pub fn play(input: &mut impl Read, output: &mut impl Write) -> io::Result<()> {
-    let (mut reader, mut link) = (Reader::new(), Link::new());
+    let mut driver = Driver::new();
     let mut lines = Vec::new();
     while let Some((operation, data)) = record(input) {
-        if operation < LINK {
-            play_record(&mut reader, operation, &data, &mut lines);
-        } else {
-            links::play_record(&mut link, operation - LINK, &data, &mut lines);
-        }
+        driver.play_record(operation, &data, &mut lines);
         output.write_all(&lines)?;
         output.flush()?;
         lines.clear();
     }
     Ok(())
+}
+
+impl Driver {
+    pub fn new() -> Driver {
+        let table = vec![UNTOUCHED; TABLE_SIZE];
+        Driver { reader: Reader::new(), link: Link::new(), transfer: Transfer::new(), table }
+    }
+
+    pub fn play_record(&mut self, operation: u8, data: &[u8], lines: &mut Vec<u8>) {
+        match operation {
+            LINK.. => links::play_record(&mut self.link, operation - LINK, data, lines),
+            transfers::BEGIN..=transfers::DEVICE => transfers::play_record(self, operation, data, lines),
+            _ => play_record(&mut self.reader, operation, data, lines),
+        }
+    }
 }
 
 fn play_record(reader: &mut Reader, operation: u8, data: &[u8], lines: &mut Vec<u8>) {
@@ -51,6 +76,7 @@ fn play_record(reader: &mut Reader, operation: u8, data: &[u8], lines: &mut Vec<
         }
         WRITE => write(data, lines),
         STREAM => return transcript::lines(reader, data, lines),
+        REPLY => return reply(data, lines),
         _ => {
             *reader = Reader::new();
             lines.extend_from_slice(b"fresh");
@@ -123,4 +149,11 @@ fn write(data: &[u8], line: &mut Vec<u8>) {
     }
     line.extend_from_slice(b" :");
     text::spaced_bytes(line, &out);
+}
+
+fn reply(data: &[u8], lines: &mut Vec<u8>) {
+    let room = (number(data, 0, 2) as usize).min(REPLY_ROOM);
+    let (command, sequence) = (number(data, 2, 1) as u8, number(data, 3, 1) as u8);
+    let payload = data.get(4..).unwrap_or(&[]);
+    transcript::answer_in_room(answers::to_frame(command, sequence, payload), room, lines);
 }

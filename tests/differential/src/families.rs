@@ -1,7 +1,10 @@
 //! The table of all tests: which inputs there are, what they are played through, and how many of them.
 
 use crate::random::Rng;
-use crate::{breaks, captures, link_scripts, scripts, streams, vectors};
+use crate::{
+    breaks, captures, device_scripts, link_scripts, refusal_scripts, scripts, streams, transfer_scripts, vectors,
+    whole_tables,
+};
 
 /// What an input is played through: the program `list_program`, one kind of script on `test_driver`, or a capture on
 /// `replay_program`: through a pipe, in many cuts into reads, or live.
@@ -11,12 +14,24 @@ pub enum Play {
     Messages,
     Calls,
     Links,
+    Transfers,
+    Device,
     Replay,
     Cuts,
     Live,
 }
 
-const PLAYS: [Play; 7] = [Play::List, Play::Messages, Play::Calls, Play::Links, Play::Replay, Play::Cuts, Play::Live];
+const PLAYS: [Play; 9] = [
+    Play::List,
+    Play::Messages,
+    Play::Calls,
+    Play::Links,
+    Play::Transfers,
+    Play::Device,
+    Play::Replay,
+    Play::Cuts,
+    Play::Live,
+];
 
 #[derive(Clone, Copy, PartialEq, Eq, Debug)]
 pub enum Program {
@@ -34,6 +49,8 @@ impl Play {
             Play::Messages => "messages",
             Play::Calls => "calls",
             Play::Links => "links",
+            Play::Transfers => "transfers",
+            Play::Device => "device",
             Play::Replay => "replay",
             Play::Cuts => "cuts",
             Play::Live => "live",
@@ -47,7 +64,7 @@ impl Play {
     pub fn program(self) -> Program {
         match self {
             Play::List => Program::List,
-            Play::Messages | Play::Calls | Play::Links => Program::Driver,
+            Play::Messages | Play::Calls | Play::Links | Play::Transfers | Play::Device => Program::Driver,
             Play::Replay | Play::Cuts | Play::Live => Program::Replay,
         }
     }
@@ -69,7 +86,7 @@ type Make = fn(&mut Rng, u64) -> Vec<u8>;
 /// What a family makes, and with it what that is played through.
 #[derive(Clone, Copy)]
 enum Kind {
-    /// A stream to list, to play in records, and to feed to the reader in random cuts.
+    /// A stream to list, to play in records, to feed to the reader in random cuts, and for the whole box to handle.
     Stream(Make),
     /// A stream that is too long for random cuts.
     Long(Make),
@@ -77,6 +94,10 @@ enum Kind {
     Calls(Make),
     /// A script of a link's records.
     Links(Make),
+    /// A script of a transfer's records.
+    Transfers(Make),
+    /// A script of bytes on the wire for the whole box.
+    Device(Make),
     Capture(Make),
     /// A capture that is short enough for many cuts into reads.
     Short(Make),
@@ -88,6 +109,7 @@ impl Kind {
     fn make(self) -> Make {
         match self {
             Kind::Stream(make) | Kind::Long(make) | Kind::Calls(make) | Kind::Links(make) => make,
+            Kind::Transfers(make) | Kind::Device(make) => make,
             Kind::Capture(make) | Kind::Short(make) | Kind::Live(make) => make,
         }
     }
@@ -108,7 +130,7 @@ fn full_count(count: u64) -> u64 {
     count
 }
 
-const FAMILIES: [Family; 50] = [
+const FAMILIES: [Family; 64] = [
     family("whole", Kind::Stream(streams::whole), full_count),
     family("damaged", Kind::Stream(streams::damaged), full_count),
     family("cut", Kind::Stream(streams::cut), full_count),
@@ -161,6 +183,22 @@ const FAMILIES: [Family; 50] = [
     family("two-cuts-capture", Kind::Short(captures::short), |count| count / 25),
     family("live-capture", Kind::Live(captures::any), |count| count / 2),
     family("live-worked-capture", Kind::Live(captures::worked), |_| 1),
+    family("replies", Kind::Calls(scripts::replies), full_count),
+    family("transfer-life", Kind::Transfers(transfer_scripts::life), full_count),
+    family("transfer-any-state", Kind::Transfers(transfer_scripts::any_state), full_count),
+    family("transfer-noise", Kind::Transfers(transfer_scripts::noise), full_count),
+    family("every-announcement", Kind::Transfers(refusal_scripts::announcements), |_| {
+        refusal_scripts::ANNOUNCEMENT_SETS
+    }),
+    family("every-piece", Kind::Transfers(refusal_scripts::pieces), |_| refusal_scripts::PIECE_SETS),
+    family("every-cancellation", Kind::Transfers(refusal_scripts::cancellations), |_| 2),
+    family("every-transfer-room", Kind::Transfers(refusal_scripts::every_room), |count| count / 8),
+    family("device-life", Kind::Device(device_scripts::life), full_count),
+    family("device-commands", Kind::Device(device_scripts::commands), |count| count / 10),
+    family("device-states", Kind::Device(device_scripts::states), |count| count / 20),
+    family("every-small-table", Kind::Device(whole_tables::every_small), |_| whole_tables::SMALL_SETS),
+    family("most-pieces", Kind::Device(whole_tables::most_pieces), |_| whole_tables::MOST_SETS),
+    family("whole-table", Kind::Device(whole_tables::whole_table), |_| whole_tables::TABLE_SETS),
 ];
 
 /// One input, played once.
@@ -189,6 +227,7 @@ impl Test {
         let made = kind.make()(&mut rng, self.index);
         match (kind, self.play) {
             (Kind::Stream(_), Play::Calls) => scripts::random_cuts(&made, &mut rng),
+            (Kind::Stream(_), Play::Device) => device_scripts::of_stream(&made, &mut rng),
             (_, Play::Messages) => scripts::in_records(&made, &mut rng),
             _ => made,
         }
@@ -198,10 +237,12 @@ impl Test {
 impl Family {
     fn plays(&self) -> &'static [Play] {
         match self.kind {
-            Kind::Stream(_) => &[Play::List, Play::Messages, Play::Calls],
+            Kind::Stream(_) => &[Play::List, Play::Messages, Play::Calls, Play::Device],
             Kind::Long(_) => &[Play::List, Play::Messages],
             Kind::Calls(_) => &[Play::Calls],
             Kind::Links(_) => &[Play::Links],
+            Kind::Transfers(_) => &[Play::Transfers],
+            Kind::Device(_) => &[Play::Device],
             Kind::Capture(_) => &[Play::Replay],
             Kind::Short(_) => &[Play::Cuts],
             Kind::Live(_) => &[Play::Live],

@@ -82,9 +82,13 @@ impl Link {
     }
 
     /// A link in any state may have fields that no fresh one reaches; its numbers and its clock may be any.
-    fn check(&self) -> Result<(), Refusal> {
+    pub fn is_in_range(&self) -> bool {
         let fits = |waiting: Waiting| SENDABLE.contains(&waiting.command) && waiting.repeats <= MAX_REPEATS;
-        if self.waiting.is_none_or(fits) {
+        self.waiting.is_none_or(fits)
+    }
+
+    fn check(&self) -> Result<(), Refusal> {
+        if self.is_in_range() {
             Ok(())
         } else {
             Err(Refusal::State)

@@ -5,13 +5,13 @@ use crate::link::{Link, SENDABLE};
 use crate::links::{play_record, DATA_SIZE};
 use crate::random::Rng;
 
-const OFFER: u8 = 0;
-const TICK: u8 = 1;
-const ANSWER: u8 = 2;
-const SET_IDLE: u8 = 3;
-const SET_WAITING: u8 = 4;
-const ELAPSED: u8 = 5;
-const TICK_IN_PLACE: u8 = 6;
+pub const OFFER: u8 = 0;
+pub const TICK: u8 = 1;
+pub const ANSWER: u8 = 2;
+pub const SET_IDLE: u8 = 3;
+pub const SET_WAITING: u8 = 4;
+pub const ELAPSED: u8 = 5;
+pub const TICK_IN_PLACE: u8 = 6;
 const FRESH: u8 = 7;
 
 const RECORDS: usize = 2_000;
@@ -91,7 +91,7 @@ impl Script {
 }
 
 /// Milliseconds around the ones at which something changes.
-fn step(rng: &mut Rng) -> u32 {
+pub fn step(rng: &mut Rng) -> u32 {
     const HALF: u32 = 1 << 31;
     match rng.below(12) {
         0..=4 => rng.below(250) as u32,

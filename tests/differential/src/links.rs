@@ -33,6 +33,7 @@ pub fn play_record(link: &mut Link, operation: u8, data: &[u8], out: &mut Vec<u8
         }
     }
     state(out, link);
+    out.push(b'\n');
 }
 
 fn tick_values(tick: Tick) -> Vec<u64> {
@@ -56,11 +57,10 @@ fn answer(out: &mut Vec<u8>, word: &str, result: Result<Vec<u64>, Refusal>) {
     }
 }
 
-fn state(out: &mut Vec<u8>, link: &Link) {
+pub fn state(out: &mut Vec<u8>, link: &Link) {
     out.extend_from_slice(b" :");
     text::numbers(out, &[link.next.into()]);
     if let Some(Waiting { command, number, sent, repeats }) = link.waiting {
         text::numbers(out, &[command.into(), number.into(), sent.into(), repeats.into()]);
     }
-    out.push(b'\n');
 }

@@ -1,7 +1,8 @@
 //! Scripts of calls: streams cut into calls or played whole, and records for the writer.
 
-use crate::driver::{push_record, FEED, FINISH, MAX_DATA, MAX_ROOM, SET, STREAM, WRITE};
+use crate::driver::{push_record, FEED, FINISH, MAX_DATA, MAX_ROOM, REPLY, SET, STREAM, WRITE};
 use crate::link_scripts;
+use crate::payloads;
 use crate::random::Rng;
 use crate::reader::{Answer, Reader};
 use crate::streams;
@@ -302,4 +303,17 @@ fn write_record(script: &mut Script, command: u8, number: u8, flags: u16, room: 
     let [room_high, room_low] = (room as u16).to_be_bytes();
     let head = [command, number, flags_high, flags_low, room_high, room_low];
     script.record(WRITE, &[&head[..], payload].concat());
+}
+
+/// Replies to single frames, with outputs of all sizes. Those that a transfer decides about come more often.
+pub fn replies(rng: &mut Rng, _index: u64) -> Vec<u8> {
+    let mut script = Script::new();
+    for _ in 0..60 {
+        let command = if rng.once_in(3) { rng.pick(&[0x19, 0x1D, 0x1F]) } else { rng.between(0, 0x2B) as u8 };
+        let payload = payloads::likely(command, rng);
+        let room = if rng.once_in(8) { rng.next() as u16 } else { rng.below(17) as u16 };
+        let [high, low] = room.to_be_bytes();
+        script.record(REPLY, &[&[high, low, command, rng.byte()][..], &payload].concat());
+    }
+    script.records
 }

@@ -1,10 +1,11 @@
 //! Bytes of a stream: each frame read, written again and replied to.
 
 use crate::answers::{self, Reply};
+use crate::driver::UNTOUCHED;
 use crate::messages::{self, Message};
 use crate::reader::{Answer, Reader, Verdict};
 use crate::text;
-use crate::writer::wire_form;
+use crate::writer::{wire_form, Refusal};
 
 /// The lines about the next bytes of a stream.
 pub fn lines(reader: &mut Reader, mut stream: &[u8], out: &mut Vec<u8>) {
@@ -29,7 +30,7 @@ fn frame_lines(body: &[u8], out: &mut Vec<u8>) {
         Err(refusal) => line(out, "read", &[refusal as u64], None),
         Ok(message) => message_lines(&message, number, flags, out),
     }
-    answer_line(answers::to_frame(command, number, payload), number, out);
+    answer_line(answers::to_frame(command, number, payload), out);
 }
 
 fn message_lines(message: &Message, number: u8, flags: u16, out: &mut Vec<u8>) {
@@ -47,17 +48,19 @@ fn message_lines(message: &Message, number: u8, flags: u16, out: &mut Vec<u8>) {
 fn sum_lines(body: &[u8], out: &mut Vec<u8>) {
     let number = body[3];
     line(out, "sum", &[number.into()], None);
-    answer_line(answers::to_wrong_sum(number), number, out);
+    answer_line(answers::to_wrong_sum(number), out);
 }
 
-fn answer_line(reply: Reply, number: u8, out: &mut Vec<u8>) {
-    match reply {
-        Reply::Nothing => line(out, "answer", &[0], None),
-        Reply::Wanted { command } => line(out, "answer", &[0, 0, command.into(), number.into()], None),
-        Reply::Acknowledged { wire } => line(out, "answer", &[0, wire.len() as u64], Some(&wire)),
-        Reply::Rejected { code, cause, wire } => {
-            line(out, "answer", &[0, wire.len() as u64, 0x12, code.into(), cause.into()], Some(&wire));
-        }
+/// A reply that fits its output.
+fn answer_line(reply: Reply, out: &mut Vec<u8>) {
+    line(out, "answer", &reply.row(), reply.wire());
+}
+
+/// A reply to an output of this size; where it does not fit, the front of the buffer is shown.
+pub fn answer_in_room(reply: Reply, room: usize, out: &mut Vec<u8>) {
+    match reply.wire() {
+        Some(wire) if wire.len() > room => line(out, "answer", &[Refusal::Room as u64, 0], Some(&[UNTOUCHED; 3])),
+        _ => answer_line(reply, out),
     }
 }
 

@@ -4,8 +4,11 @@ use crate::driver::{push_record, FEED, FINISH, STREAM};
 use crate::scripts;
 use crate::text;
 
-const FILES: [(&str, &str); 2] =
-    [("examples.hex", include_str!("../vectors/examples.hex")), ("tables.hex", include_str!("../vectors/tables.hex"))];
+const FILES: [(&str, &str); 3] = [
+    ("examples.hex", include_str!("../vectors/examples.hex")),
+    ("tables.hex", include_str!("../vectors/tables.hex")),
+    ("transfers.hex", include_str!("../vectors/transfers.hex")),
+];
 
 /// The listing's own example, with the exact text that is to be printed for it.
 pub const LISTED: [u8; 25] = [
@@ -112,10 +115,55 @@ pub fn broken_capture() -> Vec<u8> {
     text::from_hex(BROKEN_CAPTURE).expect("hex")
 }
 
+/// Scripts of calls with the lines that `test_driver` is to print for them; the file says how they are written.
+const CALLS: &str = include_str!("../vectors/transfers.calls");
+
+/// What a script of the file is about, its records, and its text.
+#[derive(Default)]
+pub struct Calls {
+    pub title: String,
+    pub script: Vec<u8>,
+    pub text: String,
+}
+
+pub fn calls() -> Vec<Calls> {
+    let mut all = Vec::new();
+    for line in CALLS.lines().filter(|line| !line.is_empty() && !line.starts_with('#')) {
+        if let Some(title) = line.strip_prefix("== ") {
+            all.push(Calls { title: title.into(), ..Calls::default() });
+            continue;
+        }
+        let calls = all.last_mut().expect("a script begins with its title");
+        if line.starts_with(|first: char| first.is_ascii_digit()) {
+            let (operation, data) = record_of(line).unwrap_or_else(|| panic!("not a record: {line}"));
+            push_record(&mut calls.script, operation, &data);
+        } else {
+            calls.text += line;
+            calls.text.push('\n');
+        }
+    }
+    all
+}
+
+fn record_of(line: &str) -> Option<(u8, Vec<u8>)> {
+    let (operation, words) = line.split_once(' ').unwrap_or((line, ""));
+    let mut hex = String::new();
+    for word in words.split_whitespace() {
+        match word.split_once('*') {
+            Some((byte, times)) => hex += &byte.repeat(times.parse().ok()?),
+            None => hex += word,
+        }
+    }
+    Some((operation.parse().ok()?, text::from_hex(&hex)?))
+}
+
 /// All vectors, in the order of the files.
 pub fn all() -> Vec<Vec<u8>> {
-    let lines = FILES.iter().flat_map(|(name, file)| file.lines().map(move |line| (name, line)));
-    let streams = lines.map(|(name, line)| {
+    FILES.iter().flat_map(|(name, file)| vectors_of(name, file)).collect()
+}
+
+fn vectors_of(name: &str, file: &str) -> Vec<Vec<u8>> {
+    let streams = file.lines().map(|line| {
         let hex = line.split('#').next().unwrap_or("");
         text::from_hex(hex).unwrap_or_else(|| panic!("{name}: not hex: {line}"))
     });
@@ -130,10 +178,37 @@ pub fn short() -> Vec<Vec<u8>> {
 #[cfg(test)]
 mod tests {
     use super::*;
+    use crate::reader::{Answer, Reader, Verdict};
 
     #[test]
     fn files_are_hex_and_hold_the_listed_stream() {
         assert!(all().contains(&LISTED.to_vec()));
+    }
+
+    #[test]
+    fn files_hold_good_transfers() {
+        let transfers: Vec<Vec<u8>> = vectors_of("transfers.hex", FILES[2].1);
+        for mut stream in transfers.iter().map(|stream| &stream[..]) {
+            let mut reader = Reader::new();
+            while !stream.is_empty() {
+                let Answer::Decided { verdict: Verdict::Frame, count, .. } = reader.feed(stream) else {
+                    panic!("not a frame: {}", text::hex(stream));
+                };
+                stream = &stream[count..];
+            }
+        }
+    }
+
+    #[test]
+    fn calls_have_records_and_lines() {
+        let all = calls();
+        assert_eq!(all.len(), CALLS.lines().filter(|line| line.starts_with("==")).count());
+        for calls in all {
+            assert!(!calls.script.is_empty() && calls.text.ends_with('\n'), "{}", calls.title);
+        }
+        assert_eq!(record_of("65 05 00*3 01"), Some((65, vec![5, 0, 0, 0, 1])));
+        assert_eq!(record_of("70"), Some((70, vec![])));
+        assert_eq!(record_of("70 0"), None);
     }
 
     #[test]

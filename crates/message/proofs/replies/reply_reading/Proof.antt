@@ -8,10 +8,13 @@ reply-reading-spec =
     tie.close
     (tie.spec
     (search needs) (search needs) (search needs) (search needs) (search needs) (search needs) (search needs)
-    (search needs)
+    (search needs) (search needs) (search needs) (search needs)
     (λ c. simp (← c .before .before .owed-after .ensures, c .enum-told .given .1))
     (λ c. simp (← c .before .before .owed-after .ensures, c .enum-told2 .given .1))
     (λ c. simp (← c .before .before .owed-after .ensures, c .enum-told3 .given .1))
+    (λ c. simp (← c .before .before .owed-after .ensures, c .enum-told4 .given .1))
+    (λ c. simp (← c .before .before .owed-after .ensures, c .enum-told5 .given .1))
+    (λ c. simp (← c .before .before .owed-after .ensures, c .enum-told6 .given .1))
     (search needs)
     (λ c.
     let d = c .before .before .before .before .before in

@@ -1,0 +1,240 @@
+-- The 1A and the 1B, written one behind the other. Assumes nothing.
+use Prim.Native.Nat.{ℕ, _+_, _-_, _≤_, _<_, min}
+use mathlib.Core.Path.{_≡_, refl, sym, ap, subst, _∙_}
+use mathlib.Core.Bool.{Bool, true, false, cond, true≢false}
+use mathlib.Core.Logic.{_≢_}
+use mathlib.Core.List.{List, [], _∷_, _++_, append-nil, append-assoc}
+use native.Mathlib.Omega.{arith, min-cases}
+use borrow.Author.Tests.{eq-eqb, lt-ltb, le-ltb, ltb-true, ltb-false, leb-true, leb-false}
+use lib.Dec.{eqb, ltb, leb}
+use lib.ListN.{length, take, drop, length-append, length-drop, drop-of-length-le, take-append-drop}
+use lib.Seq.{drop-drop, length-take-le, drop-at}
+use Rattle.base.specs.Rows.{Row, row}
+use Rattle.base.specs.Outcomes.{Output, output, onto, writtenIn, placed}
+use Rattle.base.specs.Numbers.{two}
+use Rattle.base.proofs.Stores.{part-left}
+use Rattle.base.proofs.Tests.{either-way}
+use Rattle.frame.specs.Wire.{frameOf}
+use Rattle.frame.specs.Calls.{writeOf}
+use Rattle.message.specs.Commands.{table, profileIn}
+use Rattle.message.specs.Messages.{countable}
+use Rattle.message.specs.Table.{sendRowOf}
+use Rattle.message.specs.Writing.{sendOf}
+use Rattle.message.specs.declared.writer.SendResult.{SendResult}
+use Rattle.message.specs.declared.writer.SendResult.the-variants as sending
+use Rattle.message.specs.declared.values.Message.the-variants.{Ready}
+use Rattle.transfer.specs.Table.{payloadRow, roomRow, beganRow}
+use Rattle.transfer.specs.Writing.{after, readyPayload, pairOf}
+
+-- a call that is lent the rest of an output, from a place on
+pub rest-written : (out : List ℕ) (from : ℕ) (f : List ℕ → Output) (a : Row) (o : List ℕ)
+    → output a o ≡ f (take (length out - from) (drop from out))
+    → output a (take from out ++ (o ++ drop (length out - from) (drop from out))) ≡ after (take from out) (f (drop from out))
+rest-written out from f a o e =
+    let none : length (drop from out) ≤ length out - from = omega (arith, length-drop from out) in
+    rw (drop-of-length-le (drop from out) none, append-nil)
+    (ap (λ (w : Output). after (take from out) w) (rw (part-left out from) at e))
+
+-- the 1B that `message` writes
+pub ready-sent : (limit piece number : ℕ) (code out : List ℕ) → sendOf limit (Ready piece) number 0 code out
+    ≡ cond (countable (length code)) (writeOf limit 0x1B number 0 (readyPayload piece code) out) (output (row 32 []) out)
+unfolding table profileIn
+ready-sent limit piece number code out = refl
+
+module _ (limit number next piece : ℕ) (code out : List ℕ) where
+  -- the two frames, and the place of the second
+  abbrev first : List ℕ
+  first = frameOf 0x1A number 0 []
+
+  abbrev second : List ℕ
+  second = frameOf 0x1B next 0 (readyPayload piece code)
+
+  abbrev from : ℕ
+  from = min (length first) (length out)
+
+  -- what is written of the second, and what of both
+  abbrev sent : Output
+  sent = sendOf limit (Ready piece) next 0 code (drop from out)
+
+  abbrev both : Output
+  both = pairOf limit number next piece code out
+
+  -- too long; no room; written
+  pub data Sent : Type 0 where
+    long : (n : ℕ) (v : List ℕ) → eqb n 0 ≡ false → eqb n 22 ≡ false → sent ≡ output (row n v) (drop from out)
+        → both ≡ output payloadRow out → Sent
+    no-room : sent ≡ output roomRow (drop from out) → both ≡ output roomRow out → Sent
+    wrote : sent ≡ output (row 0 (length second ∷ [])) (onto second (drop from out)) → from ≡ length first
+        → length first + length second ≤ length out
+        → both ≡ output (beganRow (length first + length second) (length first)) (onto (first ++ second) out) → Sent
+
+  -- the place is where the first ends, or there is no room for that
+  from-cases : {P : Type 0} → (from ≡ length first → length first ≤ length out → P)
+      → (from ≡ length out → length out < length first → P) → P
+  from-cases f g =
+      either-way (ltb (length out) (length first))
+      (λ e. let l = ltb-true (length out) (length first) e in
+      g (min-cases (length first) (length out) _ (λ h q. absurd (omega (arith, l, h))) (λ h q. q)) l)
+      (λ e. let l = ltb-false (length out) (length first) e in
+      f (min-cases (length first) (length out) _ (λ h q. q) (λ h q. omega (arith, l, h, q))) l)
+
+  module _ (small : limit ≤ 65535) where
+    -- a check code that no count can name makes the payload too long
+    uncounted : countable (length code) ≡ false → limit < length (readyPayload piece code) + 5
+    uncounted e = let h = leb-false (length code) 65535 e in omega (arith, h, small, length-append code (two piece []))
+
+    too-long : limit < length (readyPayload piece code) + 5 → both ≡ output payloadRow out
+    too-long h = rw (lt-ltb limit (length (readyPayload piece code) + 5) h)
+
+    -- where it is not, the room decides
+    module _ (c : countable (length code) ≡ true) (h : length (readyPayload piece code) + 5 ≤ limit) where
+      sent-placed : sent ≡ placed second (drop from out)
+      sent-placed =
+          ready-sent limit piece next code (drop from out)
+          ∙ rw (c, le-ltb limit (length (readyPayload piece code) + 5) h)
+
+      roomless : length out < length first + length second → both ≡ output roomRow out
+      roomless q =
+          rw (
+            le-ltb limit (length (readyPayload piece code) + 5) h,
+            lt-ltb (length out) (length (first ++ second)) (rw length-append q),
+          )
+
+      roomy : length first + length second ≤ length out
+          → both ≡ output (beganRow (length first + length second) (length first)) (onto (first ++ second) out)
+      roomy q =
+          rw (
+            le-ltb limit (length (readyPayload piece code) + 5) h,
+            le-ltb (length out) (length (first ++ second)) (rw length-append q),
+            length-append first second,
+          )
+
+      not-sent : length (drop from out) < length second → Sent
+      not-sent q =
+          no-room (sent-placed ∙ rw (lt-ltb (length (drop from out)) (length second) q))
+          (roomless (from-cases (λ e l. omega (arith, q, e, l, length-drop from out)) (λ e l. omega (arith, l))))
+
+      is-sent : length second ≤ length (drop from out) → Sent
+      is-sent q =
+          from-cases
+          (λ e l. let fit : length first + length second ≤ length out = omega (arith, q, e, l, length-drop from out) in
+          wrote (sent-placed ∙ rw (le-ltb (length (drop from out)) (length second) q)) e fit (roomy fit))
+          (λ e l. absurd (omega (arith, q, e, length-drop from out)))
+
+    pub sent-cases : Sent
+    sent-cases =
+        either-way (countable (length code))
+        (λ c. either-way (ltb limit (length (readyPayload piece code) + 5))
+        (λ e. long 21 (0 ∷ []) refl refl
+        (ready-sent limit piece next code (drop from out) ∙ rw (c, e))
+        (too-long (ltb-true limit (length (readyPayload piece code) + 5) e)))
+        (λ e. let h = ltb-false limit (length (readyPayload piece code) + 5) e in
+        either-way (ltb (length (drop from out)) (length second))
+        (λ r. not-sent c h (ltb-true (length (drop from out)) (length second) r))
+        (λ r. is-sent c h (ltb-false (length (drop from out)) (length second) r))))
+        (λ c. long 32 [] refl refl (ready-sent limit piece next code (drop from out) ∙ rw c) (too-long (uncounted c)))
+
+    -- ---- what the call answers, by the row of the second; `at` and `ready` are the places that the code found
+
+    pub at-from : (ready at : ℕ) → ready ≡ length first → at ≡ min ready (length out) → (v : Output)
+        → v ≡ after (take at out) (sendOf limit (Ready piece) next 0 code (drop at out)) → v ≡ after (take from out) sent
+    at-from ready at r q v e =
+        subst (λ k. v ≡ after (take k out) (sendOf limit (Ready piece) next 0 code (drop k out)))
+        (q ∙ ap (λ k. min k (length out)) r) e
+
+    -- the rest of the output, where it was not written
+    rejoined : (a : Row) {o : List ℕ} {w : Output} → output a o ≡ after (take from out) w → w .out ≡ drop from out
+        → o ≡ out
+    rejoined a e q =
+        ap (λ (v : Output). v .out) e ∙ ap (λ (l : List ℕ). take from out ++ l) q ∙ take-append-drop from out
+
+    pub pair-long : (a : Row) (o : List ℕ) → eqb (a .number) 0 ≡ false → eqb (a .number) 22 ≡ false
+        → output a o ≡ after (take from out) sent → output payloadRow o ≡ both
+    pair-long a o z t e = go sent-cases
+      where
+        numbers : (n : ℕ) (v l : List ℕ) → sent ≡ output (row n v) l → a .number ≡ n
+        numbers n v l q = ap (λ (w : Output). w .row .number) (e ∙ ap (λ (w : Output). after (take from out) w) q)
+
+        go : Sent → output payloadRow o ≡ both
+        go (long n v h k s b) = ap (λ (l : List ℕ). output payloadRow l) (rejoined a e (ap (λ (w : Output). w .out) s)) ∙ sym b
+        go (no-room s b) = absurd (true≢false (sym (eq-eqb (a .number) 22 (numbers 22 _ _ s)) ∙ t))
+        go (wrote s f l b) = absurd (true≢false (sym (eq-eqb (a .number) 0 (numbers 0 _ _ s)) ∙ z))
+
+    pub pair-room : (o : List ℕ) → output roomRow o ≡ after (take from out) sent → output roomRow o ≡ both
+    pair-room o e = go sent-cases
+      where
+        numbers : (n : ℕ) (v l : List ℕ) → sent ≡ output (row n v) l → 22 ≡ n
+        numbers n v l q = ap (λ (w : Output). w .row .number) (e ∙ ap (λ (w : Output). after (take from out) w) q)
+
+        go : Sent → output roomRow o ≡ both
+        go (long n v h k s b) = absurd (true≢false (sym (eq-eqb n 22 (sym (numbers n v _ s))) ∙ k))
+        go (no-room s b) = ap (λ (l : List ℕ). output roomRow l) (rejoined roomRow e (ap (λ (w : Output). w .out) s)) ∙ sym b
+        go (wrote s f l b) = let z = numbers 0 _ _ s in absurd (omega (arith, z))
+
+    -- the first goes before the second
+    module _ (l : length first + length second ≤ length out) (enough : 5 ≤ limit) where
+      abbrev behind : List ℕ
+      behind = take (length first) out ++ onto second (drop (length first) out)
+
+      front-size : length (take (length first) out) ≡ length first
+      front-size = length-take-le (length first) out (omega (arith, l))
+
+      front-room : length first ≤ length behind
+      front-room = rw length-append (omega (arith, front-size))
+
+      put-first : writeOf limit 0x1A number 0 [] behind .out ≡ onto (first ++ second) out
+      put-first =
+          rw (
+            le-ltb limit 5 enough,
+            le-ltb (length behind) (length first) front-room,
+            drop-at (take (length first) out) (onto second (drop (length first) out)) (length first) front-size,
+            drop-drop (length second) (length first) out,
+          )
+          (sym (ap (λ n. (first ++ second) ++ drop n out) (length-append first second)
+          ∙ append-assoc first second (drop (length first + length second) out)))
+
+    pub pair-fits : (count : ℕ) (o : List ℕ) → output (row 0 (count ∷ [])) o ≡ after (take from out) sent
+        → length first + count ≤ length out
+    pair-fits count o e = go sent-cases
+      where
+        numbers : (n : ℕ) (v l : List ℕ) → sent ≡ output (row n v) l → 0 ≡ n
+        numbers n v l q = ap (λ (w : Output). w .row .number) (e ∙ ap (λ (w : Output). after (take from out) w) q)
+
+        go : Sent → length first + count ≤ length out
+        go (long n v h k s b) = absurd (true≢false (sym (eq-eqb n 0 (sym (numbers n v _ s))) ∙ h))
+        go (no-room s b) = let z = numbers 22 _ _ s in absurd (omega (arith, z))
+        go (wrote s f l b) =
+            let c : count ≡ length second =
+            ap (λ (w : Output). writtenIn (w .row)) (e ∙ ap (λ (w : Output). after (take from out) w) s) in
+            omega (arith, c, l)
+
+    pub pair-wrote : 5 ≤ limit → (count : ℕ) (o : List ℕ) → output (row 0 (count ∷ [])) o ≡ after (take from out) sent
+        → (a : Row) (made : List ℕ) → output a made ≡ writeOf limit 0x1A number 0 [] o
+        → output (beganRow (length first + count) (length first)) made ≡ both
+    pair-wrote enough count o e a made m = go sent-cases
+      where
+        numbers : (n : ℕ) (v l : List ℕ) → sent ≡ output (row n v) l → 0 ≡ n
+        numbers n v l q = ap (λ (w : Output). w .row .number) (e ∙ ap (λ (w : Output). after (take from out) w) q)
+
+        go : Sent → output (beganRow (length first + count) (length first)) made ≡ both
+        go (long n v h k s b) = absurd (true≢false (sym (eq-eqb n 0 (sym (numbers n v _ s))) ∙ h))
+        go (no-room s b) = let z = numbers 22 _ _ s in absurd (omega (arith, z))
+        go (wrote s f l b) =
+            let all = e ∙ ap (λ (w : Output). after (take from out) w) s in
+            let counted : count ≡ length second = ap (λ (w : Output). writtenIn (w .row)) all in
+            let held : o ≡ behind l enough =
+            ap (λ (w : Output). w .out) all ∙ ap (λ k. take k out ++ onto second (drop k out)) f in
+            let put : made ≡ onto (first ++ second) out =
+            ap (λ (w : Output). w .out) m ∙ ap (λ (x : List ℕ). writeOf limit 0x1A number 0 [] x .out) held
+            ∙ put-first l enough in
+            rw (counted, put) (sym b)
+
+-- an answer of `message` that is neither the count nor ROOM
+pub sent-other : (r : SendResult) → ((count : ℕ) → r ≢ sending.Wrote count) → r ≢ sending.Room
+    → (eqb (sendRowOf r .number) 0 ≡ false) × (eqb (sendRowOf r .number) 22 ≡ false)
+sent-other (sending.Wrote count) h k = absurd (h count refl)
+sent-other sending.Payload h k = (refl, refl)
+sent-other sending.Room h k = absurd (k refl)
+sent-other sending.Command h k = (refl, refl)
+sent-other sending.Size h k = (refl, refl)
+sent-other sending.Field h k = (refl, refl)
