@@ -6,3 +6,7 @@ pub mod WriteLaws
 pub mod StoreLaws
 pub mod PairLaws
 pub mod CallLaws
+pub mod Outcomes
+pub mod Accounts
+pub mod Moves
+pub mod Histories

@@ -8,12 +8,13 @@ use native.Mathlib.Omega.{arith}
 use borrow.Author.Tests.{eq-eqb}
 use types.Run.{OneOf}
 use lib.Dec.{eqb}
-use lib.ListN.{length, getD}
+use lib.ListN.{length, getD, drop, length-drop}
+use lib.Seq.{take-all}
 use Rattle.base.specs.Numbers.{twoAt, fourAt}
 use Rattle.base.proofs.Keys.{at-keys}
 use Rattle.message.specs.Commands.{table, profileIn}
 use Rattle.message.specs.Layouts.{sizeFits}
-use Rattle.message.specs.Parts.{place, nowhere, noTexts, noParts}
+use Rattle.message.specs.Parts.{place, nowhere, noTexts, noParts, bytesOf}
 use Rattle.message.specs.Table.{Read, got, refusal, readingOf}
 use Rattle.message.specs.Reading.{decodeOf, readOf, partsOf}
 use Rattle.message.specs.declared.kind.Kind.the-variants as kind
@@ -21,7 +22,7 @@ use Rattle.message.specs.declared.parts.Parts.{Parts}
 use Rattle.message.specs.declared.reader.ReadResult.{ReadResult}
 use Rattle.message.specs.declared.reader.ReadResult.the-variants as reading
 use Rattle.message.specs.declared.values.Message.{Message}
-use Rattle.transfer.specs.Payloads.{faulty, sizeIn, indexIn, totalIn}
+use Rattle.transfer.specs.Payloads.{faulty, sizeIn, indexIn, totalIn, bytesIn}
 
 -- ---- the last arm of a `match`, which takes all other variants: the variant's place is one of theirs
 
@@ -90,3 +91,43 @@ second-same e = ap (λ l. getD l 1 0) e
 
 pub third-same : {c d x y z w : ℕ} {r s : List ℕ} → c ∷ x ∷ z ∷ r ≡ d ∷ y ∷ w ∷ s → z ≡ w
 third-same e = ap (λ l. getD l 2 0) e
+
+-- ---- a payload without fault, byte by byte
+
+-- where the size does not fit, it is faulty
+module _ (sized : Bool) (values : List ℕ) (parts : Parts) where
+  fits-unless : not (eqb (Reads sized values parts .row .number) 0) ≡ false → sized ≡ true
+  fits-unless e = go sized refl
+    where
+      go : (t : Bool) → sized ≡ t → sized ≡ true
+      go true q = q
+      go false q = absurd (true≢false (rw q at e))
+
+  pub reads-as : sized ≡ true → Reads sized values parts ≡ got values parts
+  reads-as q = rw q
+
+pub read-19 : (p : List ℕ) → faulty 0x19 p ≡ false
+    → decodeOf 0x19 p ≡ got (0x19 ∷ fourAt p 0 ∷ []) (noTexts (place 6 (twoAt p 4)) nowhere)
+unfolding table profileIn
+read-19 p e = reads-as (sizeFits kind.Announcement p) _ _ (fits-unless (sizeFits kind.Announcement p)
+    (0x19 ∷ fourAt p 0 ∷ []) (noTexts (place 6 (twoAt p 4)) nowhere) e)
+
+pub read-1d : (p : List ℕ) → faulty 0x1D p ≡ false
+    → decodeOf 0x1D p ≡ got (0x1D ∷ twoAt p 0 ∷ twoAt p 2 ∷ []) (noTexts nowhere (place 4 (length p - 4)))
+unfolding table profileIn
+read-1d p e = reads-as (sizeFits kind.Piece p) _ _ (fits-unless (sizeFits kind.Piece p)
+    (0x1D ∷ twoAt p 0 ∷ twoAt p 2 ∷ []) (noTexts nowhere (place 4 (length p - 4))) e)
+
+pub size-read : (p : List ℕ) → faulty 0x19 p ≡ false → sizeIn p ≡ fourAt p 0
+size-read p e = ap (λ (r : Read). getD (r .row .values) 1 0) (read-19 p e)
+
+pub index-read : (p : List ℕ) → faulty 0x1D p ≡ false → indexIn p ≡ twoAt p 0
+index-read p e = ap (λ (r : Read). getD (r .row .values) 1 0) (read-1d p e)
+
+pub total-read : (p : List ℕ) → faulty 0x1D p ≡ false → totalIn p ≡ twoAt p 2
+total-read p e = ap (λ (r : Read). getD (r .row .values) 2 0) (read-1d p e)
+
+pub bytes-read : (p : List ℕ) → faulty 0x1D p ≡ false → bytesIn p ≡ drop 4 p
+bytes-read p e =
+    ap (λ (r : Read). bytesOf (r .parts .piece) p) (read-1d p e)
+    ∙ take-all (length p - 4) (drop 4 p) (omega (arith, length-drop 4 p))

@@ -4,7 +4,12 @@
 pub mod Pieces
 pub mod Payloads
 pub mod Table
+pub mod Logs
+pub mod History
 -- Model: what the contracts equate, held to the statements by claims
 pub mod Checks
 pub mod Writing
 pub mod Calls
+pub mod LogsComputed
+-- Claims: what is proved
+pub mod Histories

@@ -1,0 +1,6 @@
+-- The specification of what the box does with an answer of the reader.
+
+-- Statements: what must be believed
+pub mod Table
+-- Model: what the contracts equate, held to the statements by claims
+pub mod Handling
