@@ -1,1 +1,2 @@
 -- The laws, by subject; then the claims.
+pub mod HandleLaws

@@ -91,7 +91,7 @@ abbrev pub underIn : Row → ℕ
 underIn r = getD (r .values) 2 0
 
 -- by the reply of `message` and what the link says
-abbrev pub answerOf : ℕ → ℕ → ℕ → Output → Outcome Link → List ℕ → Transfer → ℕ → ℕ → List ℕ → After
+unfoldable pub answerOf : ℕ → ℕ → ℕ → Output → Outcome Link → List ℕ → Transfer → ℕ → ℕ → List ℕ → After
 answerOf limit first max reply heard body t clock piece buffer =
     cond (eqb (wantedIn (reply .row)) 0x1A)
     (begunAfter heard buffer
@@ -106,7 +106,7 @@ answerOf limit first max reply heard body t clock piece buffer =
 -- ---- the call
 
 -- STATE of link or transfer before everything: PROTOCOL 9.15, 15.14
-abbrev pub handleOf : ℕ → ℕ → ℕ → Row → List ℕ → Transfer → Link → ℕ → ℕ → List ℕ → List ℕ → After
+unfoldable pub handleOf : ℕ → ℕ → ℕ → Row → List ℕ → Transfer → Link → ℕ → ℕ → List ℕ → List ℕ → After
 handleOf limit first max answer body t l clock piece buffer out =
     cond (inRange first max l && inRangeOf t)
     (answerOf limit first max (replyOf limit answer body out) (heardOf first max answer body l) body t clock piece

@@ -54,7 +54,7 @@ module _ (limit first max : ℕ) (t : Transfer) (buffer : List ℕ) (ranged : in
   no-state : {n : ℕ} → eqb n 17 ≡ false → n ≡ 17 → ⊥
   no-state {n} h e = true≢false (sym (eq-eqb n 17 e) ∙ h)
 
-  state-link : (c : Call) → callOf limit first max t buffer c .row .number ≡ 17 → LinkOut first max c
+  pub state-link : (c : Call) → callOf limit first max t buffer c .row .number ≡ 17 → LinkOut first max c
   state-link (beginning l clock number payload piece out) e = either-way (inRange first max l) (λ h. absurd (no-state (other h) e)) (λ h. h)
     where
       other : inRange first max l ≡ true

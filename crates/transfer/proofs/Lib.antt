@@ -9,4 +9,13 @@ pub mod CallLaws
 pub mod Outcomes
 pub mod Accounts
 pub mod Moves
+pub mod PiecesExact
+pub mod PayloadsExact
+pub mod AnswerRows
+pub mod FoundLaws
+pub mod PairRead
 pub mod Histories
+pub mod Ranges
+pub mod Refusals
+pub mod WorkedTransfers
+pub mod WorkedRefusals

@@ -96,6 +96,13 @@ third-same e = ap (λ l. getD l 2 0) e
 
 -- where the size does not fit, it is faulty
 module _ (sized : Bool) (values : List ℕ) (parts : Parts) where
+  pub faulty-by : not (eqb (Reads sized values parts .row .number) 0) ≡ not sized
+  faulty-by = go sized refl
+    where
+      go : (t : Bool) → sized ≡ t → not (eqb (Reads sized values parts .row .number) 0) ≡ not sized
+      go true q = rw q
+      go false q = rw q
+
   fits-unless : not (eqb (Reads sized values parts .row .number) 0) ≡ false → sized ≡ true
   fits-unless e = go sized refl
     where
@@ -131,3 +138,17 @@ pub bytes-read : (p : List ℕ) → faulty 0x1D p ≡ false → bytesIn p ≡ dr
 bytes-read p e =
     ap (λ (r : Read). bytesOf (r .parts .piece) p) (read-1d p e)
     ∙ take-all (length p - 4) (drop 4 p) (omega (arith, length-drop 4 p))
+
+-- a fault is a wrong size
+pub faulty-19 : (p : List ℕ) → faulty 0x19 p ≡ not (sizeFits kind.Announcement p)
+unfolding table profileIn
+faulty-19 p = faulty-by (sizeFits kind.Announcement p) (0x19 ∷ fourAt p 0 ∷ []) (noTexts (place 6 (twoAt p 4)) nowhere)
+
+pub faulty-1d : (p : List ℕ) → faulty 0x1D p ≡ not (sizeFits kind.Piece p)
+unfolding table profileIn
+faulty-1d p =
+    faulty-by (sizeFits kind.Piece p) (0x1D ∷ twoAt p 0 ∷ twoAt p 2 ∷ []) (noTexts nowhere (place 4 (length p - 4)))
+
+pub faulty-1f : (p : List ℕ) → faulty 0x1F p ≡ not (sizeFits kind.Empty p)
+unfolding table profileIn
+faulty-1f p = faulty-by (sizeFits kind.Empty p) (0x1F ∷ []) noParts

@@ -45,7 +45,7 @@ positive : (n : ℕ) → n ≢ 0 → 1 ≤ n
 positive zero h = absurd (h refl)
 positive (suc n) h = omega arith
 
-or-true : (b : Bool) → (b || true) ≡ true
+pub or-true : (b : Bool) → (b || true) ≡ true
 or-true true = refl
 or-true false = refl
 

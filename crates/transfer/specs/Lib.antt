@@ -12,4 +12,12 @@ pub mod Writing
 pub mod Calls
 pub mod LogsComputed
 -- Claims: what is proved
+pub mod Ranges
+pub mod Refusals
+pub mod PiecesExact
+pub mod PayloadsExact
+pub mod AnswerRows
+pub mod PairRead
 pub mod Histories
+pub mod WorkedTransfers
+pub mod WorkedRefusals
