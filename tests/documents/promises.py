@@ -11,8 +11,10 @@ from tree import files, name_of, text_of
 
 CALL = re.compile(r"^ *pub (?:extern \"C\" )?fn (\w+)(.*?)\{$", re.M | re.S)  # up to the brace that opens its body
 LIMIT, SENDING = {"limit": "frameLimit"}, {"first": "firstNumber", "max": "maxRepeats"}  # parameters: the code's own
+ALL = LIMIT | SENDING
+OWN = {"link": SENDING, "transfer": ALL, "device": ALL}  # in all other crates: LIMIT
 DEFINED = re.compile(r"^ghost use Rattle·(\w+?)(?:·specs\.specs|\.specs)\.(\w+)\.\{([^}]*)\};", re.M)
-LAYERS = ("message", "link", "firmware", "listing", "capture", "replay")
+LAYERS = ("message", "link", "transfer", "device", "firmware", "listing", "capture", "replay")
 ALONE = ("capture",)  # cites definitions of other layers, and no theorem
 CITED = re.compile(r"^use Rattle·(\w+)\.proofs\.(\w+(?:\.\w+)*)(?:\.\{([^}]*)\})?", re.M)
 
@@ -32,6 +34,12 @@ def parameters(text, own):
     """What follows the name of each definition that begins with such parameters."""
     found = re.findall(rf"^(\w+)((?: (?:{'|'.join(own)}))+)\b.* =", text, re.M)
     return {name: "".join(f" {own[word]}" for word in words.split()) for name, words in found}
+
+
+def needed_in_tree():
+    """The same of every specification, by its crate and file."""
+    sources = [(path.parents[1].name, path) for path in files("crates/*/specs/*.antt")]
+    return {(crate, path.stem): parameters(text_of(path), OWN.get(crate, LIMIT)) for crate, path in sources}
 
 
 def unnamed(text, needed):
@@ -70,15 +78,20 @@ def check_calls(checks):
 
 
 def check_parameters(checks):
-    needed = parameters("sumOf first max n = n\nsumOf first max (n) =\nboundOf limit = limit\n", SENDING)
+    text = "sumOf first max n = n\nsumOf first max (n) =\nboundOf limit = limit\n"
+    needed = parameters(text, SENDING)
     checks.test("parameters are found", needed == {"sumOf": " firstNumber maxRepeats"})
+    checks.test("those of the frame too", parameters(text, ALL) == {**needed, "boundOf": " frameLimit"})
+    three = parameters("callOf limit first max n =\n", ALL)
+    checks.test("all three in their order", three == {"callOf": " frameLimit firstNumber maxRepeats"})
     used = "ghost use Rattle.link.specs.Sums.{sumOf};\n"
     call = used + "pub fn f(n: u8) -> u8\n    ensures { r ≡ sumOf firstNumber maxRepeats n }\n{\n"
     needed = {("link", "Sums"): needed}
     checks.test("a call with the code's own", not list(unnamed(call, needed)))
     checks.test("one with a number is found", list(unnamed(call.replace("maxRepeats", "3"), needed)) == ["f: sumOf"])
-    owns = [(path, SENDING if path.parents[1].name == "link" else LIMIT) for path in files("crates/*/specs/*.antt")]
-    needed = {(path.parents[1].name, path.stem): parameters(text_of(path), own) for path, own in owns}
+    needed = needed_in_tree()
+    for crate, file, name in [("transfer", "Calls", "beginOf"), ("device", "Handling", "handleOf")]:
+        checks.test(f"the parameters of {name}", needed[crate, file].get(name) == three["callOf"])
     paths = files("crates/*/src/**/*.rt")
     stated = [name for path in paths for name in re.findall("frameLimit|maxRepeats", text_of(path))]
     checks.test("such definitions are stated", len(stated) > 30, f"{len(stated)}")

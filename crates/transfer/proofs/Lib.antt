@@ -14,8 +14,10 @@ pub mod PayloadsExact
 pub mod AnswerRows
 pub mod FoundLaws
 pub mod PairRead
+pub mod Entries
 pub mod Histories
 pub mod Ranges
 pub mod Refusals
+pub mod EachCall
 pub mod WorkedTransfers
 pub mod WorkedRefusals

@@ -14,10 +14,12 @@ pub mod LogsComputed
 -- Claims: what is proved
 pub mod Ranges
 pub mod Refusals
+pub mod EachCall
 pub mod PiecesExact
 pub mod PayloadsExact
 pub mod AnswerRows
 pub mod PairRead
+pub mod Entries
 pub mod Histories
 pub mod WorkedTransfers
 pub mod WorkedRefusals
