@@ -3,16 +3,20 @@ use Prim.Native.Nat.{ℕ}
 use mathlib.Core.Path.{_≡_, refl, ap, _∙_}
 use mathlib.Core.Bool.{Bool, true, false, cond, _&&_, true≢false}
 use mathlib.Core.List.{List, [], _∷_}
-use lib.Dec.{eqb}
+use lib.Dec.{eqb, leb}
 use lib.ListN.{length}
 use Rattle.base.specs.Rows.{Row, row}
 use Rattle.base.specs.Outcomes.{Outcome, outcome, Output, output}
 use Rattle.base.specs.Keys.{among}
+use Rattle.base.proofs.Tests as tests
 use Rattle.base.proofs.Tests.{by-test}
 use Rattle.frame.specs.Wire.{commandOf, numberOf, flagsOf, payloadOf}
 use Rattle.message.specs.Replies.{replyOf}
-use Rattle.link.specs.Calls.{inRange, receiveOf}
+use Rattle.link.specs.Sending.{fitsOf}
+use Rattle.link.specs.Calls.{inRange, idleOf, receiveIn, receiveOf}
 use Rattle.link.specs.declared.state.Link.{Link}
+use Rattle.link.specs.declared.state.Wait.{Wait}
+use Rattle.link.specs.declared.state.Wait.the-variants.{Idle, Waiting}
 use Rattle.transfer.specs.Checks.{inRangeOf}
 use Rattle.transfer.specs.Calls.{Left, left, Both, both, Held, held, beginOf, storeOf, stopOf}
 use Rattle.transfer.specs.declared.state.Transfer.{Transfer}
@@ -26,8 +30,8 @@ module _ (first max : ℕ) (answer : Row) (body : List ℕ) (l : Link) where
   pub unheard : eqb (answer .number) 1 ≡ false → outcome (row 0 []) l ≡ heardOf first max answer body l
   unheard e = simp e
 
-  -- FRAME: `command` and `number` are what the code read of the body, `r` and `next` what the link said of them, and `x`
-  -- is the row of the wait that ended
+  -- FRAME: `command` and `number` are what the code read of the body, `r` and `next` what the link said of them, and
+  -- `x` is the row of the wait that ended
   pub heard : eqb (answer .number) 1 ≡ true → (command number : ℕ) → command ≡ commandOf body → number ≡ numberOf body
       → (r : Row) (next : Link) → outcome r next ≡ receiveOf first max l command number
       → (x : Row) → x ≡ endedIn r → outcome x next ≡ heardOf first max answer body l
@@ -37,6 +41,22 @@ module _ (first max : ℕ) (answer : Row) (body : List ℕ) (l : Link) where
       (received ∙ ap (λ (c : ℕ). receiveOf first max l c number) p
       ∙ ap (λ (n : ℕ). receiveOf first max l (commandOf body) n) q)
       ∙ simp e
+
+-- a link in range stays in range
+pub received-ranged : (first max : ℕ) (l : Link) (command number : ℕ) → inRange first max l ≡ true
+    → inRange first max (receiveOf first max l command number .state) ≡ true
+received-ranged first max l command number ranged =
+    by-test (λ (y : Outcome Link). inRange first max (y .state) ≡ true) (inRange first max l) (λ _. by-wait (l .wait))
+    λ _. ranged
+  where
+    idle : inRange first max (idleOf l) ≡ true
+    idle = rw (tests.both (leb first (l .next)) ranged .0)
+
+    by-wait : (w : Wait) → inRange first max (receiveIn w l command number .state) ≡ true
+    by-wait Idle = ranged
+    by-wait (Waiting waiting under sent repeats) =
+        by-test (λ (y : Outcome Link). inRange first max (y .state) ≡ true) (fitsOf command number waiting under)
+        (λ _. idle) λ _. ranged
 
 -- ---- the transfer: `a` is the row that the code answers, and `b` the row of the transfer's answer
 
@@ -132,5 +152,6 @@ module _ (limit first max : ℕ) (answer : Row) (body : List ℕ) (t : Transfer)
   unfolding handleOf
   answered linked ranged reply said p q =
       ap (λ (w : Output). answerOf limit first max w said body t clock piece buffer) p
-      ∙ ap (λ (y : Outcome Link). answerOf limit first max (replyOf limit answer body out) y body t clock piece buffer) q
+      ∙ ap (λ (y : Outcome Link). answerOf limit first max (replyOf limit answer body out) y body t clock piece buffer)
+      q
       ∙ in-both (inRange first max l) (inRangeOf t) _ _ linked ranged

@@ -1,6 +1,6 @@
--- Model: what the box does with an answer of the reader, composed from the models of `message`, `link` and `transfer`;
--- held to the rules by handle-exact, ended-exact, state-first, refused-kept and worked-frames. `limit` bounds the length
--- of a frame; `first` and `max` are the link's. PROTOCOL 8, 9.9, 9.15, 15.6 to 15.8, 15.14.
+-- Model: what the box does with an answer of the reader, composed from the models of `message`, `link` and `transfer`,
+-- and held to the rules by handle-exact, ended-exact, state-first, refused-kept and worked-frames. `limit` bounds the
+-- length of a frame; `first` and `max` are the link's. PROTOCOL 8, 9.9, 9.15, 15.6 to 15.8, 15.14.
 use Prim.Native.Nat.{ℕ}
 use mathlib.Core.Bool.{cond, _&&_}
 use mathlib.Core.List.{List, [], _∷_}

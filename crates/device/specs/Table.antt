@@ -1,5 +1,5 @@
--- Statement: the number and the values of each answer, and of the wait that the frame ended. PROTOCOL 8.13, 9.12, 15.6 to
--- 15.11.
+-- Statement: the number and the values of each answer, and of the wait that the frame ended. PROTOCOL 8.13, 9.12,
+-- 15.6 to 15.11.
 use mathlib.Core.List.{[], _∷_}
 use Rattle.base.specs.Rows.{Row, row}
 use Rattle.message.specs.Layouts.{codeNumber}
@@ -10,9 +10,9 @@ use Rattle.device.specs.declared.answers.Ended.the-variants as ended
 use Rattle.device.specs.declared.answers.HandleResult.{HandleResult}
 use Rattle.device.specs.declared.answers.HandleResult.the-variants as answer
 
--- what is not a refusal stands under 0: nothing; 0 bytes, the command that the caller is asked to send, and the received
--- sequence number; the count of what was written, and what follows it. A refusal of a 19, 1D or 1F has its own number,
--- and the size of the 12
+-- what is not a refusal stands under 0, which here is not MORE: nothing; 0 bytes, the command that the caller is asked
+-- to send, and the received sequence number; the count of what was written, then more of it. A refusal of a 19, 1D or
+-- 1F stands under its own number, with the size of the 12
 abbrev pub handleRowOf : HandleResult → Row
 handleRowOf answer.Nothing = row 0 []
 handleRowOf (answer.InformationWanted number) = row 0 (0 ∷ 0x02 ∷ number ∷ [])

@@ -16,6 +16,8 @@ pub mod FoundLaws
 pub mod PairRead
 pub mod Entries
 pub mod Histories
+pub mod OfferLaws
+pub mod LinkCalls
 pub mod Ranges
 pub mod Refusals
 pub mod EachCall

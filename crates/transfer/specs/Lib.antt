@@ -21,5 +21,6 @@ pub mod AnswerRows
 pub mod PairRead
 pub mod Entries
 pub mod Histories
+pub mod LinkCalls
 pub mod WorkedTransfers
 pub mod WorkedRefusals

@@ -21,5 +21,5 @@ begin-spec =
     let args = read .before .before .before .before .args in
     begun (heardBy (args .heard)) _ _ (c .from-arrived .ensures) _ _ _ (args .buffer .now) _
     (call .begin .ensures
-    ∙ ap (λ p. beginOf frameLimit firstNumber maxRepeats (args .transfer) (args .heard .link) (args .clock) (args .number)
-    p (args .piece) (length (args .buffer .now)) (args .out .now)) (read .payload .ensures .0)))
+    ∙ ap (λ p. beginOf frameLimit firstNumber maxRepeats (args .transfer) (args .heard .link) (args .clock)
+    (args .number) p (args .piece) (length (args .buffer .now)) (args .out .now)) (read .payload .ensures .0)))

@@ -1,10 +1,7 @@
 -- `handles::handle` tests the ranges first, gives the frame to the link, and goes by the reply of `message`.
-use mathlib.Core.Path.{_≡_, _∙_}
-use mathlib.Core.Bool.{true}
+use mathlib.Core.Path.{_∙_}
 use borrow.Author.Needs.{needs}
 use Rattle.base.proofs.Tests.{past, caught}
-use Rattle.link.specs.Sending.{firstNumber, maxRepeats}
-use Rattle.link.specs.Calls.{inRange}
 use Rattle.device.proofs.HandleLaws.{link-out, transfer-out, answered}
 use Rattle.device.proofs.handles.handle.Statement.{statement}
 use Rattle.device.proofs.handles.handle.Tie as tie

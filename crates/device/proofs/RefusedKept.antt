@@ -1,0 +1,68 @@
+-- What a refusal leaves as it was. Assumes nothing.
+use Prim.Native.Nat.{ℕ}
+use mathlib.Core.Path.{_≡_, refl, sym, ap, subst}
+use mathlib.Core.Logic.{_≢_}
+use mathlib.Core.Bool.{true, true≢false}
+use mathlib.Core.List.{List, [], _∷_}
+use lib.ListN.{length}
+use Rattle.base.specs.Rows.{Row}
+use Rattle.base.specs.Keys.{among}
+use Rattle.base.proofs.Tests.{either-way}
+use Rattle.frame.specs.Wire.{commandOf, numberOf, flagsOf, payloadOf}
+use Rattle.message.specs.declared.kind.Cause.the-variants as cause
+use Rattle.link.specs.Calls.{inRange}
+use Rattle.transfer.specs.Checks.{inRangeOf}
+use Rattle.transfer.specs.Calls.{Both, Held}
+use Rattle.device.specs.HandlingExact.{Given, leaves, Ranged, linkAfter}
+use Rattle.device.specs.RefusedKept.{Kept, RefusedKept}
+use Rattle.device.proofs.HandleLaws.{link-out, transfer-out}
+use Rattle.device.proofs.ReplyLaws.{plain, plain-reject}
+use Rattle.device.proofs.TransferLaws.{begin-arrives, store-arrives, stop-arrives}
+use Rattle.device.proofs.CaseLaws.{by-cases}
+
+-- none of the four numbers is 0
+not-done : (n : ℕ) → among n (17 ∷ 21 ∷ 22 ∷ 41 ∷ []) ≡ true → n ≢ 0
+unfolding among
+not-done n h z = absurd (true≢false (sym (rw z at h)))
+
+module _ (limit first max : ℕ) (g : Given) (answer : Row) (body : List ℕ) where
+  in-range : Ranged first max g → Kept g (leaves limit first max g answer body)
+  in-range ranged =
+      by-cases limit first max g body ranged (Kept g) answer
+      (λ _. record { transfer = λ _. refl; buffer = λ _. refl; out = λ _. refl })
+      (λ _. record {
+        transfer = λ _. refl;
+        buffer = λ _. refl;
+        out = λ h. plain-reject (g .out) limit (numberOf body) cause.Sum .unwritten (not-done _ h);
+      })
+      (λ _ o. record {
+        transfer = λ _. refl;
+        buffer = λ _. refl;
+        out = λ h.
+            plain (commandOf body) limit (numberOf body) (payloadOf body) (g .out) o .unwritten (not-done _ h);
+      })
+      (λ _ _. let a = begin-arrives limit first max (g .transfer) (linkAfter first max g body) (g .clock)
+      (numberOf body) (payloadOf body) (g .piece) (length (g .buffer)) (g .out) in
+      record {
+        transfer = λ n. ap (λ (s : Both). s .transfer) (a .stays n);
+        buffer = λ _. refl;
+        out = a .unwritten;
+      })
+      (λ _ _. let a = store-arrives limit (numberOf body) (flagsOf body) (payloadOf body) (g .buffer) (g .out)
+      (g .transfer) in
+      record {
+        transfer = λ n. ap (λ (s : Held). s .transfer) (a .stays n);
+        buffer = λ n. ap (λ (s : Held). s .buffer) (a .stays n);
+        out = a .unwritten;
+      })
+      λ _ _. let a = stop-arrives limit (g .transfer) (numberOf body) (payloadOf body) (g .out) in
+      record { transfer = a .stays; buffer = λ _. refl; out = a .unwritten }
+
+pub refused-kept : RefusedKept
+refused-kept limit first max g answer body =
+    either-way (inRange first max (g .link))
+    (λ l. either-way (inRangeOf (g .transfer)) (λ t. in-range limit first max g answer body (l, t))
+    λ t. subst (Kept g) (transfer-out limit first max answer body (g .transfer) (g .link) (g .clock) (g .piece)
+    (g .buffer) (g .out) t) (record { transfer = λ _. refl; buffer = λ _. refl; out = λ _. refl }))
+    λ l. subst (Kept g) (link-out limit first max answer body (g .transfer) (g .link) (g .clock) (g .piece)
+    (g .buffer) (g .out) l) (record { transfer = λ _. refl; buffer = λ _. refl; out = λ _. refl })

@@ -1,0 +1,22 @@
+-- Claims: what a refusal leaves as it was, of every link and transfer, in range or not. PROTOCOL 12.3, 15.11.
+use Prim.Native.Nat.{ℕ}
+use mathlib.Core.Path.{_≡_}
+use mathlib.Core.Logic.{_≢_}
+use mathlib.Core.Bool.{true}
+use mathlib.Core.List.{List, [], _∷_}
+use Rattle.base.specs.Rows.{Row}
+use Rattle.base.specs.Keys.{among}
+use Rattle.device.specs.Handling.{After}
+use Rattle.device.specs.HandlingExact.{Given, leaves}
+
+-- ---- refused-kept: under any number but 0 the transfer and the buffer are as they were; under STATE 17, PAYLOAD 21,
+-- ROOM 22 and BUSY 41 the output too
+pub record Kept (g : Given) (y : After) : Type 0 where
+  pub transfer : y .row .number ≢ 0 → y .transfer ≡ g .transfer
+  pub buffer : y .row .number ≢ 0 → y .buffer ≡ g .buffer
+  pub out : among (y .row .number) (17 ∷ 21 ∷ 22 ∷ 41 ∷ []) ≡ true → y .out ≡ g .out
+
+-- of every call
+abbrev pub RefusedKept : Type 0
+RefusedKept =
+    (limit first max : ℕ) (g : Given) (answer : Row) (body : List ℕ) → Kept g (leaves limit first max g answer body)
