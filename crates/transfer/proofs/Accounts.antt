@@ -1,27 +1,28 @@
 -- The transfer and the buffer are what calls and answers tell: an invariant, kept by each call. Assumes nothing.
-use Prim.Native.Nat.{ℕ, zero, suc, _+_, _-_, _*_, _≤_, _<_, min}
-use mathlib.Core.Path.{_≡_, refl, sym, ap, subst, _∙_}
+use Prim.Native.Nat.{ℕ, zero, suc, _+_, _-_, _*_, _≤_, _<_}
+use mathlib.Core.Path.{_≡_, refl, sym, ap, _∙_}
 use mathlib.Core.Bool.{true, false, not, _||_}
 use mathlib.Core.Logic.{_≢_}
 use mathlib.Core.List.{List, [], _∷_, _++_, map, append-nil, append-assoc}
 use native.Mathlib.Nat.{zero-mul, suc-mul}
 use native.Mathlib.Numerals.{add-one}
 use native.Mathlib.Omega.{arith, min-cases}
-use borrow.Author.Tests.{eq-eqb, ne-eqb, eqb-true, eqb-false, ltb-true, ltb-false, leb-true, le-leb}
-use lib.Dec.{eqb, ltb, leb}
+use borrow.Author.Tests.{ne-eqb, eqb-false, le-leb}
+use lib.Dec.{eqb, leb}
 use lib.ListN.{length, take, drop, length-append, length-drop}
 use lib.Seq.{length-take-le, take-at, drop-at, drop-drop}
 use Rattle.base.specs.Keys.{among}
 use Rattle.base.proofs.Keys.{among-none, among-next}
-use Rattle.base.proofs.Tests.{by-test, either-way, both}
-use Rattle.transfer.specs.Pieces.{maxPieces, piecesOf, startOf, pieceSize, bytesOf}
-use Rattle.transfer.specs.Checks.{firstRefusal, inRangeOf, storeTests}
+use Rattle.base.proofs.Tests.{either-way, both}
+use Rattle.transfer.specs.Pieces.{maxPieces, piecesOf, startOf, bytesOf}
+use Rattle.transfer.specs.Checks.{inRangeOf}
 use Rattle.transfer.specs.Calls.{putAt}
 use Rattle.transfer.specs.Logs.{Piece, numberOf, Account, none, since, withPiece, summed, joined, numbersFrom}
 use Rattle.transfer.specs.declared.state.Transfer.{Transfer}
 use Rattle.transfer.specs.declared.state.Transfer.the-variants.{Absent, Open}
-use Rattle.transfer.proofs.PieceLaws.{below-end, reaches-end}
-use Rattle.transfer.proofs.TestLaws.{Accepted, open-sizes, stored-one, next-index, next-listed, next-size, next-fits}
+use Rattle.transfer.proofs.PieceLaws.{below-end}
+use Rattle.transfer.proofs.TestLaws.{Accepted, open-sizes, stored-one, next-index, next-listed, next-size}
+use Rattle.transfer.proofs.TestLaws.{next-fits}
 
 -- ---- pieces one after another
 
@@ -219,13 +220,13 @@ module _ (size piece : ℕ) (start : List ℕ) (ps : List Piece) (t : Transfer) 
     pub next-told : Holds size piece start (withPiece p ps) (Open size piece index) put
     next-told =
         rw (next-new n) (
-          record {
-            is = ap (λ k. Open size piece k) (one-more ∙ sym longer);
-            ranged = rw longer in-range-still;
-            roomy = omega (arith, put-size, h .roomy);
-            numbers = numbered;
-            bytes = after-it ∙ more-bytes ∙ ap (λ k. bytesOf size piece k) (sym longer);
-            front = ap (λ k. take k put) after-it ∙ put-front;
-            rest = ap (λ k. drop k put) after-it ∙ put-rest ∙ ap (λ k. drop k start) (sym after-it);
-          }
+        record {
+          is = ap (λ k. Open size piece k) (one-more ∙ sym longer);
+          ranged = rw longer in-range-still;
+          roomy = omega (arith, put-size, h .roomy);
+          numbers = numbered;
+          bytes = after-it ∙ more-bytes ∙ ap (λ k. bytesOf size piece k) (sym longer);
+          front = ap (λ k. take k put) after-it ∙ put-front;
+          rest = ap (λ k. drop k put) after-it ∙ put-rest ∙ ap (λ k. drop k start) (sym after-it);
+        }
         )

@@ -17,7 +17,8 @@ use Rattle.link.specs.declared.state.Link.{Link}
 use Rattle.transfer.specs.Payloads.{faulty, sizeIn, codeIn, indexIn, totalIn, bytesIn}
 use Rattle.transfer.specs.Checks.{firstRefusal, inRangeOf, beginTests, storeTests, stopTests}
 use Rattle.transfer.specs.Writing.{rowed, acknowledged, refusedOf, pairOf}
-use Rattle.transfer.specs.Calls.{left, settled, Both, both, beginWith, beginOf, held, putIn, Fits, storeOf, stopOf, cancelWith, cancelOf}
+use Rattle.transfer.specs.Calls.{left, settled, Both, both, beginWith, beginOf, held, putIn, Fits, storeOf}
+use Rattle.transfer.specs.Calls.{stopOf, cancelWith, cancelOf}
 use Rattle.transfer.specs.declared.state.Transfer.{Transfer}
 use Rattle.transfer.specs.declared.state.Transfer.the-variants.{Absent, Open}
 use Rattle.transfer.proofs.TestLaws.{passes, held-by, open-sizes, accepted, next-fits}
@@ -83,7 +84,8 @@ module _ (limit : ℕ) (t : Transfer) (number : ℕ) (payload out : List ℕ) (m
 
   pub stop-refused : eqb n 0 ≡ false → left (refusedOf limit n number out) t ≡ stopOf limit t number payload out
   stop-refused h =
-      by-refusal (settled (acknowledged limit 0x20 number out) t Absent) (λ k. left (refusedOf limit k number out) t) n _
+      by-refusal (settled (acknowledged limit 0x20 number out) t Absent) (λ k. left (refusedOf limit k number out) t) n
+      _
       stop-said h
 
 -- `r` and `next` are what the link said of the 27
@@ -134,7 +136,8 @@ module _ (limit : ℕ) (t : Transfer) (number flags : ℕ) (payload buffer out :
       → left (refusedOf limit n number out) (held t buffer) ≡ storeOf limit t number flags payload buffer out
   store-refused h =
       by-refusal (settled (acknowledged limit 0x1E number out) (held t buffer)
-      (putIn t (indexIn payload) (bytesIn payload) buffer)) (λ k. left (refusedOf limit k number out) (held t buffer)) n _
+      (putIn t (indexIn payload) (bytesIn payload) buffer)) (λ k. left (refusedOf limit k number out) (held t buffer))
+      n _
       store-said h
 
 -- an accepted piece has room
@@ -152,13 +155,15 @@ store-fits (Open size piece stored) flags misread index total bytes buffer e = �
 
 module _ (before next : Both) (limit number link piece : ℕ) (code out : List ℕ) where
   -- the pair that was written changes transfer and link
-  pub begun-wrote : (count ready : ℕ) (o : List ℕ) → output (beganRow count ready) o ≡ pairOf limit number link piece code out
+  pub begun-wrote : (count ready : ℕ) (o : List ℕ) → output (beganRow count ready) o
+      ≡ pairOf limit number link piece code out
       → left (output (beganRow count ready) o) next ≡ settled (pairOf limit number link piece code out) before next
   begun-wrote count ready o e =
       subst (λ (w : Output). left (output (beganRow count ready) o) next ≡ settled w before next) e refl
 
   -- a refusal does not
-  pub begun-kept : (a : Row) (o : List ℕ) → eqb (a .number) 0 ≡ false → output a o ≡ pairOf limit number link piece code out
+  pub begun-kept : (a : Row) (o : List ℕ) → eqb (a .number) 0 ≡ false → output a o
+      ≡ pairOf limit number link piece code out
       → left (output a o) before ≡ settled (pairOf limit number link piece code out) before next
   begun-kept a o n e = subst (λ (w : Output). left (output a o) before ≡ settled w before next) e (simp n)
 
@@ -180,7 +185,8 @@ module _ (limit first max : ℕ) (t : Transfer) (l : Link) (clock number : ℕ) 
       ≡ beginOf limit first max t l clock number payload piece room out
   begin-accepted z =
       ap (λ c. settled (pairOf limit number (l .next) piece c out) (both t l) (both (Open size piece 0) next)) d
-      ∙ ap (λ k. settled (pairOf limit number (l .next) piece (codeIn payload) out) (both t l) (both (Open k piece 0) next)) s
+      ∙ ap (λ k. settled (pairOf limit number (l .next) piece (codeIn payload) out) (both t l)
+      (both (Open k piece 0) next)) s
       ∙ by-none _ (λ k. left (refusedOf limit k number out) (both t l)) _ (sym z ∙ begin-said)
       ∙ ap (λ (y : Outcome Link). beginWith limit first max t l y number payload piece room out) offered
 
@@ -188,5 +194,6 @@ module _ (limit first max : ℕ) (t : Transfer) (l : Link) (clock number : ℕ) 
       → left (refusedOf limit n number out) (both t l) ≡ beginOf limit first max t l clock number payload piece room out
   begin-refused h =
       by-refusal (settled (pairOf limit number (l .next) piece (codeIn payload) out) (both t l)
-      (both (Open (sizeIn payload) piece 0) next)) (λ k. left (refusedOf limit k number out) (both t l)) n _ begin-said h
+      (both (Open (sizeIn payload) piece 0) next)) (λ k. left (refusedOf limit k number out) (both t l)) n _ begin-said
+      h
       ∙ ap (λ (y : Outcome Link). beginWith limit first max t l y number payload piece room out) offered

@@ -12,7 +12,7 @@ use Rattle.base.specs.Same.{sameBytes}
 use Rattle.base.proofs.Tests.{either-way}
 use Rattle.base.proofs.SameExact.{same-exactly}
 use Rattle.base.specs.Numbers.{two}
-use Rattle.base.specs.Rows.{Row, row}
+use Rattle.base.specs.Rows.{row}
 use Rattle.base.specs.Outcomes.{Outcome, outcome, Output, output, onto}
 use Rattle.frame.specs.Wire.{frameOf}
 use Rattle.base.specs.Keys.{among}
@@ -25,13 +25,15 @@ use Rattle.transfer.specs.Checks.{firstRefusal, inRangeOf, sizeTests, be
 use Rattle.transfer.specs.Checks.{hexLines, inTurn, rightBytes, openTests, storeTests}
 use Rattle.transfer.specs.Pieces.{piecesOf}
 use Rattle.transfer.specs.Writing.{acknowledged, refusedOf, readyPayload, pairWire, pairOf}
-use Rattle.transfer.specs.Calls.{Left, left, settled, Both, both, Held, held, putIn, storeOf, beginWith, beginOf, stopOf, cancelWith, cancelOf}
+use Rattle.transfer.specs.Calls.{Left, left, settled, Both, both, Held, held, putIn, storeOf, beginWith}
+use Rattle.transfer.specs.Calls.{beginOf, stopOf, cancelWith}
 use Rattle.transfer.specs.Refusals.{twelve}
 use Rattle.transfer.specs.EachCall.{Rejected, Written, Sent, linkAfter, BeginExact, StoreExact, CallsAlways}
 use Rattle.transfer.specs.declared.state.Transfer.{Transfer}
 use Rattle.transfer.specs.declared.state.Transfer.the-variants.{Absent, Open}
 use Rattle.transfer.proofs.TestLaws.{or-true, open-sizes}
-use Rattle.transfer.proofs.PieceLaws.{few-pieces, many-pieces, reaches-end, below-more, right-total, inside, outside}
+use Rattle.transfer.proofs.PieceLaws.{few-pieces, many-pieces, reaches-end, below-more, right-total, inside}
+use Rattle.transfer.proofs.PieceLaws.{outside}
 
 -- ---- by the number of the first refusal
 
@@ -61,8 +63,16 @@ module _ {S : Type 0} (limit : ℕ) (enough : 6 ≤ limit) (before next : S) (co
   sent-settled : Sent S command number out before next (settled (acknowledged limit command number out) before next)
   sent-settled =
       record {
-        fits = λ l. rw (le-ltb limit 5 (omega (arith, enough)), le-ltb (length out) (length (frameOf command number 0 [])) l);
-        room = λ l. rw (le-ltb limit 5 (omega (arith, enough)), lt-ltb (length out) (length (frameOf command number 0 [])) l);
+        fits = λ l. rw (
+          le-ltb limit 5 (omega (arith, enough)),
+          le-ltb (length out)
+              (length (frameOf command number 0 [])) l,
+        );
+        room = λ l. rw (
+          le-ltb limit 5 (omega (arith, enough)),
+          lt-ltb (length out)
+              (length (frameOf command number 0 [])) l,
+        );
       }
 
   -- where no test refuses
@@ -104,7 +114,8 @@ module _ (limit : ℕ) (enough : 6 ≤ limit) (t : Transfer) (ranged : inRangeOf
 
   stops : faulty 0x1F payload ≡ false → Sent _ 0x20 number out t Absent (stopOf limit t number payload out)
   stops f =
-      sent limit enough t Absent 0x20 number out number (firstRefusal (stopTests t (faulty 0x1F payload))) (rw (ranged, f))
+      sent limit enough t Absent 0x20 number out number (firstRefusal (stopTests t (faulty 0x1F payload)))
+      (rw (ranged, f))
 
 -- `offered` is what the link says
 module _ (limit first max : ℕ) (enough : 6 ≤ limit) (t : Transfer) (l : Link) (out : List ℕ)
@@ -212,7 +223,8 @@ module _ (limit first max : ℕ) (enough : 6 ≤ limit) (t : Transfer) (l : Link
           let e = length-append (codeIn payload) (two piece []) in
           le-ltb limit (length (readyPayload piece (codeIn payload)) + 5) (omega (arith, e, h))
 
-  begin-exact : (clock : ℕ) → BeginExact first max t l number payload piece room out (linkAfter first l 0x1B clock) limit
+  begin-exact : (clock : ℕ) → BeginExact first max t l number payload piece room out (linkAfter first l 0x1B clock)
+      limit
       (beginOf limit first max t l clock number payload piece room out)
   begin-exact clock =
       let idle = offer-idle first max l 0x1B clock linked ready-waits in
@@ -266,7 +278,8 @@ module _ (limit : ℕ) (enough : 6 ≤ limit) (size piece stored number flags : 
   sizes : (1 ≤ size) × (1 ≤ piece)
   sizes = open-sizes size piece stored ranged
 
-  all-tests : firstRefusal (storeTests (Open size piece stored) flags (faulty 0x1D payload) index total bytes buffer) ≡ tests
+  all-tests : firstRefusal (storeTests (Open size piece stored) flags (faulty 0x1D payload) index total bytes buffer)
+      ≡ tests
   all-tests = rw (ranged, f)
 
   store-refused : (k : ℕ) → tests ≡ k → eqb k 0 ≡ false → eqb k 17 ≡ false → eqb k 41 ≡ false
@@ -306,10 +319,12 @@ module _ (limit : ℕ) (enough : 6 ≤ limit) (size piece stored number flags : 
         not-turn : inTurn index total stored ≡ false → tests ≡ 65
         not-turn h = rw (fits-buffer, not-hex, counted, h)
 
-        not-right : inTurn index total stored ≡ true → rightBytes size piece stored index bytes buffer ≡ false → tests ≡ 66
+        not-right : inTurn index total stored ≡ true → rightBytes size piece stored index bytes buffer ≡ false → tests
+            ≡ 66
         not-right h k = rw (fits-buffer, not-hex, counted, h, k)
 
-        all-right : inTurn index total stored ≡ true → rightBytes size piece stored index bytes buffer ≡ true → tests ≡ 0
+        all-right : inTurn index total stored ≡ true → rightBytes size piece stored index bytes buffer ≡ true → tests
+            ≡ 0
         all-right h k = rw (fits-buffer, not-hex, counted, h, k)
 
         far : index ≢ stored → index ≢ stored + 1 → inTurn index total stored ≡ false
@@ -323,12 +338,22 @@ module _ (limit : ℕ) (enough : 6 ≤ limit) (size piece stored number flags : 
           beyond : size ≤ stored * piece → inTurn index total stored ≡ false
           beyond h =
               let few = outside size piece (sizes .1) stored h in
-              rw (ne-eqb index stored other, eq-eqb index (stored + 1) e, lt-leb index total (omega (arith, e, few, total-right)))
+              rw (
+                ne-eqb index stored other,
+                eq-eqb index (stored + 1) e,
+                lt-leb index total
+                    (omega (arith, e, few, total-right)),
+              )
 
           turned : stored * piece < size → inTurn index total stored ≡ true
           turned h =
               let listed = inside size piece (sizes .1) stored h in
-              rw (ne-eqb index stored other, eq-eqb index (stored + 1) e, le-leb index total (omega (arith, e, listed, total-right)))
+              rw (
+                ne-eqb index stored other,
+                eq-eqb index (stored + 1) e,
+                le-leb index total
+                    (omega (arith, e, listed, total-right)),
+              )
 
           next-right : (b : Bool) → eqb (length bytes) (min piece (size - stored * piece)) ≡ b
               → rightBytes size piece stored index bytes buffer ≡ b
@@ -348,7 +373,8 @@ module _ (limit : ℕ) (enough : 6 ≤ limit) (size piece stored number flags : 
           again-turn h = rw (eq-eqb index stored e, lt-ltb 0 stored h)
 
           again-same : (b : Bool)
-              → sameBytes bytes (take (min piece (size - (stored - 1) * piece)) (drop ((stored - 1) * piece) buffer)) ≡ b
+              → sameBytes bytes (take (min piece (size - (stored - 1) * piece)) (drop ((stored - 1) * piece) buffer))
+              ≡ b
               → rightBytes size piece stored index bytes buffer ≡ b
           again-same b q = rw (eq-eqb index stored e) q
 
@@ -396,7 +422,8 @@ module _ (limit : ℕ) (enough : 6 ≤ limit) (number flags : ℕ) (payload buff
   misread-store t ranged f =
       rejected limit enough (held t buffer) (putIn t (indexIn payload) (bytesIn payload) buffer) number
       (acknowledged limit 0x1E number out) out 32
-      (firstRefusal (storeTests t flags (faulty 0x1D payload) (indexIn payload) (totalIn payload) (bytesIn payload) buffer))
+      (firstRefusal (storeTests t flags (faulty 0x1D payload) (indexIn payload) (totalIn payload) (bytesIn payload)
+      buffer))
       (rw (ranged, f)) refl refl refl
 
   absent-store : (k : ℕ) → faulty 0x1D payload ≡ false → cond (hexLines flags) 64 65 ≡ k → eqb k 0 ≡ false

@@ -36,7 +36,10 @@ unfolding transferAfter bufferAfter
 log-exact =
     record {
       logs = λ limit first max t buffer calls.
-          record { all-calls = calls-in limit first max t buffer calls; chains = chained limit first max t buffer calls };
+          record {
+            all-calls = calls-in limit first max t buffer calls;
+            chains = chained limit first max t buffer calls;
+          };
       none-after = λ t buffer. (refl, refl);
       last-after = λ t buffer e es. (refl, refl);
     }

@@ -1,8 +1,7 @@
 -- The history of every list of calls of a fresh transfer. Assumes nothing.
 use Prim.Native.Nat.{ℕ, suc, _*_}
 use mathlib.Core.Path.{_≡_, refl, sym, ap, subst, _∙_}
-use mathlib.Core.Bool.{Bool, true, false, not, true≢false}
-use mathlib.Core.Logic.{_⊎_, inl, inr}
+use mathlib.Core.Bool.{Bool, true, false, true≢false}
 use mathlib.Core.List.{List, [], _∷_, _++_}
 use native.Mathlib.Omega.{arith, min-cases}
 use borrow.Author.Tests.{eq-eqb}
@@ -19,16 +18,16 @@ use Rattle.transfer.specs.Checks.{stopTests, cancelTests}
 use Rattle.transfer.specs.Writing.{acknowledged, pairOf}
 use Rattle.transfer.specs.Calls.{both, held, putIn, progressOf}
 use Rattle.transfer.specs.Logs.{Call, beginning, storing, stopping, cancelling, Entry, transferAfter, bufferAfter}
-use Rattle.transfer.specs.Logs.{Account, none, since, accountStep, accountAfter, summed}
+use Rattle.transfer.specs.Logs.{Account, none, since, accountStep, accountAfter}
 use Rattle.transfer.specs.LogsComputed.{callOf, entryOf, logOf}
-use Rattle.transfer.specs.History.{progressRow, Receiving, Stored, LinkOut, History}
+use Rattle.transfer.specs.History.{progressRow, Stored, LinkOut}
 use Rattle.transfer.specs.Histories.{TransferHistory}
 use Rattle.transfer.specs.declared.state.Transfer.{Transfer}
 use Rattle.transfer.specs.declared.state.Transfer.the-variants.{Absent, Open}
 use Rattle.transfer.proofs.PieceLaws.{reaches-end}
 use Rattle.transfer.proofs.TestLaws.{open-sizes}
 use Rattle.transfer.proofs.Outcomes.{Others, other-refusal, acknowledged-other, pair-other, not-state}
-use Rattle.transfer.proofs.Accounts.{Holds, Told, told-ranged}
+use Rattle.transfer.proofs.Accounts.{Told, told-ranged}
 use Rattle.transfer.proofs.Moves.{begin-keeps, store-keeps, stop-keeps, cancel-keeps}
 
 -- ---- STATE is a link's
@@ -55,15 +54,18 @@ module _ (limit first max : ℕ) (t : Transfer) (buffer : List ℕ) (ranged : in
   no-state {n} h e = true≢false (sym (eq-eqb n 17 e) ∙ h)
 
   pub state-link : (c : Call) → callOf limit first max t buffer c .row .number ≡ 17 → LinkOut first max c
-  state-link (beginning l clock number payload piece out) e = either-way (inRange first max l) (λ h. absurd (no-state (other h) e)) (λ h. h)
+  state-link (beginning l clock number payload piece out) e = either-way (inRange first max l)
+      (λ h. absurd (no-state (other h) e)) (λ h. h)
     where
       other : inRange first max l ≡ true
           → eqb (callOf limit first max t buffer (beginning l clock number payload piece out) .row .number) 17 ≡ false
       other h =
           not-state (both t l) (both (Open (sizeIn payload) piece 0) (offerOf first max l 0x1B clock .state)) limit
-          (firstRefusal (beginTests first max t l (eqb (offerOf first max l 0x1B clock .row .number) 41) (faulty 0x19 payload) (sizeIn payload) piece (length buffer)))
+          (firstRefusal (beginTests first max t l (eqb (offerOf first max l 0x1B clock .row .number) 41)
+          (faulty 0x19 payload) (sizeIn payload) piece (length buffer)))
           number (pairOf limit number (l .next) piece (codeIn payload) out) out
-          (begin-others first max t l (eqb (offerOf first max l 0x1B clock .row .number) 41) ranged h (faulty 0x19 payload)
+          (begin-others first max t l (eqb (offerOf first max l 0x1B clock .row .number) 41) ranged h
+          (faulty 0x19 payload)
           (sizeIn payload) piece (length buffer))
           (pair-other limit number (l .next) piece (codeIn payload) out)
   state-link (storing number flags payload out) e = no-state other e
@@ -92,7 +94,8 @@ module _ (limit first max : ℕ) (t : Transfer) (buffer : List ℕ) (ranged : in
           → eqb (callOf limit first max t buffer (cancelling l clock out) .row .number) 17 ≡ false
       other h =
           not-state (both t l) (both Absent (offerOf first max l 0x27 clock .state)) limit
-          (firstRefusal (cancelTests first max t l (eqb (offerOf first max l 0x27 clock .row .number) 41))) 0 (acknowledged limit 0x27 (l .next) out) out
+          (firstRefusal (cancelTests first max t l (eqb (offerOf first max l 0x27 clock .row .number) 41))) 0
+          (acknowledged limit 0x27 (l .next) out) out
           (cancel-others first max t l (eqb (offerOf first max l 0x27 clock .row .number) 41) ranged h)
           (acknowledged-other limit 0x27 (l .next) out)
 
@@ -117,7 +120,8 @@ nil-cons e = let n : _≡_ {A = ℕ} 0 (suc _) = ap length e in absurd (omega ar
 
 module _ (limit first max : ℕ) where
   keeps : (a : Account) (t : Transfer) (buffer : List ℕ) → Told a t buffer → (c : Call)
-      → Told (accountStep a (entryOf c (callOf limit first max t buffer c))) (callOf limit first max t buffer c .transfer)
+      → Told (accountStep a (entryOf c (callOf limit first max t buffer c)))
+      (callOf limit first max t buffer c .transfer)
       (callOf limit first max t buffer c .buffer)
   keeps a t buffer h (beginning l clock number payload piece out) =
       begin-keeps limit first max a t buffer h l clock number payload piece out
@@ -150,7 +154,8 @@ module _ (limit first max : ℕ) where
       (ap (λ (x : Entry). x .row .number) first-is ∙ n))
   state-only a t buffer h (c ∷ cs) (b ∷ bs) e after q =
       state-only (accountStep a (entryOf c (callOf limit first max t buffer c)))
-      (callOf limit first max t buffer c .transfer) (callOf limit first max t buffer c .buffer) (keeps a t buffer h c) cs bs
+      (callOf limit first max t buffer c .transfer) (callOf limit first max t buffer c .buffer) (keeps a t buffer h c)
+      cs bs
       e after (tail-same q)
 
 -- ---- what is told, as the history says it

@@ -1,18 +1,19 @@
 -- Each call keeps what is told, and is STATE only by a link. Assumes nothing.
 use Prim.Native.Nat.{ℕ}
-use mathlib.Core.Path.{_≡_, refl, sym, ap, subst, _∙_}
+use mathlib.Core.Path.{_≡_, refl, sym, ap, subst}
 use mathlib.Core.Bool.{Bool, true, false, cond, not, _||_, true≢false}
-use mathlib.Core.List.{List, [], _∷_}
-use borrow.Author.Tests.{eq-eqb, ltb-false, eqb-true, eqb-false}
+use mathlib.Core.List.{List, []}
+use borrow.Author.Tests.{ltb-false, eqb-true, eqb-false}
 use lib.Dec.{eqb, ltb}
 use lib.ListN.{length}
-use Rattle.base.specs.Numbers.{twoAt, fourAt}
-use Rattle.base.proofs.Tests.{by-test, either-way}
+use Rattle.base.specs.Numbers.{fourAt}
+use Rattle.base.proofs.Tests.{by-test}
 use Rattle.link.specs.Calls.{inRange, offerOf}
 use Rattle.link.specs.declared.state.Link.{Link}
 use Rattle.transfer.specs.Pieces.{maxPieces, piecesOf}
 use Rattle.transfer.specs.Payloads.{faulty, sizeIn, codeIn, indexIn, totalIn, bytesIn}
-use Rattle.transfer.specs.Checks.{firstRefusal, inRangeOf, hexLines, beginTests, storeTests, stopTests, cancelTests}
+use Rattle.transfer.specs.Checks.{firstRefusal, inRangeOf, hexLines, beginTests, storeTests, stopTests}
+use Rattle.transfer.specs.Checks.{cancelTests}
 use Rattle.transfer.specs.Writing.{acknowledged, pairOf}
 use Rattle.transfer.specs.Calls.{Left, Both, both, Held, held, putIn, beginOf, storeOf, stopOf, cancelOf}
 use Rattle.transfer.specs.Logs.{Call, beginning, storing, stopping, cancelling, Account, none, since, pieceIn}
@@ -30,7 +31,8 @@ use Rattle.transfer.proofs.Accounts.{Holds, Told, begins, again-told, n
 module _ (flags : ℕ) (payload buffer : List ℕ) where
   abbrev pieceNumber : Transfer → ℕ
   pieceNumber t =
-      firstRefusal (storeTests t flags (faulty 0x1D payload) (indexIn payload) (totalIn payload) (bytesIn payload) buffer)
+      firstRefusal (storeTests t flags (faulty 0x1D payload) (indexIn payload) (totalIn payload) (bytesIn payload)
+      buffer)
 
   abbrev pieceHeld : Transfer → Held
   pieceHeld t = putIn t (indexIn payload) (bytesIn payload) buffer
@@ -54,7 +56,8 @@ module _ (flags : ℕ) (payload buffer : List ℕ) where
     open-told =
         let p = passes (not (inRangeOf (Open size piece (length ps)))) 17 refl z in
         let q = passes (faulty 0x1D payload) 32 refl (p .1) in
-        let a = accepted size piece (length ps) flags (indexIn payload) (totalIn payload) (bytesIn payload) buffer (q .1) in
+        let a = accepted size piece (length ps) flags (indexIn payload) (totalIn payload) (bytesIn payload) buffer
+        (q .1) in
         let i = sym (index-read payload (q .0)) in
         let b = sym (bytes-read payload (q .0)) in
         by-test (λ (y : Held). Holds size piece start (withPiece (pieceIn payload) ps) (y .transfer) (y .buffer))
@@ -87,7 +90,8 @@ module _ (limit first max : ℕ) (a : Account) (t : Transfer) (buffer : List ℕ
   moved : (n : ℕ) (x : Account) (made now : Transfer) (b : List ℕ) → eqb n 0 ≡ true → made ≡ now → Told x now b
       → Told (cond (eqb n 0) x a) made b
   moved n x made now b e q h =
-      subst (λ (u : Transfer). Told (cond (eqb n 0) x a) u b) (sym q) (subst (λ (k : Bool). Told (cond k x a) now b) (sym e) h)
+      subst (λ (u : Transfer). Told (cond (eqb n 0) x a) u b) (sym q)
+      (subst (λ (k : Bool). Told (cond k x a) now b) (sym e) h)
 
   stayed : (n : ℕ) (x : Account) (made : Transfer) (b : List ℕ) → eqb n 0 ≡ false → made ≡ t → b ≡ buffer
       → Told (cond (eqb n 0) x a) made b
@@ -100,7 +104,8 @@ module _ (limit first max : ℕ) (a : Account) (t : Transfer) (buffer : List ℕ
   module _ (l : Link) (clock number : ℕ) (payload : List ℕ) (piece : ℕ) (out : List ℕ) where
     abbrev beginNumber : ℕ
     beginNumber =
-        firstRefusal (beginTests first max t l (eqb (offerOf first max l 0x1B clock .row .number) 41) (faulty 0x19 payload)
+        firstRefusal (beginTests first max t l (eqb (offerOf first max l 0x1B clock .row .number) 41)
+        (faulty 0x19 payload)
         (sizeIn payload) piece (length buffer))
 
     begun : 0 ≡ beginNumber → Holds (fourAt payload 0) piece buffer [] (Open (sizeIn payload) piece 0) buffer
@@ -124,7 +129,8 @@ module _ (limit first max : ℕ) (a : Account) (t : Transfer) (buffer : List ℕ
 
     pub begin-keeps : After (beginning l clock number payload piece out)
     begin-keeps =
-        go (went (both t l) ready limit beginNumber number (pairOf limit number (l .next) piece (codeIn payload) out) out)
+        go (went (both t l) ready limit beginNumber number (pairOf limit number (l .next) piece (codeIn payload) out)
+        out)
       where
         go : Went (both t l) ready began beginNumber → After (beginning l clock number payload piece out)
         go (done e z s) =
@@ -153,7 +159,8 @@ module _ (limit first max : ℕ) (a : Account) (t : Transfer) (buffer : List ℕ
             moved (cancelled .row .number) none (cancelled .state .transfer) Absent buffer e
             (ap (λ (b : Both). b .transfer) s) refl
         go (kept e s) =
-            stayed (cancelled .row .number) none (cancelled .state .transfer) buffer e (ap (λ (b : Both). b .transfer) s) refl
+            stayed (cancelled .row .number) none (cancelled .state .transfer) buffer e
+            (ap (λ (b : Both). b .transfer) s) refl
 
   module _ (number : ℕ) (payload out : List ℕ) where
     abbrev stopNumber : ℕ
@@ -173,7 +180,8 @@ module _ (limit first max : ℕ) (a : Account) (t : Transfer) (buffer : List ℕ
   module _ (number flags : ℕ) (payload out : List ℕ) where
     abbrev storeNumber : ℕ
     storeNumber =
-        firstRefusal (storeTests t flags (faulty 0x1D payload) (indexIn payload) (totalIn payload) (bytesIn payload) buffer)
+        firstRefusal (storeTests t flags (faulty 0x1D payload) (indexIn payload) (totalIn payload) (bytesIn payload)
+        buffer)
 
     abbrev stores : Left Held
     stores = storeOf limit t number flags payload buffer out

@@ -33,7 +33,8 @@ other-refusal k (t ∷ ts) z h =
 -- a row that is rewritten where it was 0 keeps away from a number
 module _ (k : ℕ) (f : ℕ → Row) (made : (n : ℕ) → eqb (f n .number) k ≡ false) where
   rowed-other : (w : Output) → eqb (w .row .number) k ≡ false → eqb (rowed f w .row .number) k ≡ false
-  rowed-other w h = by-test (λ (v : Output). eqb (v .row .number) k ≡ false) (eqb (w .row .number) 0) (λ _. made _) (λ _. h)
+  rowed-other w h = by-test (λ (v : Output). eqb (v .row .number) k ≡ false) (eqb (w .row .number) 0) (λ _. made _)
+      (λ _. h)
 
 -- a frame is written, or it is PAYLOAD or ROOM
 write-other : (k limit command number flags : ℕ) (payload out : List ℕ) → eqb 21 k ≡ false → eqb 22 k ≡ false
@@ -102,7 +103,8 @@ module _ {S : Type 0} (before next : S) where
 
   -- STATE comes only from the tests
   pub not-state : (limit n number : ℕ) (w : Output) (out : List ℕ) → eqb n 17 ≡ false → eqb (w .row .number) 17 ≡ false
-      → eqb (cond (eqb n 0) (settled w before next) (left (refusedOf limit n number out) before) .row .number) 17 ≡ false
+      → eqb (cond (eqb n 0) (settled w before next) (left (refusedOf limit n number out) before) .row .number) 17
+      ≡ false
   not-state limit n number w out h k =
       by-test (λ (y : Left S). eqb (y .row .number) 17 ≡ false) (eqb n 0) (λ _. k)
       (λ _. refused-other limit n number out h)

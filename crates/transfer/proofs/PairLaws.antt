@@ -1,12 +1,12 @@
 -- The 1A and the 1B, written one behind the other. Assumes nothing.
 use Prim.Native.Nat.{ℕ, _+_, _-_, _≤_, _<_, min}
 use mathlib.Core.Path.{_≡_, refl, sym, ap, subst, _∙_}
-use mathlib.Core.Bool.{Bool, true, false, cond, true≢false}
+use mathlib.Core.Bool.{true, false, cond, true≢false}
 use mathlib.Core.Logic.{_≢_}
 use mathlib.Core.List.{List, [], _∷_, _++_, append-nil, append-assoc}
 use native.Mathlib.Omega.{arith, min-cases}
-use borrow.Author.Tests.{eq-eqb, lt-ltb, le-ltb, ltb-true, ltb-false, leb-true, leb-false}
-use lib.Dec.{eqb, ltb, leb}
+use borrow.Author.Tests.{eq-eqb, lt-ltb, le-ltb, ltb-true, ltb-false, leb-false}
+use lib.Dec.{eqb, ltb}
 use lib.ListN.{length, take, drop, length-append, length-drop, drop-of-length-le, take-append-drop}
 use lib.Seq.{drop-drop, length-take-le, drop-at}
 use Rattle.base.specs.Rows.{Row, row}
@@ -29,7 +29,8 @@ use Rattle.transfer.specs.Writing.{after, readyPayload, pairOf}
 -- a call that is lent the rest of an output, from a place on
 pub rest-written : (out : List ℕ) (from : ℕ) (f : List ℕ → Output) (a : Row) (o : List ℕ)
     → output a o ≡ f (take (length out - from) (drop from out))
-    → output a (take from out ++ (o ++ drop (length out - from) (drop from out))) ≡ after (take from out) (f (drop from out))
+    → output a (take from out ++ (o ++ drop (length out - from) (drop from out)))
+    ≡ after (take from out) (f (drop from out))
 rest-written out from f a o e =
     let none : length (drop from out) ≤ length out - from = omega (arith, length-drop from out) in
     rw (drop-of-length-le (drop from out) none, append-nil)
@@ -37,7 +38,8 @@ rest-written out from f a o e =
 
 -- the 1B that `message` writes
 pub ready-sent : (limit piece number : ℕ) (code out : List ℕ) → sendOf limit (Ready piece) number 0 code out
-    ≡ cond (countable (length code)) (writeOf limit 0x1B number 0 (readyPayload piece code) out) (output (row 32 []) out)
+    ≡ cond (countable (length code)) (writeOf limit 0x1B number 0 (readyPayload piece code) out)
+    (output (row 32 []) out)
 unfolding table profileIn
 ready-sent limit piece number code out = refl
 
@@ -137,7 +139,8 @@ module _ (limit number next piece : ℕ) (code out : List ℕ) where
     -- ---- what the call answers, by the row of the second; `at` and `ready` are the places that the code found
 
     pub at-from : (ready at : ℕ) → ready ≡ length first → at ≡ min ready (length out) → (v : Output)
-        → v ≡ after (take at out) (sendOf limit (Ready piece) next 0 code (drop at out)) → v ≡ after (take from out) sent
+        → v ≡ after (take at out) (sendOf limit (Ready piece) next 0 code (drop at out)) → v
+        ≡ after (take from out) sent
     at-from ready at r q v e =
         subst (λ k. v ≡ after (take k out) (sendOf limit (Ready piece) next 0 code (drop k out)))
         (q ∙ ap (λ k. min k (length out)) r) e
@@ -156,7 +159,8 @@ module _ (limit number next piece : ℕ) (code out : List ℕ) where
         numbers n v l q = ap (λ (w : Output). w .row .number) (e ∙ ap (λ (w : Output). after (take from out) w) q)
 
         go : Sent → output payloadRow o ≡ both
-        go (long n v h k s b) = ap (λ (l : List ℕ). output payloadRow l) (rejoined a e (ap (λ (w : Output). w .out) s)) ∙ sym b
+        go (long n v h k s b) = ap (λ (l : List ℕ). output payloadRow l) (rejoined a e (ap (λ (w : Output). w .out) s))
+            ∙ sym b
         go (no-room s b) = absurd (true≢false (sym (eq-eqb (a .number) 22 (numbers 22 _ _ s)) ∙ t))
         go (wrote s f l b) = absurd (true≢false (sym (eq-eqb (a .number) 0 (numbers 0 _ _ s)) ∙ z))
 
@@ -168,7 +172,8 @@ module _ (limit number next piece : ℕ) (code out : List ℕ) where
 
         go : Sent → output roomRow o ≡ both
         go (long n v h k s b) = absurd (true≢false (sym (eq-eqb n 22 (sym (numbers n v _ s))) ∙ k))
-        go (no-room s b) = ap (λ (l : List ℕ). output roomRow l) (rejoined roomRow e (ap (λ (w : Output). w .out) s)) ∙ sym b
+        go (no-room s b) = ap (λ (l : List ℕ). output roomRow l) (rejoined roomRow e (ap (λ (w : Output). w .out) s))
+            ∙ sym b
         go (wrote s f l b) = let z = numbers 0 _ _ s in absurd (omega (arith, z))
 
     -- the first goes before the second

@@ -6,7 +6,7 @@ use mathlib.Core.Logic.{_≢_}
 use mathlib.Core.List.{List, [], _∷_}
 use native.Mathlib.Omega.{arith}
 use borrow.Author.Tests.{eq-eqb, ne-eqb, le-leb, lt-leb}
-use lib.ListN.{length, drop}
+use lib.ListN.{length}
 use lib.Seq.{take-all}
 use Rattle.base.specs.Keys.{among}
 use Rattle.base.specs.Numbers.{twoAt}

@@ -2,7 +2,8 @@
 use Prim.Native.Nat.{ℕ, zero, suc, _+_, _-_, _*_, _/_, _≤_, _<_}
 use mathlib.Core.Path.{_≡_, refl, sym, ap, _∙_}
 use mathlib.Core.Bool.{true, false}
-use native.Mathlib.Nat.{add-div-right, div-le-self, mul-le-mul, le-div-iff-mul-le, lt-div-mul-add, add-mul, one-mul, zero-mul}
+use native.Mathlib.Nat.{add-div-right, div-le-self, mul-le-mul, le-div-iff-mul-le, lt-div-mul-add, add-mul, one-mul}
+use native.Mathlib.Nat.{zero-mul}
 use native.Mathlib.Nat.{suc-mul}
 use native.Mathlib.Omega.{arith}
 use borrow.Author.Tests.{ltb-true, ltb-false}
@@ -13,7 +14,8 @@ use Rattle.transfer.specs.Pieces.{maxPieces, piecesOf}
 -- a product of two numbers below 2^16 is below 2^32
 pub product-fits : (a b : ℕ) → a < 65536 → b < 65536 → a * b < 4294967296
 product-fits a b p q =
-    let h : a * b ≤ 65535 * 65535 = mul-le-mul {n₁ = a} {m₁ = b} {n₂ = 65535} {m₂ = 65535} (omega (arith, p)) (omega (arith, q)) in
+    let h : a * b ≤ 65535 * 65535 = mul-le-mul {n₁ = a} {m₁ = b} {n₂ = 65535} {m₂ = 65535} (omega (arith, p))
+    (omega (arith, q)) in
     omega (arith, h)
 
 -- rounding up, as the code divides
@@ -32,7 +34,8 @@ module _ (size piece : ℕ) (p : 1 ≤ piece) where
   -- what precedes one of the pieces does not reach the end
   pub below-end : (n : ℕ) → n < piecesOf size piece → n * piece < size
   below-end n h =
-      let fits = le-div-iff-mul-le {k = piece} {x = n + 1} {y = size + (piece - 1)} (omega (arith, p)) .0 (omega (arith, h)) in
+      let fits = le-div-iff-mul-le {k = piece} {x = n + 1} {y = size + (piece - 1)} (omega (arith, p)) .0
+      (omega (arith, h)) in
       let more : (n + 1) * piece ≡ n * piece + piece = add-mul n 1 piece ∙ ap (λ k. n * piece + k) (one-mul piece) in
       omega (arith, fits, more, p)
 
@@ -54,7 +57,7 @@ module _ (size piece : ℕ) (p : 1 ≤ piece) where
   many-pieces h =
       either-way (ltb maxPieces (piecesOf size piece)) (λ e. e)
       (λ e. let most = mul-le-mul {n₁ = piecesOf size piece} {m₁ = piece} {n₂ = 65535} {m₂ = piece}
-          (ltb-false maxPieces (piecesOf size piece) e) (omega arith) in
+      (ltb-false maxPieces (piecesOf size piece) e) (omega arith) in
       absurd (omega (arith, most, reaches-end, h)))
 
   -- one piece less does not reach the end
@@ -76,16 +79,17 @@ module _ (size piece : ℕ) (p : 1 ≤ piece) where
       (λ e. let inside = below-end n (ltb-true n (piecesOf size piece) e) in absurd (omega (arith, inside, a)))
       (λ e. either-way (ltb (piecesOf size piece) n)
       (λ q. let more = mul-le-mul {n₁ = suc (piecesOf size piece)} {m₁ = piece} {n₂ = n} {m₂ = piece}
-          (ltb-true (piecesOf size piece) n q) (omega arith) in
+      (ltb-true (piecesOf size piece) n q) (omega arith) in
       absurd (omega (arith, more, suc-mul (piecesOf size piece) piece, reaches-end, b)))
-      (λ q. let x = ltb-false n (piecesOf size piece) e in let y = ltb-false (piecesOf size piece) n q in omega (arith, x, y)))
+      (λ q. let x = ltb-false n (piecesOf size piece) e in let y = ltb-false (piecesOf size piece) n q in
+      omega (arith, x, y)))
 
   -- a piece is one of them exactly where it begins inside the table
   pub inside : (n : ℕ) → n * piece < size → n < piecesOf size piece
   inside n h =
       either-way (ltb n (piecesOf size piece)) (λ e. ltb-true n (piecesOf size piece) e)
       (λ e. let most = mul-le-mul {n₁ = piecesOf size piece} {m₁ = piece} {n₂ = n} {m₂ = piece}
-          (ltb-false n (piecesOf size piece) e) (omega arith) in absurd (omega (arith, most, reaches-end, h)))
+      (ltb-false n (piecesOf size piece) e) (omega arith) in absurd (omega (arith, most, reaches-end, h)))
 
   pub outside : (n : ℕ) → size ≤ n * piece → piecesOf size piece ≤ n
   outside n h =

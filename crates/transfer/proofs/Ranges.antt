@@ -77,7 +77,7 @@ module _ (size piece stored : ℕ) where
     many h =
         either-way (leb (piecesOf size piece) maxPieces)
         (λ e. let most = mul-le-mul-right {m = piecesOf size piece} {n = 65535} piece
-            (leb-true (piecesOf size piece) maxPieces e) in
+        (leb-true (piecesOf size piece) maxPieces e) in
         let all = reaches-end size piece p in absurd (omega (arith, most, all, h)))
         (λ e. e)
 

@@ -17,7 +17,8 @@ use Rattle.link.specs.Calls.{inRange, offerOf}
 use Rattle.link.specs.declared.state.Link.{Link}
 use Rattle.transfer.specs.Payloads.{faulty, sizeIn, codeIn, indexIn, totalIn, bytesIn}
 use Rattle.transfer.specs.Table.{payloadRow, wroteRow, beganRow}
-use Rattle.transfer.specs.Checks.{Test, firstRefusal, inRangeOf, pieceTests, beginTests, storeTests, stopTests, cancelTests}
+use Rattle.transfer.specs.Checks.{Test, firstRefusal, inRangeOf, pieceTests, beginTests, storeTests, stopTests}
+use Rattle.transfer.specs.Checks.{cancelTests}
 use Rattle.transfer.specs.Writing.{rowed, acknowledged, rejectionOf, refusedOf, readyPayload, pairWire, pairOf}
 use Rattle.transfer.specs.Calls.{Left, left, settled, Both, both, held, putIn, cancelOf}
 use Rattle.transfer.specs.Refusals.{silent, twelve, Kept, RefusedAlways}
@@ -29,7 +30,8 @@ use Rattle.transfer.proofs.Outcomes.{Others, other-refusal}
 abbrev Plain : List ℕ → Output → Type 0
 Plain out w = eqb (w .row .number) 0 ≡ false → (among (w .row .number) silent ≡ true) × (w .out ≡ out)
 
-write-plain : (limit command number flags : ℕ) (payload out : List ℕ) → Plain out (writeOf limit command number flags payload out)
+write-plain : (limit command number flags : ℕ) (payload out : List ℕ)
+    → Plain out (writeOf limit command number flags payload out)
 unfolding among
 write-plain limit command number flags payload out =
     by-test (Plain out) (ltb limit (length payload + 5)) {x = output payloadRow out}
@@ -119,7 +121,8 @@ module _ {S : Type 0} (before next : S) (number : ℕ) (out : List ℕ) where
       (λ _. silent-kept _ refl refl refl) (λ d. rejection-kept limit n (rw (a, b, c, d))))
 
   call-kept : (limit : ℕ) (ts : List Test) (w : Output) → Others 21 ts → Others 22 ts → Plain out w
-      → Kept S (cond (eqb (firstRefusal ts) 0) (settled w before next) (left (refusedOf limit (firstRefusal ts) number out)
+      → Kept S (cond (eqb (firstRefusal ts) 0) (settled w before next)
+      (left (refusedOf limit (firstRefusal ts) number out)
       before)) before number out
   call-kept limit ts w a b h =
       by-test (λ (y : Left S). Kept S y before number out) (eqb (firstRefusal ts) 0) (λ _. settled-kept w h)
@@ -157,7 +160,8 @@ pub refused-kept : RefusedAlways
 refused-kept limit first max t l clock number payload out =
     record {
       begins = λ piece room.
-          call-kept (both t l) (both (Open (sizeIn payload) piece 0) (offerOf first max l 0x1B clock .state)) number out limit
+          call-kept (both t l) (both (Open (sizeIn payload) piece 0) (offerOf first max l 0x1B clock .state)) number
+          out limit
           (beginTests first max t l (eqb (offerOf first max l 0x1B clock .row .number) 41) (faulty 0x19 payload)
           (sizeIn payload) piece room) (pairOf limit number (l .next) piece (codeIn payload) out)
           (refl, (refl, (refl, (refl, (refl, (refl, (refl, tt)))))))

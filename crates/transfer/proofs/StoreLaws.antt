@@ -14,7 +14,8 @@ use Rattle.transfer.specs.declared.state.Transfer.the-variants.{Open}
 
 module _ (size piece stored index : ℕ) (bytes buffer : List ℕ) where
   -- the one just stored is there already
-  pub put-again : index ≡ stored → held (Open size piece stored) buffer ≡ putIn (Open size piece stored) index bytes buffer
+  pub put-again : index ≡ stored → held (Open size piece stored) buffer ≡ putIn (Open size piece stored) index bytes
+      buffer
   put-again e = rw (eq-eqb index stored e)
 
   -- the next one goes after those that are stored

@@ -1,8 +1,8 @@
 -- What is written, and its row. Assumes nothing.
-use Prim.Native.Nat.{ℕ, _+_, _≤_, _<_}
-use mathlib.Core.Path.{_≡_, refl, sym, ap, subst, _∙_}
+use Prim.Native.Nat.{ℕ, _≤_}
+use mathlib.Core.Path.{_≡_, refl, ap, subst, _∙_}
 use mathlib.Core.Bool.{false}
-use mathlib.Core.List.{List, [], _∷_, _++_}
+use mathlib.Core.List.{List, [], _∷_}
 use native.Mathlib.Omega.{arith}
 use borrow.Author.Tests.{le-ltb, ltb-true}
 use lib.Dec.{eqb, ltb}
@@ -90,6 +90,7 @@ module _ (limit command number : ℕ) (enough : 5 ≤ limit) where
   pub has-room : (o out : List ℕ) → length out ≡ 16 → output roomRow o ≡ writeOf limit command number 0 [] out → ⊥
   has-room o out l e =
       by-test (λ (w : Output). output roomRow o ≡ w → ⊥) (ltb (length out) (length (frameOf command number 0 [])))
-      (λ h _. let t = ltb-true (length out) (length (frameOf command number 0 [])) h in absurd (omega (arith, t, l, at-most-16)))
+      (λ h _. let t = ltb-true (length out) (length (frameOf command number 0 [])) h in
+      absurd (omega (arith, t, l, at-most-16)))
       (λ _ q. let z : _≡_ {A = ℕ} 22 0 = ap (λ (w : Output). w .row .number) q in absurd (omega (arith, z)))
       (e ∙ placed-as out)

@@ -3,8 +3,7 @@
 use Prim.Native.Nat.{ℕ}
 use mathlib.Core.Path.{_≡_}
 use mathlib.Core.List.{List, [], _∷_, map}
-use Rattle.base.specs.Rows.{Row, row}
-use Rattle.link.specs.declared.state.Link.{Link}
+use Rattle.base.specs.Rows.{row}
 use Rattle.transfer.specs.Table.{refusalNumber, checkNumber, arriveRowOf, cancelRowOf, progressRowOf, pairRowOf}
 use Rattle.transfer.specs.Calls.{Left, Both, Held, begunOf, storedOf, arrivedOf, cancelledOf}
 use Rattle.transfer.specs.declared.state.Transfer.{Transfer}
@@ -32,7 +31,8 @@ pub record RowsInjective : Type 0 where
 -- the refusals, in the order of the code's enum
 abbrev pub refusals : List Refusal
 refusals =
-    refusal.Size ∷ refusal.Empty ∷ refusal.TooBig ∷ refusal.HexLines ∷ refusal.Pieces ∷ refusal.Turn ∷ refusal.Piece ∷ []
+    refusal.Size ∷ refusal.Empty ∷ refusal.TooBig ∷ refusal.HexLines ∷ refusal.Pieces ∷ refusal.Turn ∷ refusal.Piece
+    ∷ []
 
 -- ---- named-rows: every answer of the code, with its number and its values
 pub record NamedRows (n r : ℕ) : Type 0 where
@@ -54,7 +54,8 @@ pub record NamedRows (n r : ℕ) : Type 0 where
       ≡ row 0 [] ∷ row 0 (n ∷ r ∷ []) ∷ row 17 (0 ∷ []) ∷ []
   -- of inner calls
   pub checks :
-      map checkNumber (check.Accepted ∷ check.State ∷ check.Busy ∷ check.Refused refusal.Turn ∷ []) ≡ 0 ∷ 17 ∷ 41 ∷ 65 ∷ []
+      map checkNumber (check.Accepted ∷ check.State ∷ check.Busy ∷ check.Refused refusal.Turn ∷ []) ≡ 0 ∷ 17 ∷ 41 ∷ 65
+      ∷ []
   pub pairs :
       map pairRowOf (pair.Wrote n r ∷ pair.Payload ∷ pair.Room ∷ [])
       ≡ row 0 (n ∷ 26 ∷ r ∷ []) ∷ row 21 (0 ∷ []) ∷ row 22 (0 ∷ []) ∷ []

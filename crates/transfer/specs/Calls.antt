@@ -1,9 +1,8 @@
 -- Model: what each call answers and leaves, held to the rules by calls-exact, transfer-ranges and transfer-history.
 -- `limit` bounds the length of a frame; `first` and `max` are the link's. PROTOCOL 15.6 to 15.11, 15.14.
 use Prim.Native.Nat.{ℕ, _+_, _≤_}
-use mathlib.Core.Path.{_≡_}
 use mathlib.Core.Logic.{_≢_}
-use mathlib.Core.Bool.{Bool, cond}
+use mathlib.Core.Bool.{cond}
 use mathlib.Core.List.{List, [], _∷_, _++_}
 use lib.Dec.{eqb}
 use lib.ListN.{length, take, drop}

@@ -51,7 +51,8 @@ pub record BeginExact (first max : ℕ) (t : Transfer) (l : Link) (number : ℕ)
   pub misread : faulty 0x19 payload ≡ true → Rejected _ 32 number out (both t l) y
   pub waits : (command under sent repeats : ℕ) → faulty 0x19 payload ≡ false
       → l .wait ≡ Waiting command under sent repeats → y ≡ left (output (row 41 []) out) (both t l)
-  pub no-bytes : faulty 0x19 payload ≡ false → l .wait ≡ Idle → sizeIn payload ≡ 0 → Rejected _ 61 number out (both t l) y
+  pub no-bytes : faulty 0x19 payload ≡ false → l .wait ≡ Idle → sizeIn payload ≡ 0
+      → Rejected _ 61 number out (both t l) y
   pub no-pieces : faulty 0x19 payload ≡ false → l .wait ≡ Idle → piece ≡ 0 → Rejected _ 61 number out (both t l) y
   pub too-big : faulty 0x19 payload ≡ false → l .wait ≡ Idle → 1 ≤ sizeIn payload → 1 ≤ piece → room < sizeIn payload
       → Rejected _ 62 number out (both t l) y
@@ -71,36 +72,36 @@ pub record BeginExact (first max : ℕ) (t : Transfer) (l : Link) (number : ℕ)
 -- a 1D of an open transfer in range, read without a fault: TOOBIG, HEXLINES, PIECES, TURN, PIECE, and the 1E.
 -- The total is right where so many pieces reach the end and one less does not
 pub record StoreExact (size piece stored number flags index total : ℕ) (bytes buffer out : List ℕ) (y : Left _) : Type 0
-    where
-  pub too-big : length buffer < size → Rejected _ 62 number out (held (Open size piece stored) buffer) y
-  pub hex : size ≤ length buffer → flags % 2 ≡ 1 → Rejected _ 64 number out (held (Open size piece stored) buffer) y
-  pub total-low : size ≤ length buffer → flags % 2 ≢ 1 → total * piece < size
-      → Rejected _ 63 number out (held (Open size piece stored) buffer) y
-  pub total-high : size ≤ length buffer → flags % 2 ≢ 1 → size + piece ≤ total * piece
-      → Rejected _ 63 number out (held (Open size piece stored) buffer) y
-  pub far : size ≤ length buffer → flags % 2 ≢ 1 → size ≤ total * piece → total * piece < size + piece
-      → index ≢ stored → index ≢ stored + 1 → Rejected _ 65 number out (held (Open size piece stored) buffer) y
-  pub beyond : size ≤ length buffer → flags % 2 ≢ 1 → size ≤ total * piece → total * piece < size + piece
-      → index ≡ stored + 1 → size ≤ stored * piece → Rejected _ 65 number out (held (Open size piece stored) buffer) y
-  pub zero : size ≤ length buffer → flags % 2 ≢ 1 → size ≤ total * piece → total * piece < size + piece
-      → index ≡ 0 → Rejected _ 65 number out (held (Open size piece stored) buffer) y
-  pub wrong-size : size ≤ length buffer → flags % 2 ≢ 1 → size ≤ total * piece → total * piece < size + piece
-      → index ≡ stored + 1 → stored * piece < size → length bytes ≢ min piece (size - stored * piece)
-      → Rejected _ 66 number out (held (Open size piece stored) buffer) y
-  pub other-bytes : size ≤ length buffer → flags % 2 ≢ 1 → size ≤ total * piece → total * piece < size + piece
-      → index ≡ stored → 1 ≤ stored
-      → bytes ≢ take (min piece (size - (stored - 1) * piece)) (drop ((stored - 1) * piece) buffer)
-      → Rejected _ 66 number out (held (Open size piece stored) buffer) y
-  -- the next piece is stored after the others, and the one just stored is only answered again
-  pub next : size ≤ length buffer → flags % 2 ≢ 1 → size ≤ total * piece → total * piece < size + piece
-      → index ≡ stored + 1 → stored * piece < size → length bytes ≡ min piece (size - stored * piece)
-      → Sent _ 0x1E number out (held (Open size piece stored) buffer)
-      (held (Open size piece (stored + 1))
-      (take (stored * piece) buffer ++ (bytes ++ drop (stored * piece + length bytes) buffer))) y
-  pub again : size ≤ length buffer → flags % 2 ≢ 1 → size ≤ total * piece → total * piece < size + piece
-      → index ≡ stored → 1 ≤ stored
-      → bytes ≡ take (min piece (size - (stored - 1) * piece)) (drop ((stored - 1) * piece) buffer)
-      → Sent _ 0x1E number out (held (Open size piece stored) buffer) (held (Open size piece stored) buffer) y
+  where
+    pub too-big : length buffer < size → Rejected _ 62 number out (held (Open size piece stored) buffer) y
+    pub hex : size ≤ length buffer → flags % 2 ≡ 1 → Rejected _ 64 number out (held (Open size piece stored) buffer) y
+    pub total-low : size ≤ length buffer → flags % 2 ≢ 1 → total * piece < size
+        → Rejected _ 63 number out (held (Open size piece stored) buffer) y
+    pub total-high : size ≤ length buffer → flags % 2 ≢ 1 → size + piece ≤ total * piece
+        → Rejected _ 63 number out (held (Open size piece stored) buffer) y
+    pub far : size ≤ length buffer → flags % 2 ≢ 1 → size ≤ total * piece → total * piece < size + piece
+        → index ≢ stored → index ≢ stored + 1 → Rejected _ 65 number out (held (Open size piece stored) buffer) y
+    pub beyond : size ≤ length buffer → flags % 2 ≢ 1 → size ≤ total * piece → total * piece < size + piece
+        → index ≡ stored + 1 → size ≤ stored * piece → Rejected _ 65 number out (held (Open size piece stored) buffer) y
+    pub zero : size ≤ length buffer → flags % 2 ≢ 1 → size ≤ total * piece → total * piece < size + piece
+        → index ≡ 0 → Rejected _ 65 number out (held (Open size piece stored) buffer) y
+    pub wrong-size : size ≤ length buffer → flags % 2 ≢ 1 → size ≤ total * piece → total * piece < size + piece
+        → index ≡ stored + 1 → stored * piece < size → length bytes ≢ min piece (size - stored * piece)
+        → Rejected _ 66 number out (held (Open size piece stored) buffer) y
+    pub other-bytes : size ≤ length buffer → flags % 2 ≢ 1 → size ≤ total * piece → total * piece < size + piece
+        → index ≡ stored → 1 ≤ stored
+        → bytes ≢ take (min piece (size - (stored - 1) * piece)) (drop ((stored - 1) * piece) buffer)
+        → Rejected _ 66 number out (held (Open size piece stored) buffer) y
+    -- the next piece is stored after the others, and the one just stored is only answered again
+    pub next : size ≤ length buffer → flags % 2 ≢ 1 → size ≤ total * piece → total * piece < size + piece
+        → index ≡ stored + 1 → stored * piece < size → length bytes ≡ min piece (size - stored * piece)
+        → Sent _ 0x1E number out (held (Open size piece stored) buffer)
+        (held (Open size piece (stored + 1))
+        (take (stored * piece) buffer ++ (bytes ++ drop (stored * piece + length bytes) buffer))) y
+    pub again : size ≤ length buffer → flags % 2 ≢ 1 → size ≤ total * piece → total * piece < size + piece
+        → index ≡ stored → 1 ≤ stored
+        → bytes ≡ take (min piece (size - (stored - 1) * piece)) (drop ((stored - 1) * piece) buffer)
+        → Sent _ 0x1E number out (held (Open size piece stored) buffer) (held (Open size piece stored) buffer) y
 
 -- under every limit that allows a payload of one byte
 pub record CallsExact (limit first max : ℕ) : Type 0 where
@@ -133,7 +134,8 @@ pub record CallsExact (limit first max : ℕ) : Type 0 where
   -- STATE of the transfer or of the link, before all else
   pub state-link : (t : Transfer) (l : Link) (clock number : ℕ) (payload : List ℕ) (piece room : ℕ) (out : List ℕ)
       → inRange first max l ≡ false
-      → (beginOf limit first max t l clock number payload piece room out ≡ left (output (row 17 (0 ∷ [])) out) (both t l))
+      → (beginOf limit first max t l clock number payload piece room out ≡ left (output (row 17 (0 ∷ [])) out)
+      (both t l))
       × (cancelOf limit first max t l clock out ≡ left (output (row 17 (0 ∷ [])) out) (both t l))
 
 -- of any first number and bound of repeats

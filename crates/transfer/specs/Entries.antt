@@ -1,10 +1,11 @@
--- Claims: the entries of a log are its calls, one by one, and these are what the contracts state. PROTOCOL 15.6 to 15.9.
+-- Claims: the entries of a log are its calls, one by one, and these are what the contracts state. PROTOCOL 15.6 to
+-- 15.9.
 use Prim.Native.Nat.{ℕ}
 use mathlib.Core.Path.{_≡_}
 use mathlib.Core.List.{List, [], _∷_, map}
 use lib.ListN.{length}
 use Rattle.link.specs.declared.state.Link.{Link}
-use Rattle.transfer.specs.Calls.{Left, Both, Held, beginOf, storeOf, stopOf, cancelOf}
+use Rattle.transfer.specs.Calls.{Left, Both, beginOf, storeOf, stopOf, cancelOf}
 use Rattle.transfer.specs.Logs.{Call, beginning, storing, stopping, cancelling, Entry, transferAfter, bufferAfter}
 use Rattle.transfer.specs.LogsComputed.{Step, callOf, logOf}
 use Rattle.transfer.specs.declared.state.Transfer.{Transfer}
@@ -22,7 +23,8 @@ pub record CallsStated (limit first max : ℕ) (t : Transfer) (buffer : List ℕ
       → LinkedStep (callOf limit first max t buffer (beginning l clock number payload piece out))
       (beginOf limit first max t l clock number payload piece (length buffer) out) buffer
   pub cancels : (l : Link) (clock : ℕ) (out : List ℕ)
-      → LinkedStep (callOf limit first max t buffer (cancelling l clock out)) (cancelOf limit first max t l clock out) buffer
+      → LinkedStep (callOf limit first max t buffer (cancelling l clock out)) (cancelOf limit first max t l clock out)
+      buffer
   pub stores : (number flags : ℕ) (payload out : List ℕ)
       → callOf limit first max t buffer (storing number flags payload out)
       ≡ record {

@@ -10,9 +10,8 @@ use Rattle.link.specs.Calls.{inRange}
 use Rattle.transfer.specs.Pieces.{piecesOf}
 use Rattle.transfer.specs.Calls.{progressOf}
 use Rattle.transfer.specs.Logs.{Call, beginning, storing, stopping, cancelling, Entry, transferAfter, bufferAfter}
-use Rattle.transfer.specs.Logs.{Piece, numberOf, Account, none, since, accountAfter, piecesIn, summed, joined}
+use Rattle.transfer.specs.Logs.{Piece, numberOf, Account, none, since, accountAfter, summed, joined}
 use Rattle.transfer.specs.Logs.{numbersFrom}
-use Rattle.transfer.specs.declared.state.Transfer.{Transfer}
 use Rattle.transfer.specs.declared.state.Transfer.the-variants.{Absent}
 
 -- what the progress answers: nothing, or the bytes stored and the bytes announced
@@ -45,8 +44,8 @@ LinkOut first max (cancelling l clock out) = inRange first max l ≡ false
 
 -- ---- what holds of a log of a fresh transfer and a buffer
 pub record History (first max : ℕ) (buffer : List ℕ) (log : List Entry) : Type 0 where
-  -- the bytes stored, as the progress answers them, are the lengths of the accepted pieces of distinct numbers since the
-  -- last accepted 19, added up; without a transfer there are none
+  -- the bytes stored, as the progress answers them, are the lengths of the accepted pieces of distinct numbers since
+  -- the last accepted 19, added up; without a transfer there are none
   pub progress : progressOf (transferAfter Absent log) ≡ progressRow (accountAfter none log)
   -- and where they are
   pub stored : Stored (accountAfter none log) (bufferAfter buffer log)

@@ -1,4 +1,5 @@
--- Statement: what a list of calls answered, and the transfer that calls and answers alone tell of. PROTOCOL 15.1 to 15.9.
+-- Statement: what a list of calls answered, and the transfer that calls and answers alone tell of. PROTOCOL 15.1 to
+-- 15.9.
 use Prim.Native.Nat.{ℕ, zero, suc, _+_}
 use mathlib.Core.Bool.{Bool, cond}
 use mathlib.Core.List.{List, [], _∷_, _++_, map}

@@ -3,7 +3,7 @@ use Prim.Native.Nat.{ℕ}
 use mathlib.Core.List.{List, [], _∷_}
 use lib.ListN.{length}
 use Rattle.base.specs.Rows.{Row}
-use Rattle.transfer.specs.Calls.{Left, Held, held, Both, beginOf, storeOf, stopOf, cancelOf}
+use Rattle.transfer.specs.Calls.{Left, held, Both, beginOf, storeOf, stopOf, cancelOf}
 use Rattle.transfer.specs.Logs.{Call, beginning, storing, stopping, cancelling, Entry}
 use Rattle.transfer.specs.declared.state.Transfer.{Transfer}
 

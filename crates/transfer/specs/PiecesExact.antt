@@ -1,7 +1,8 @@
--- Claims: how many pieces a table has, where each begins and which size it has, without a division. PROTOCOL 15.4, 15.5.
+-- Claims: how many pieces a table has, where each begins and which size it has, without a division. PROTOCOL 15.4,
+-- 15.5.
 use Prim.Native.Nat.{ℕ, suc, _+_, _-_, _*_, _≤_, _<_}
 use mathlib.Core.Path.{_≡_}
-use mathlib.Core.List.{List, [], _∷_, map}
+use mathlib.Core.List.{[], _∷_, map}
 use Rattle.transfer.specs.Pieces.{maxPieces, piecesOf, startOf, pieceSize, bytesOf}
 
 -- ---- pieces-exact: t pieces of the piece size reach the end of the table, and fewer do not

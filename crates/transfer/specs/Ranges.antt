@@ -9,7 +9,7 @@ use Rattle.link.specs.Calls.{inRange}
 use Rattle.transfer.specs.Checks.{inRangeOf}
 use Rattle.transfer.specs.Calls.{progressOf}
 use Rattle.transfer.specs.Logs.{Call, beginning, storing, stopping, cancelling}
-use Rattle.transfer.specs.LogsComputed.{Step, callOf}
+use Rattle.transfer.specs.LogsComputed.{callOf}
 use Rattle.transfer.specs.declared.state.Transfer.{Transfer}
 use Rattle.transfer.specs.declared.state.Transfer.the-variants.{Absent, Open}
 

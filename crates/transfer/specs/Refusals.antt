@@ -1,4 +1,5 @@
--- Claims: a refused call leaves all as it was; after it the output has a 12 with code 3, or nothing. PROTOCOL 15.11, 12.3.
+-- Claims: a refused call leaves all as it was; after it the output has a 12 with code 3, or nothing. PROTOCOL 15.11,
+-- 12.3.
 use Prim.Native.Nat.{ℕ}
 use mathlib.Core.Path.{_≡_}
 use mathlib.Core.Logic.{_≢_}
@@ -30,16 +31,17 @@ pub record Kept (S : Type 0) (y : Left S) (before : S) (number : ℕ) (out : Lis
       → (y .row .values ≡ length (twelve number) ∷ []) × (y .out ≡ onto (twelve number) out)
 
 -- of the four calls; a cancel never writes a 12
-pub record RefusedKept (limit first max : ℕ) (t : Transfer) (l : Link) (clock number : ℕ) (payload out : List ℕ) : Type 0
-    where
-  pub begins : (piece room : ℕ)
-      → Kept _ (beginOf limit first max t l clock number payload piece room out) (both t l) number out
-  pub stores : (flags : ℕ) (buffer : List ℕ)
-      → Kept _ (storeOf limit t number flags payload buffer out) (held t buffer) number out
-  pub stops : Kept _ (stopOf limit t number payload out) t number out
-  pub cancels : Kept _ (cancelOf limit first max t l clock out) (both t l) 0 out
-  pub never-12 : cancelOf limit first max t l clock out .row .number ≢ 0
-      → among (cancelOf limit first max t l clock out .row .number) silent ≡ true
+pub record RefusedKept (limit first max : ℕ) (t : Transfer) (l : Link) (clock number : ℕ) (payload out : List ℕ) : Type
+    0
+  where
+    pub begins : (piece room : ℕ)
+        → Kept _ (beginOf limit first max t l clock number payload piece room out) (both t l) number out
+    pub stores : (flags : ℕ) (buffer : List ℕ)
+        → Kept _ (storeOf limit t number flags payload buffer out) (held t buffer) number out
+    pub stops : Kept _ (stopOf limit t number payload out) t number out
+    pub cancels : Kept _ (cancelOf limit first max t l clock out) (both t l) 0 out
+    pub never-12 : cancelOf limit first max t l clock out .row .number ≢ 0
+        → among (cancelOf limit first max t l clock out .row .number) silent ≡ true
 
 -- of all of them
 abbrev pub RefusedAlways : Type 0

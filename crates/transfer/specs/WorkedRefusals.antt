@@ -1,5 +1,5 @@
 -- Claims: each refusal and all that could compete with it, by computation, in the order of PROTOCOL 15.10.
-use Prim.Native.Nat.{ℕ, _+_, _*_}
+use Prim.Native.Nat.{ℕ, _+_}
 use mathlib.Core.Path.{_≡_}
 use mathlib.Core.Bool.{Bool, true, false, cond}
 use mathlib.Core.List.{List, [], _∷_, _++_}
@@ -82,7 +82,8 @@ storeCase out short hex total turn bytes =
 -- STATE, SIZE, then the same with no room for the 12 or the 1E
 abbrev pub storeRoom : Bool → Bool → Bool → Bool → ℕ
 storeRoom out misread hex narrow =
-    numberIn (storeOf 1024 (anyTransfer out) 6 (cond hex 1 0) (cond misread (0 ∷ 2 ∷ 0 ∷ []) (pieceOf false false false))
+    numberIn (storeOf 1024 (anyTransfer out) 6 (cond hex 1 0)
+    (cond misread (0 ∷ 2 ∷ 0 ∷ []) (pieceOf false false false))
     (replicate 12 7) (replicate (cond narrow 8 30) 9) .row)
 
 -- without a transfer: SIZE, HEXLINES, TURN, ROOM

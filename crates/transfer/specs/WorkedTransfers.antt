@@ -1,7 +1,7 @@
 -- Claims: worked transfers, by computation. PROTOCOL 15.1 to 15.13.
 use Prim.Native.Nat.{ℕ}
 use mathlib.Core.Path.{_≡_}
-use mathlib.Core.List.{List, [], _∷_, map}
+use mathlib.Core.List.{List, [], _∷_}
 use lib.ListN.{replicate}
 use Rattle.base.specs.Rows.{Row, row}
 use Rattle.base.specs.Outcomes.{output}
@@ -82,9 +82,12 @@ wholeCalls =
 abbrev pub faultyCalls : List Call
 faultyCalls =
     piece 1 (1 ∷ 2 ∷ 3 ∷ 4 ∷ []) ∷ announced idle ∷ piece 0 (1 ∷ 2 ∷ 3 ∷ 4 ∷ []) ∷ piece 2 (1 ∷ 2 ∷ 3 ∷ 4 ∷ [])
-    ∷ piece 1 (1 ∷ 2 ∷ 3 ∷ []) ∷ piece 1 (1 ∷ 2 ∷ 3 ∷ 4 ∷ 5 ∷ []) ∷ storing 6 0 (0 ∷ 1 ∷ 0 ∷ 4 ∷ 1 ∷ 2 ∷ 3 ∷ 4 ∷ []) output30
-    ∷ storing 6 1 (0 ∷ 1 ∷ 0 ∷ 3 ∷ 1 ∷ 2 ∷ 3 ∷ 4 ∷ []) output30 ∷ storing 6 0xFFFE (0 ∷ 1 ∷ 0 ∷ 3 ∷ 1 ∷ 2 ∷ 3 ∷ 4 ∷ []) output30
-    ∷ piece 1 (1 ∷ 2 ∷ 3 ∷ 5 ∷ []) ∷ piece 1 (1 ∷ 2 ∷ 3 ∷ []) ∷ piece 2 (5 ∷ 6 ∷ 7 ∷ 8 ∷ []) ∷ piece 1 (1 ∷ 2 ∷ 3 ∷ 4 ∷ [])
+    ∷ piece 1 (1 ∷ 2 ∷ 3 ∷ []) ∷ piece 1 (1 ∷ 2 ∷ 3 ∷ 4 ∷ 5 ∷ []) ∷ storing 6 0 (0 ∷ 1 ∷ 0 ∷ 4 ∷ 1 ∷ 2 ∷ 3 ∷ 4 ∷ [])
+    output30
+    ∷ storing 6 1 (0 ∷ 1 ∷ 0 ∷ 3 ∷ 1 ∷ 2 ∷ 3 ∷ 4 ∷ []) output30 ∷ storing 6 0xFFFE (0 ∷ 1 ∷ 0 ∷ 3 ∷ 1 ∷ 2 ∷ 3 ∷ 4 ∷ [])
+    output30
+    ∷ piece 1 (1 ∷ 2 ∷ 3 ∷ 5 ∷ []) ∷ piece 1 (1 ∷ 2 ∷ 3 ∷ []) ∷ piece 2 (5 ∷ 6 ∷ 7 ∷ 8 ∷ [])
+    ∷ piece 1 (1 ∷ 2 ∷ 3 ∷ 4 ∷ [])
     ∷ piece 3 (9 ∷ 10 ∷ 11 ∷ 12 ∷ []) ∷ piece 3 (9 ∷ 10 ∷ []) ∷ piece 4 (1 ∷ []) ∷ []
 
 -- a 19 in the middle begins again; one that is refused changes nothing

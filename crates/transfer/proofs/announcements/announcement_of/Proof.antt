@@ -1,5 +1,5 @@
 -- `announcements::announcement_of` says what `message` read.
-use mathlib.Core.Path.{refl, sym, ap, _∙_}
+use mathlib.Core.Path.{refl, ap}
 use mathlib.Core.List.{List, [], _∷_}
 use Prim.Native.Nat.{ℕ}
 use borrow.Author.Needs.{needs}
@@ -15,9 +15,11 @@ announcement-of-spec =
     tie.close
     (tie.spec
     (search needs) (search needs) (search needs)
-    (λ c. let at = c .before .before .before in let e = simp (at .reading .given .1) at (at .before .before .read .ensures) in
+    (λ c. let at = c .before .before .before in
+    let e = simp (at .reading .given .1) at (at .before .before .read .ensures) in
     (was-read _ _ _ 0x19 e, c .size-in .ensures _ (announced _ _ _ e), ap (λ (r : Read). r .parts .code) e))
     (λ c. let at = c .before in
-    let refused = was-refused (at .read .result) (λ m ps q. none-of (1 ∷ 2 ∷ 3 ∷ []) 0 refl (rw q at (c .match .keys2))) 0x19 _
+    let refused = was-refused (at .read .result)
+    (λ m ps q. none-of (1 ∷ 2 ∷ 3 ∷ []) 0 refl (rw q at (c .match .keys2))) 0x19 _
     (at .read .ensures) in
     (refused .0, ap (λ (l : List ℕ). getD l 1 0) (refused .1), ap (λ (p : Parts). p .code) (refused .2))))

@@ -1,5 +1,5 @@
 -- `announcements::piece_of` says what `message` read.
-use mathlib.Core.Path.{refl, sym, ap, _∙_}
+use mathlib.Core.Path.{refl, ap}
 use mathlib.Core.List.{List, [], _∷_}
 use Prim.Native.Nat.{ℕ}
 use borrow.Author.Needs.{needs}
@@ -15,11 +15,13 @@ piece-of-spec =
     tie.close
     (tie.spec
     (search needs) (search needs) (search needs)
-    (λ c. let at = c .before .before .before in let e = simp (at .reading .given .1) at (at .before .before .read .ensures) in
+    (λ c. let at = c .before .before .before in
+    let e = simp (at .reading .given .1) at (at .before .before .read .ensures) in
     let numbers = c .numbers-in .ensures _ _ (numbered _ _ _ e) in
     (was-read _ _ _ 0x1D e, numbers .0, numbers .1, ap (λ (r : Read). r .parts .piece) e))
     (λ c. let at = c .before in
-    let refused = was-refused (at .read .result) (λ m ps q. none-of (1 ∷ 2 ∷ 3 ∷ []) 0 refl (rw q at (c .match .keys2))) 0x1D _
+    let refused = was-refused (at .read .result)
+    (λ m ps q. none-of (1 ∷ 2 ∷ 3 ∷ []) 0 refl (rw q at (c .match .keys2))) 0x1D _
     (at .read .ensures) in (
       refused .0,
       ap (λ (l : List ℕ). getD l 1 0) (refused .1),

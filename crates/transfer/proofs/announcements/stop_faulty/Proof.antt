@@ -12,5 +12,6 @@ stop-faulty-spec =
     (tie.spec
     (search needs) (search needs)
     (λ c. was-read _ _ _ 0x1F (simp (c .enum-told .given .1) at (c .before .before .read .ensures)))
-    (λ c. was-refused (c .before .read .result) (λ m ps q. none-of (1 ∷ 2 ∷ 3 ∷ []) 0 refl (rw q at (c .match .keys2))) 0x1F _
+    (λ c. was-refused (c .before .read .result) (λ m ps q. none-of (1 ∷ 2 ∷ 3 ∷ []) 0 refl (rw q at (c .match .keys2)))
+    0x1F _
     (c .before .read .ensures) .0))

@@ -27,7 +27,8 @@ check-spec =
     (search needs)
     (λ c. let at = c .before .before in simp (ranged (at .before .before), linked at, c .before .if3 .taken)
     (c .refuses .ensures))
-    (λ c. let at = c .before .before in simp (ranged (at .before .before), linked at, c .before .if3 .left, c .if4 .taken))
+    (λ c. let at = c .before .before in
+    simp (ranged (at .before .before), linked at, c .before .if3 .left, c .if4 .taken))
     (search needs)
     (λ c. let at = c .before .before .before in
     simp (ranged (at .before .before), linked at, c .before .before .if3 .left, c .before .if4 .left)

@@ -1,6 +1,5 @@
 -- `cancels::accept` drops the transfer where the 27 is written. An empty payload is not too long.
 use mathlib.Core.Path.{refl}
-use mathlib.Core.List.{[]}
 use native.Mathlib.Omega.{arith}
 use borrow.Author.Needs.{needs}
 use Rattle.frame.specs.Wire.{frameLimit}

@@ -15,7 +15,8 @@ cancel-spec =
     (search needs)
     (λ c. simp (caught (c .before .in-range .ensures) (c .if1 .taken)))
     (search needs)
-    (λ c. let e = c .before .before in simp (past (e .before .in-range .ensures) (e .if1 .left), caught (c .before .in-range2 .ensures) (c .if2 .taken)))
+    (λ c. let e = c .before .before in
+    simp (past (e .before .in-range .ensures) (e .if1 .left), caught (c .before .in-range2 .ensures) (c .if2 .taken)))
     (search needs) (search needs)
     (λ c.
     let o = c .before .before in let e2 = o .before in let e1 = e2 .before .before in

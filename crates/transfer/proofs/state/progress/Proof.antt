@@ -1,6 +1,6 @@
 -- `state::progress` tests STATE, and counts the bytes of the pieces that are stored.
 use borrow.Author.Needs.{needs}
-use mathlib.Core.Path.{_≡_, ap}
+use mathlib.Core.Path.{_≡_}
 use mathlib.Core.Bool.{true}
 use Rattle.transfer.specs.Checks.{inRangeOf}
 use Rattle.base.proofs.Tests.{past, caught}
@@ -19,4 +19,5 @@ progress-spec =
     (λ c. simp (caught (c .before .in-range .ensures) (c .if1 .taken)))
     (search needs) (search needs) (search needs)
     (λ c. simp (ranged (c .before .before)) (simp (c .enum-told .given .1)))
-    λ c. simp (ranged (c .before .before .before .before)) (simp (c .before .before .transfer .given .1, c .bytes-of .ensures)))
+    λ c. simp (ranged (c .before .before .before .before))
+    (simp (c .before .before .transfer .given .1, c .bytes-of .ensures)))

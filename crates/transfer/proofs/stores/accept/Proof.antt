@@ -18,7 +18,8 @@ accept-spec =
     let w = c .before .before .before .before .before .before .before .before .before in
     let args = w .before .before .before .before .before .args in
     settled-to (held (args .transfer) (args .buffer .now))
-    (putIn (args .transfer) (args .index) (args .bytes .now) (args .buffer .now)) _ (c .before .before .put .ensures) 0x1E
+    (putIn (args .transfer) (args .index) (args .bytes .now) (args .buffer .now)) _ (c .before .before .put .ensures)
+    0x1E
     _ _ _
     (simp (c .before .before .before .before .before .written .given .1) at (w .write-empty .ensures)))
     (search needs)

@@ -20,4 +20,5 @@ right-bytes-spec =
     let args = at .before .before .before .before .args in
     c .same-bytes .ensures
     ∙ again-right (args .size) (args .piece) (args .stored) (args .index) (args .bytes .now) (args .buffer .now)
-    (at .before .if1 .left) _ _ _ (at .full .ensures) (c .before .before .piece-size2 .ensures) (c .before .part .ensures .bytes))
+    (at .before .if1 .left) _ _ _ (at .full .ensures) (c .before .before .piece-size2 .ensures)
+    (c .before .part .ensures .bytes))

@@ -16,7 +16,8 @@ refuse-spec =
     let r = c .before .before in
     let args = r .before .before .before .before .before .before .args in
     rw (r .before .before .before .checked .given .1)
-    (r .reject .ensures ∙ sym (refused-with frameLimit (r .before .before .before .checked .given .0 .0) (args .number) (args .out .now))))
+    (r .reject .ensures ∙ sym (refused-with frameLimit (r .before .before .before .checked .given .0 .0) (args .number)
+    (args .out .now))))
     (λ c. simp (c .enum-told .given .1))
     (λ c. simp (c .enum-told2 .given .1))
     λ c. absurd (true≢false (simp (c .enum-told3 .given .1) at (c .before .before .before .pre))))

@@ -16,19 +16,22 @@ reject-spec =
     let w = c .before .before .before .before .before in
     let code = w .before .before .before .code-number in
     let args = w .before .before .before .before .before .args in
-    rejected frameLimit (refusalNumber (args .refusal)) (args .number) (code .result) (args .out .now) (code .ensures) _ _
+    rejected frameLimit (refusalNumber (args .refusal)) (args .number) (code .result) (args .out .now) (code .ensures)
+    _ _
     (simp (c .before .written .given .1) at (w .write .ensures)))
     (search needs)
     (λ c.
     let w = c .before .before .before .before in
     let code = w .before .before .before .code-number in
     let args = w .before .before .before .before .before .args in
-    not-rejected frameLimit (refusalNumber (args .refusal)) (args .number) (code .result) (args .out .now) (code .ensures)
+    not-rejected frameLimit (refusalNumber (args .refusal)) (args .number) (code .result) (args .out .now)
+    (code .ensures)
     payloadRow _ refl (simp (c .enum-told .given .1) at (w .write .ensures)))
     (search needs)
     (λ c.
     let w = c .before .before .before .before in
     let code = w .before .before .before .code-number in
     let args = w .before .before .before .before .before .args in
-    not-rejected frameLimit (refusalNumber (args .refusal)) (args .number) (code .result) (args .out .now) (code .ensures)
+    not-rejected frameLimit (refusalNumber (args .refusal)) (args .number) (code .result) (args .out .now)
+    (code .ensures)
     roomRow _ refl (simp (c .enum-told2 .given .1) at (w .write .ensures))))

@@ -1,5 +1,5 @@
 -- `writes::write_pair` writes the 1B behind the room for the 1A, and then the 1A.
-use mathlib.Core.Path.{refl, sym, _∙_}
+use mathlib.Core.Path.{refl}
 use mathlib.Core.List.{[], _∷_}
 use native.Mathlib.Omega.{arith}
 use borrow.Author.Needs.{needs}

@@ -14,4 +14,5 @@ write-ready-spec =
     (search needs) (search needs) (search needs) (search needs) (search needs)
     λ c. let args = c .before .before .before .before .before .before .args in
     rest-written (args .out .now) (args .from)
-    (sendOf frameLimit (Ready (args .piece)) (args .number) 0 (args .code .now)) _ _ (c .before .before .write .ensures))
+    (sendOf frameLimit (Ready (args .piece)) (args .number) 0 (args .code .now)) _ _
+    (c .before .before .write .ensures))
