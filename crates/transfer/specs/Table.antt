@@ -1,4 +1,4 @@
--- Statement: the number and the values of each answer. PROTOCOL 15.6 to 15.11.
+-- Statement: the number and the values of each answer. PROTOCOL 15.6 to 15.12.
 use Prim.Native.Nat.{ℕ}
 use mathlib.Core.List.{[], _∷_}
 use Rattle.base.specs.Rows.{Row, row}

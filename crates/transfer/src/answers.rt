@@ -1,4 +1,4 @@
-// The answers to a received 19, 1D or 1F. PROTOCOL 15.5 to 15.9.
+// The answers to a received 19, 1D or 1F. PROTOCOL 15.10 to 15.12.
 use super::state::Transfer;
 ghost use mathlib.Core.Path.{_≡_};
 ghost use Rattle.transfer.specs.Table.{refusalNumber, checkNumber};
