@@ -56,7 +56,7 @@ def across_records(links):
 def check_program(checks, program, seed):
     links = link_steps(seed)
     for name, script in [
-        ("each record's lines before the next record", [*message_steps(), *links]),
+        ("each record's lines before the next record", [*links, *message_steps()]),
         ("a stream byte by byte, the lines of a frame before the next byte", byte_by_byte()),
         ("a record in two pieces, cut at each place", in_two_pieces(links)),
         ("a record's end sent with the front of the next record", across_records(links)),

@@ -17,7 +17,7 @@ use Rattle.base.proofs.Tests.{either-way, both}
 use Rattle.transfer.specs.Pieces.{maxPieces, piecesOf, startOf, bytesOf}
 use Rattle.transfer.specs.Checks.{inRangeOf}
 use Rattle.transfer.specs.Calls.{putAt}
-use Rattle.transfer.specs.Logs.{Piece, numberOf, Account, none, since, withPiece, summed, joined, numbersFrom}
+use Rattle.transfer.specs.Logs.{Piece, numberOf, Account, none, since, withPiece, summed, joined, countFrom}
 use Rattle.transfer.specs.declared.state.Transfer.{Transfer}
 use Rattle.transfer.specs.declared.state.Transfer.the-variants.{Absent, Open}
 use Rattle.transfer.proofs.PieceLaws.{below-end}
@@ -44,32 +44,32 @@ summed-more (q ∷ ps) p = let rest = summed-more ps p in omega (arith, rest)
 
 -- ---- numbers from one on
 
-pub numbers-more : (from n : ℕ) → numbersFrom from n ++ ((from + n) ∷ []) ≡ numbersFrom from (suc n)
-unfolding numbersFrom
+pub numbers-more : (from n : ℕ) → countFrom from n ++ ((from + n) ∷ []) ≡ countFrom from (suc n)
+unfolding countFrom
 numbers-more from zero = let e : from + 0 ≡ from = omega arith in rw e
 numbers-more from (suc n) =
     let e : from + suc n ≡ suc from + n = omega arith in
-    ap (λ l. from ∷ l) (ap (λ k. numbersFrom (suc from) n ++ (k ∷ [])) e ∙ numbers-more (suc from) n)
+    ap (λ l. from ∷ l) (ap (λ k. countFrom (suc from) n ++ (k ∷ [])) e ∙ numbers-more (suc from) n)
 
 map-more : (ps : List Piece) (p : Piece) → map numberOf (ps ++ (p ∷ [])) ≡ map numberOf ps ++ (p .number ∷ [])
 map-more [] p = refl
 map-more (q ∷ ps) p = ap (λ l. q .number ∷ l) (map-more ps p)
 
 -- a number is among them exactly from the first to the last
-pub among-below : (x from n : ℕ) → from ≤ x → x < from + n → among x (numbersFrom from n) ≡ true
-unfolding numbersFrom
+pub among-below : (x from n : ℕ) → from ≤ x → x < from + n → among x (countFrom from n) ≡ true
+unfolding countFrom
 among-below x from zero a b = absurd (omega (arith, a, b))
 among-below x from (suc n) a b =
-    among-next x from (numbersFrom (suc from) n)
+    among-next x from (countFrom (suc from) n)
     ∙ either-way (eqb x from) (λ e. rw e)
     (λ e. let other = eqb-false x from e in
     rw e (among-below x (suc from) n (omega (arith, a, other)) (omega (arith, b))))
 
-pub among-above : (x from n : ℕ) → from + n ≤ x → among x (numbersFrom from n) ≡ false
-unfolding numbersFrom
+pub among-above : (x from n : ℕ) → from + n ≤ x → among x (countFrom from n) ≡ false
+unfolding countFrom
 among-above x from zero a = among-none x
 among-above x from (suc n) a =
-    among-next x from (numbersFrom (suc from) n)
+    among-next x from (countFrom (suc from) n)
     ∙ rw (ne-eqb x from (λ e. absurd (omega (arith, a, e)))) (among-above x (suc from) n (omega (arith, a)))
 
 -- ---- the invariant
@@ -79,7 +79,7 @@ pub record Holds (size piece : ℕ) (start : List ℕ) (ps : List Piece) (t : Tr
   pub is : t ≡ Open size piece (length ps)
   pub ranged : inRangeOf (Open size piece (length ps)) ≡ true
   pub roomy : size ≤ length buffer
-  pub numbers : map numberOf ps ≡ numbersFrom 1 (length ps)
+  pub numbers : map numberOf ps ≡ countFrom 1 (length ps)
   pub bytes : summed ps ≡ bytesOf size piece (length ps)
   pub front : take (summed ps) buffer ≡ joined ps
   pub rest : drop (summed ps) buffer ≡ drop (summed ps) start
@@ -98,7 +98,7 @@ told-ranged (since size piece start ps) t buffer h = rw (h .is) (h .ranged)
 -- a table of a size, in pieces of a size, of which none is stored
 pub begins : (size piece : ℕ) (buffer : List ℕ) → (eqb size 0 || eqb piece 0) ≡ false → size ≤ length buffer
     → piecesOf size piece ≤ maxPieces → Holds size piece buffer [] (Open size piece 0) buffer
-unfolding joined summed numbersFrom
+unfolding joined summed countFrom
 begins size piece buffer some room few =
     record {
       is = refl;
@@ -210,12 +210,12 @@ module _ (size piece : ℕ) (start : List ℕ) (ps : List Piece) (t : Transfer) 
         let listed = next-listed size piece (length ps) index total bytes buffer n a in
         rw (outer .0, inner .0, le-leb (suc (length ps)) (piecesOf size piece) (omega (arith, listed)))
 
-    numbered : map numberOf (ps ++ (p ∷ [])) ≡ numbersFrom 1 (length (ps ++ (p ∷ [])))
+    numbered : map numberOf (ps ++ (p ∷ [])) ≡ countFrom 1 (length (ps ++ (p ∷ [])))
     numbered =
         let next : p .number ≡ 1 + length ps = omega (arith, i, one-more) in
         map-more ps p ∙ ap (λ l. l ++ (p .number ∷ [])) (h .numbers)
-        ∙ ap (λ k. numbersFrom 1 (length ps) ++ (k ∷ [])) next ∙ numbers-more 1 (length ps)
-        ∙ ap (λ k. numbersFrom 1 k) (sym longer)
+        ∙ ap (λ k. countFrom 1 (length ps) ++ (k ∷ [])) next ∙ numbers-more 1 (length ps)
+        ∙ ap (λ k. countFrom 1 k) (sym longer)
 
     pub next-told : Holds size piece start (withPiece p ps) (Open size piece index) put
     next-told =

@@ -223,7 +223,7 @@ module _ (limit first max : ℕ) (enough : 6 ≤ limit) (t : Transfer) (l : Link
           let e = length-append (codeIn payload) (two piece []) in
           le-ltb limit (length (readyPayload piece (codeIn payload)) + 5) (omega (arith, e, h))
 
-  begin-exact : (clock : ℕ) → BeginExact first max t l number payload piece room out (linkAfter first l 0x1B clock)
+  begin-exact : (clock : ℕ) → BeginExact t l number payload piece room out (linkAfter first l 0x1B clock)
       limit
       (beginOf limit first max t l clock number payload piece room out)
   begin-exact clock =
@@ -468,6 +468,7 @@ calls-exact limit first max enough =
       cancels = λ t l clock out ranged linked w.
           cancel-sent limit first max enough t l out ranged linked (offerOf first max l 0x27 clock)
           (linkAfter first l 0x27 clock) (offer-idle first max l 0x27 clock linked cancel-waits w);
+      state-transfer = λ t l clock number flags payload piece room buffer out h. (simp h, simp h, simp h, simp h);
       state-link = λ t l clock number payload piece room out h. (
         begin-state limit first max t l out h (offerOf first max l 0x1B clock) number payload piece room,
         cancel-state limit first max t l out h (offerOf first max l 0x27 clock),

@@ -4,10 +4,10 @@ use mathlib.Core.Path.{_≡_, refl, ap}
 use mathlib.Core.List.{List, [], _∷_, map}
 use Rattle.transfer.specs.Logs.{Call, transferAfter, bufferAfter}
 use Rattle.transfer.specs.LogsComputed.{callOf, logOf}
-use Rattle.transfer.specs.Entries.{CallsAlways, callIn, Chains, LogsExact}
+use Rattle.transfer.specs.Entries.{CallsStatedAlways, callIn, Chains, LogsExact}
 use Rattle.transfer.specs.declared.state.Transfer.{Transfer}
 
-pub calls-stated : CallsAlways
+pub calls-stated : CallsStatedAlways
 calls-stated limit first max t buffer =
     record {
       begins = λ l clock number payload piece out. record { row-is = refl; transfer-is = refl; buffer-is = refl };

@@ -1,30 +1,30 @@
 -- The history of every list of calls of a fresh transfer. Assumes nothing.
-use Prim.Native.Nat.{ℕ, suc, _*_}
+use Prim.Native.Nat.{ℕ, suc, _*_, _≤_}
 use mathlib.Core.Path.{_≡_, refl, sym, ap, subst, _∙_}
-use mathlib.Core.Bool.{Bool, true, false, true≢false}
+use mathlib.Core.Bool.{Bool, true, false, not, _||_, true≢false}
 use mathlib.Core.List.{List, [], _∷_, _++_}
 use native.Mathlib.Omega.{arith, min-cases}
-use borrow.Author.Tests.{eq-eqb}
-use lib.Dec.{eqb}
-use lib.ListN.{length}
-use Rattle.base.specs.Rows.{row}
-use Rattle.base.proofs.Tests.{either-way}
+use borrow.Author.Tests.{eq-eqb, leb-true}
+use lib.Dec.{eqb, leb}
+use lib.ListN.{length, getD}
+use Rattle.base.specs.Rows.{Row}
+use Rattle.base.proofs.Tests.{either-way, both as both-hold}
 use Rattle.link.specs.Calls.{inRange, offerOf}
 use Rattle.link.specs.declared.state.Link.{Link}
-use Rattle.transfer.specs.Pieces.{piecesOf, bytesOf}
+use Rattle.transfer.specs.Pieces.{maxPieces, piecesOf, bytesOf}
 use Rattle.transfer.specs.Payloads.{faulty, sizeIn, codeIn, indexIn, totalIn, bytesIn}
 use Rattle.transfer.specs.Checks.{firstRefusal, inRangeOf, sizeTests, pieceTests, test, beginTests, storeTests}
 use Rattle.transfer.specs.Checks.{stopTests, cancelTests}
 use Rattle.transfer.specs.Writing.{acknowledged, pairOf}
 use Rattle.transfer.specs.Calls.{both, held, putIn, progressOf}
 use Rattle.transfer.specs.Logs.{Call, beginning, storing, stopping, cancelling, Entry, transferAfter, bufferAfter}
-use Rattle.transfer.specs.Logs.{Account, none, since, accountStep, accountAfter}
+use Rattle.transfer.specs.Logs.{Account, none, since, accountStep, accountAfter, piecesIn, summed}
 use Rattle.transfer.specs.LogsComputed.{callOf, entryOf, logOf}
 use Rattle.transfer.specs.History.{progressRow, Stored, LinkOut}
 use Rattle.transfer.specs.Histories.{TransferHistory}
 use Rattle.transfer.specs.declared.state.Transfer.{Transfer}
 use Rattle.transfer.specs.declared.state.Transfer.the-variants.{Absent, Open}
-use Rattle.transfer.proofs.PieceLaws.{reaches-end}
+use Rattle.transfer.proofs.PieceLaws.{below-end, reaches-end}
 use Rattle.transfer.proofs.TestLaws.{open-sizes}
 use Rattle.transfer.proofs.Outcomes.{Others, other-refusal, acknowledged-other, pair-other, not-state}
 use Rattle.transfer.proofs.Accounts.{Told, told-ranged}
@@ -171,11 +171,29 @@ stored-told (since size piece start ps) t buffer h =
       front = h .front;
       rest = h .rest;
       numbers = h .numbers;
+      few = listed;
+      partial = λ l.
+          let inside = below-end size piece (open-sizes size piece (length ps) (h .ranged) .1) (length ps) l in
+          omega (arith, h .bytes, inside);
       whole = λ e.
           let all = reaches-end size piece (open-sizes size piece (length ps) (h .ranged) .1) in
           h .bytes ∙ ap (λ k. bytesOf size piece k) e
           ∙ min-cases (piecesOf size piece * piece) size _ (λ l q. omega (arith, l, q, all)) (λ l q. q);
     }
+  where
+    listed : length ps ≤ piecesOf size piece
+    listed =
+        let outer = both-hold (not (eqb size 0 || eqb piece 0)) (h .ranged) in
+        let inner = both-hold (leb (piecesOf size piece) maxPieces) (outer .1) in
+        leb-true (length ps) (piecesOf size piece) (inner .1)
+
+-- and the bytes stored alone
+bytes-told : (a : Account) (t : Transfer) (buffer : List ℕ) → Told a t buffer
+    → getD (progressOf t .values) 0 0 ≡ summed (piecesIn a)
+unfolding summed
+bytes-told none t buffer h = ap (λ (r : Row). getD (r .values) 0 0) (progress-told none t buffer h)
+bytes-told (since size piece start ps) t buffer h =
+    ap (λ (r : Row). getD (r .values) 0 0) (progress-told (since size piece start ps) t buffer h)
 
 pub transfer-history : TransferHistory
 transfer-history limit first max buffer calls =
@@ -183,6 +201,7 @@ transfer-history limit first max buffer calls =
     let h = told-after limit first max none Absent buffer refl calls in
     record {
       progress = progress-told (accountAfter none log) (transferAfter Absent log) (bufferAfter buffer log) h;
+      bytes = bytes-told (accountAfter none log) (transferAfter Absent log) (bufferAfter buffer log) h;
       stored = stored-told (accountAfter none log) (transferAfter Absent log) (bufferAfter buffer log) h;
       never-state = state-only limit first max none Absent buffer refl calls;
     }

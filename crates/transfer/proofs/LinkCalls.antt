@@ -17,7 +17,7 @@ use Rattle.link.proofs.Histories.{link-history}
 use Rattle.link.proofs.Refusals.{refused-unchanged}
 use Rattle.transfer.specs.History.{LinkOut}
 use Rattle.transfer.specs.LinkCalls.{Box, box, BothCall, linking, beginning, storing, stopping, cancelling}
-use Rattle.transfer.specs.LinkCalls.{bothOf, BothEntry, bothLog, linkAfter, offeredIn, linkCallsIn, linkCalls}
+use Rattle.transfer.specs.LinkCalls.{bothOf, BothEntry, bothLog, linkLeft, offeredIn, linkCallsIn, linkCalls}
 use Rattle.transfer.specs.LinkCalls.{linkEntriesIn, linkEntries, lastLink, WrittenUnder, LinksFollow}
 use Rattle.transfer.specs.Logs as own
 use Rattle.transfer.specs.LogsComputed as step
@@ -134,9 +134,9 @@ module _ (limit first max : ℕ) where
       ∙ ap (λ (es : List link.Entry). linkEntriesIn (entry b c) ++ es) (same next cs)
 
   last : (b : Box) (cs : List BothCall)
-      → linkAfter (b .link) (bothLog limit first max b cs)
+      → linkLeft (b .link) (bothLog limit first max b cs)
       ≡ lastLink (b .link) (linkEntries (bothLog limit first max b cs))
-  unfolding bothLog linkAfter linkEntries lastLink
+  unfolding bothLog linkLeft linkEntries lastLink
   last b [] = refl
   last b (c ∷ cs) =
       let next = bothOf limit first max b c .state in

@@ -17,7 +17,10 @@ use Rattle.message.specs.declared.kind.Kind.the-variants as kind
 use Rattle.transfer.specs.Payloads.{faulty}
 use Rattle.transfer.specs.PayloadsExact.{AnnouncementExact, PieceExact, PayloadsExact}
 use Rattle.transfer.proofs.ReadLaws.{read-19, size-read, index-read, total-read, bytes-read}
-use Rattle.transfer.proofs.ReadLaws.{faulty-19, faulty-1d, faulty-1f}
+use Rattle.transfer.proofs.ReadLaws.{faulty-19, faulty-1d, faulty-1f, fault-19, fault-1d, fault-1f}
+use Rattle.base.specs.Rows.{row}
+use Rattle.base.proofs.Keys.{among-holds}
+use Rattle.message.specs.Reading.{readOf}
 
 -- ---- whether the size fits
 
@@ -81,5 +84,7 @@ payloads-exact =
       piece = piece;
       short-piece = λ p n. faulty-1d p ∙ ap not (piece-unfit p n);
       stop = faulty-1f [] ∙ ap not empty-fits;
+      fault = λ c p m. among-holds (λ k. faulty k p ≡ true → readOf k p ≡ row 32 []) c (0x19 ∷ 0x1D ∷ 0x1F ∷ [])
+          (fault-19 p, (fault-1d p, (fault-1f p, tt))) m;
       long-stop = λ x p. faulty-1f (x ∷ p) ∙ ap not (empty-unfit x p);
     }

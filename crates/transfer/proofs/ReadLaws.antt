@@ -10,6 +10,7 @@ use types.Run.{OneOf}
 use lib.Dec.{eqb}
 use lib.ListN.{length, getD, drop, length-drop}
 use lib.Seq.{take-all}
+use Rattle.base.specs.Rows.{row}
 use Rattle.base.specs.Numbers.{twoAt, fourAt}
 use Rattle.base.proofs.Keys.{at-keys}
 use Rattle.message.specs.Commands.{table, profileIn}
@@ -103,6 +104,14 @@ module _ (sized : Bool) (values : List ℕ) (parts : Parts) where
       go true q = rw q
       go false q = rw q
 
+  -- where it is faulty, it is SIZE
+  pub size-fault : not (eqb (Reads sized values parts .row .number) 0) ≡ true → Reads sized values parts ≡ refusal 32
+  size-fault e = go sized refl
+    where
+      go : (t : Bool) → sized ≡ t → Reads sized values parts ≡ refusal 32
+      go true q = absurd (true≢false (sym (rw q at e)))
+      go false q = rw q
+
   fits-unless : not (eqb (Reads sized values parts .row .number) 0) ≡ false → sized ≡ true
   fits-unless e = go sized refl
     where
@@ -152,3 +161,20 @@ faulty-1d p =
 pub faulty-1f : (p : List ℕ) → faulty 0x1F p ≡ not (sizeFits kind.Empty p)
 unfolding table profileIn
 faulty-1f p = faulty-by (sizeFits kind.Empty p) (0x1F ∷ []) noParts
+
+-- which is SIZE
+pub fault-19 : (p : List ℕ) → faulty 0x19 p ≡ true → readOf 0x19 p ≡ row 32 []
+unfolding table profileIn
+fault-19 p e =
+    ap (λ (r : Read). r .row) (size-fault (sizeFits kind.Announcement p) (0x19 ∷ fourAt p 0 ∷ [])
+    (noTexts (place 6 (twoAt p 4)) nowhere) e)
+
+pub fault-1d : (p : List ℕ) → faulty 0x1D p ≡ true → readOf 0x1D p ≡ row 32 []
+unfolding table profileIn
+fault-1d p e =
+    ap (λ (r : Read). r .row) (size-fault (sizeFits kind.Piece p) (0x1D ∷ twoAt p 0 ∷ twoAt p 2 ∷ [])
+    (noTexts nowhere (place 4 (length p - 4))) e)
+
+pub fault-1f : (p : List ℕ) → faulty 0x1F p ≡ true → readOf 0x1F p ≡ row 32 []
+unfolding table profileIn
+fault-1f p e = ap (λ (r : Read). r .row) (size-fault (sizeFits kind.Empty p) (0x1F ∷ []) noParts e)

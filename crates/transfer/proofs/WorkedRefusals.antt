@@ -14,9 +14,11 @@ worked-refusals =
     record {
       begins = refl;
       begins-roomless = refl;
+      begins-nothing = refl;
       begins-long = refl;
       stores = refl;
       stores-roomless = refl;
+      stores-again = refl;
       stores-none = refl;
       stops = refl;
       cancels = refl;

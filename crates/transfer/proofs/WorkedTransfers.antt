@@ -6,14 +6,21 @@ use Rattle.base.specs.Sums.{total}
 use Rattle.frame.specs.Wire.{stuff, bodyOf}
 use Rattle.message.specs.Commands.{table, profileIn}
 use Rattle.message.specs.Layouts.{fits, sizeFits}
-use Rattle.transfer.specs.Logs.{transferAfter, bufferAfter}
+use Rattle.transfer.specs.Logs.{transferAfter, bufferAfter, accountAfter, summed, joined, countFrom}
 use Rattle.transfer.specs.LogsComputed.{logOf}
 use Rattle.transfer.specs.WorkedTransfers.{WorkedTransfers}
 
 pub worked-transfers : WorkedTransfers
-unfolding among sameBytes total stuff bodyOf table profileIn fits sizeFits transferAfter bufferAfter logOf
+unfolding among sameBytes total stuff bodyOf table profileIn fits sizeFits transferAfter bufferAfter logOf accountAfter
+    summed joined countFrom
 worked-transfers =
     record {
+      whole-told = refl;
+      again-told = refl;
+      none-told = refl;
+      sums = refl;
+      joins = refl;
+      counts = refl;
       whole = record { rows-are = refl; progress-is = refl; transfer-is = refl; buffer-is = refl };
       faulty = record { rows-are = refl; progress-is = refl; transfer-is = refl; buffer-is = refl };
       again = record { rows-are = refl; progress-is = refl; transfer-is = refl; buffer-is = refl };

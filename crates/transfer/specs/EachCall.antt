@@ -46,7 +46,7 @@ linkAfter first l command clock =
 -- ---- calls-exact
 
 -- a 19, with a transfer and a link in range: SIZE, BUSY, EMPTY, TOOBIG, PIECES, PAYLOAD, and the pair
-pub record BeginExact (first max : ℕ) (t : Transfer) (l : Link) (number : ℕ) (payload : List ℕ) (piece room : ℕ)
+pub record BeginExact (t : Transfer) (l : Link) (number : ℕ) (payload : List ℕ) (piece room : ℕ)
     (out : List ℕ) (next : Link) (limit : ℕ) (y : Left _) : Type 0 where
   pub misread : faulty 0x19 payload ≡ true → Rejected _ 32 number out (both t l) y
   pub waits : (command under sent repeats : ℕ) → faulty 0x19 payload ≡ false
@@ -107,7 +107,7 @@ pub record StoreExact (size piece stored number flags index total : ℕ) (bytes 
 pub record CallsExact (limit first max : ℕ) : Type 0 where
   pub begins : (t : Transfer) (l : Link) (clock number : ℕ) (payload : List ℕ) (piece room : ℕ) (out : List ℕ)
       → inRangeOf t ≡ true → inRange first max l ≡ true
-      → BeginExact first max t l number payload piece room out (linkAfter first l 0x1B clock) limit
+      → BeginExact t l number payload piece room out (linkAfter first l 0x1B clock) limit
       (beginOf limit first max t l clock number payload piece room out)
   pub stores : (size piece stored number flags : ℕ) (payload buffer out : List ℕ)
       → inRangeOf (Open size piece stored) ≡ true → faulty 0x1D payload ≡ false
@@ -131,7 +131,15 @@ pub record CallsExact (limit first max : ℕ) : Type 0 where
       → inRangeOf t ≡ true → inRange first max l ≡ true → l .wait ≡ Idle
       → Sent _ 0x27 (l .next) out (both t l) (both Absent (linkAfter first l 0x27 clock))
       (cancelOf limit first max t l clock out)
-  -- STATE of the transfer or of the link, before all else
+  -- STATE of the transfer, before all else
+  pub state-transfer : (t : Transfer) (l : Link) (clock number flags : ℕ) (payload : List ℕ) (piece room : ℕ)
+      (buffer out : List ℕ) → inRangeOf t ≡ false
+      → (beginOf limit first max t l clock number payload piece room out ≡ left (output (row 17 (0 ∷ [])) out)
+      (both t l))
+      × (storeOf limit t number flags payload buffer out ≡ left (output (row 17 (0 ∷ [])) out) (held t buffer))
+      × (stopOf limit t number payload out ≡ left (output (row 17 (0 ∷ [])) out) t)
+      × (cancelOf limit first max t l clock out ≡ left (output (row 17 (0 ∷ [])) out) (both t l))
+  -- and of the link
   pub state-link : (t : Transfer) (l : Link) (clock number : ℕ) (payload : List ℕ) (piece room : ℕ) (out : List ℕ)
       → inRange first max l ≡ false
       → (beginOf limit first max t l clock number payload piece room out ≡ left (output (row 17 (0 ∷ [])) out)

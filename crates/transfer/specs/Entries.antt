@@ -41,8 +41,8 @@ pub record CallsStated (limit first max : ℕ) (t : Transfer) (buffer : List ℕ
       }
 
 -- of every transfer and buffer
-abbrev pub CallsAlways : Type 0
-CallsAlways = (limit first max : ℕ) (t : Transfer) (buffer : List ℕ) → CallsStated limit first max t buffer
+abbrev pub CallsStatedAlways : Type 0
+CallsStatedAlways = (limit first max : ℕ) (t : Transfer) (buffer : List ℕ) → CallsStated limit first max t buffer
 
 -- the call of an entry
 abbrev pub callIn : Entry → Call

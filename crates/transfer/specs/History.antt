@@ -1,17 +1,17 @@
 -- Statement: what holds of every list of calls of a transfer that began fresh, with one buffer. PROTOCOL 15.1 to 15.14.
 -- The record `History` is the statement to be judged; transfer-history, in `Histories`, is its claim.
-use Prim.Native.Nat.{ℕ}
+use Prim.Native.Nat.{ℕ, _≤_, _<_}
 use mathlib.Core.Path.{_≡_}
 use mathlib.Core.Bool.{false}
 use mathlib.Core.List.{List, [], _∷_, _++_, map}
-use lib.ListN.{length, take, drop}
+use lib.ListN.{length, getD, take, drop}
 use Rattle.base.specs.Rows.{Row, row}
 use Rattle.link.specs.Calls.{inRange}
 use Rattle.transfer.specs.Pieces.{piecesOf}
 use Rattle.transfer.specs.Calls.{progressOf}
 use Rattle.transfer.specs.Logs.{Call, beginning, storing, stopping, cancelling, Entry, transferAfter, bufferAfter}
-use Rattle.transfer.specs.Logs.{Piece, numberOf, Account, none, since, accountAfter, summed, joined}
-use Rattle.transfer.specs.Logs.{numbersFrom}
+use Rattle.transfer.specs.Logs.{Piece, numberOf, Account, none, since, accountAfter, piecesIn, summed, joined}
+use Rattle.transfer.specs.Logs.{countFrom}
 use Rattle.transfer.specs.declared.state.Transfer.the-variants.{Absent}
 
 -- what the progress answers: nothing, or the bytes stored and the bytes announced
@@ -26,9 +26,11 @@ pub record Receiving (size piece : ℕ) (start : List ℕ) (ps : List Piece) (bu
   -- its rest is as it was when the transfer began
   pub rest : drop (summed ps) buffer ≡ drop (summed ps) start
   -- the pieces were accepted in the order of their numbers, from 1 on
-  pub numbers : map numberOf ps ≡ numbersFrom 1 (length ps)
-  -- where all pieces were accepted, the bytes stored are as many as were announced
+  pub numbers : map numberOf ps ≡ countFrom 1 (length ps)
+  -- there are at most t; the bytes stored are as many as were announced exactly where all were accepted
+  pub few : length ps ≤ piecesOf size piece
   pub whole : length ps ≡ piecesOf size piece → summed ps ≡ size
+  pub partial : length ps < piecesOf size piece → summed ps < size
 
 -- whatever there is
 abbrev pub Stored : Account → List ℕ → Type 0
@@ -47,6 +49,7 @@ pub record History (first max : ℕ) (buffer : List ℕ) (log : List Entry) : Ty
   -- the bytes stored, as the progress answers them, are the lengths of the accepted pieces of distinct numbers since
   -- the last accepted 19, added up; without a transfer there are none
   pub progress : progressOf (transferAfter Absent log) ≡ progressRow (accountAfter none log)
+  pub bytes : getD (progressOf (transferAfter Absent log) .values) 0 0 ≡ summed (piecesIn (accountAfter none log))
   -- and where they are
   pub stored : Stored (accountAfter none log) (bufferAfter buffer log)
   -- STATE is only a link's

@@ -80,9 +80,9 @@ bothLog limit first max b (c ∷ cs) =
     ∷ bothLog limit first max (bothOf limit first max b c .state) cs
 
 -- the link after a log
-unfoldable pub linkAfter : Link → List BothEntry → Link
-linkAfter l [] = l
-linkAfter l (e ∷ es) = linkAfter (e .after .state .link) es
+unfoldable pub linkLeft : Link → List BothEntry → Link
+linkLeft l [] = l
+linkLeft l (e ∷ es) = linkLeft (e .after .state .link) es
 
 -- ---- what the link was asked, by calls and rows alone
 
@@ -155,7 +155,7 @@ pub record LinkFollows (first max : ℕ) (log : List BothEntry) : Type 0 where
   -- so the link's history holds: numbers, waits, repeats
   pub history : History first max (linkEntries log)
   -- the link is left as by its own calls
-  pub left : linkAfter (freshOf first) log ≡ lastLink (freshOf first) (linkEntries log)
+  pub left : linkLeft (freshOf first) log ≡ lastLink (freshOf first) (linkEntries log)
   -- what is accepted is written under the number that the link's entry of it returns
   pub numbered : (before : List BothEntry) (e : BothEntry) (after : List BothEntry)
       → log ≡ before ++ (e ∷ after) → WrittenUnder (e .before .link .next) (e .call) (e .after)

@@ -104,6 +104,6 @@ joined [] = []
 joined (p ∷ ps) = p .bytes ++ joined ps
 
 -- the numbers from one on, n of them
-unfoldable pub numbersFrom : ℕ → ℕ → List ℕ
-numbersFrom from zero = []
-numbersFrom from (suc n) = from ∷ numbersFrom (suc from) n
+unfoldable pub countFrom : ℕ → ℕ → List ℕ
+countFrom from zero = []
+countFrom from (suc n) = from ∷ countFrom (suc from) n

@@ -5,6 +5,9 @@ use mathlib.Core.Logic.{_≢_}
 use mathlib.Core.Bool.{true, false}
 use mathlib.Core.List.{List, [], _∷_}
 use lib.ListN.{length}
+use Rattle.base.specs.Keys.{among}
+use Rattle.base.specs.Rows.{row}
+use Rattle.message.specs.Reading.{readOf}
 use Rattle.transfer.specs.Payloads.{faulty, sizeIn, codeIn, indexIn, totalIn, bytesIn}
 
 -- ---- payloads-exact: each payload without a fault, and where the fault is
@@ -31,4 +34,7 @@ pub record PayloadsExact : Type 0 where
   pub piece : (a b c d : ℕ) (bytes : List ℕ) → PieceExact a b c d bytes
   pub short-piece : (p : List ℕ) → length p < 4 → faulty 0x1D p ≡ true
   pub stop : faulty 0x1F [] ≡ false
+  -- and a fault is always SIZE
+  pub fault : (c : ℕ) (p : List ℕ) → among c (0x19 ∷ 0x1D ∷ 0x1F ∷ []) ≡ true → faulty c p ≡ true
+      → readOf c p ≡ row 32 []
   pub long-stop : (x : ℕ) (p : List ℕ) → faulty 0x1F (x ∷ p) ≡ true

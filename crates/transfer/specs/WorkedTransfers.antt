@@ -10,13 +10,14 @@ use Rattle.link.specs.declared.state.Link.{Link}
 use Rattle.link.specs.declared.state.Wait.the-variants.{Idle, Waiting}
 use Rattle.transfer.specs.Calls.{left, both, held, beginOf, storeOf, stopOf, cancelOf, progressOf}
 use Rattle.transfer.specs.Logs.{Call, beginning, storing, stopping, cancelling, Entry, transferAfter, bufferAfter}
+use Rattle.transfer.specs.Logs.{Piece, none, since, accountAfter, summed, joined, countFrom}
 use Rattle.transfer.specs.LogsComputed.{logOf}
 use Rattle.transfer.specs.declared.state.Transfer.{Transfer}
 use Rattle.transfer.specs.declared.state.Transfer.the-variants.{Absent, Open}
 
 -- ---- what the calls are given
 
--- nothing waits, and the next number is 3; or a report waits
+-- nothing waits, and the next number is 3
 abbrev pub idle : Link
 idle = linkOf 3 Idle
 
@@ -24,11 +25,11 @@ idle = linkOf 3 Idle
 abbrev pub busy : Link
 busy = linkOf 3 (Waiting 0x05 2 0 0)
 
--- a buffer of twelve bytes, and an output of thirty
+-- a buffer of twelve bytes
 abbrev pub buffer : List ℕ
 buffer = replicate 12 7
 
--- the output before each call
+-- an output of thirty bytes, before each call
 abbrev pub output30 : List ℕ
 output30 = replicate 30 9
 
@@ -36,7 +37,7 @@ output30 = replicate 30 9
 abbrev pub tenBytes : List ℕ
 tenBytes = 0 ∷ 0 ∷ 0 ∷ 10 ∷ 0 ∷ 2 ∷ 0xAB ∷ 0xCD ∷ []
 
--- a 19 with pieces of four bytes, and 1D's with flags
+-- the 19, with pieces of four bytes
 abbrev pub announced : Link → Call
 announced l = beginning l 1000 5 tenBytes 4 output30
 
@@ -53,7 +54,7 @@ rowsOf (e ∷ es) = e .row ∷ rowsOf es
 abbrev pub logged : List Call → List Entry
 logged calls = logOf 1024 0 2 Absent buffer calls
 
--- a 1E, a 12 and a 20 of nine, ten and nine bytes
+-- a 1E of nine bytes
 abbrev pub stored : Row
 stored = row 0 (9 ∷ 30 ∷ [])
 
@@ -61,7 +62,7 @@ stored = row 0 (9 ∷ 30 ∷ [])
 abbrev pub began : Row
 began = row 0 (24 ∷ 26 ∷ 9 ∷ [])
 
--- what is refused
+-- a 12 of ten bytes
 abbrev pub refused : ℕ → Row
 refused n = row n (10 ∷ [])
 
@@ -104,8 +105,23 @@ cancelCalls =
     ∷ cancelling idle 0 output30 ∷ piece 2 (5 ∷ 6 ∷ 7 ∷ 8 ∷ []) ∷ announced idle ∷ stopping 4 (1 ∷ []) output30
     ∷ stopping 4 [] (replicate 8 9) ∷ stopping 4 [] output30 ∷ stopping 4 [] output30 ∷ cancelling idle 0 output30 ∷ []
 
--- the bytes that are written, too
+-- a piece of an account
+abbrev pub numbered : ℕ → List ℕ → Piece
+numbered n bytes = record { number = n; bytes = bytes }
+
+-- and what calls and answers tell, and the bytes that are written
 pub record WorkedTransfers : Type 0 where
+  pub whole-told :
+      accountAfter none (logged wholeCalls)
+      ≡ since 10 4 buffer
+      (numbered 1 (1 ∷ 2 ∷ 3 ∷ 4 ∷ []) ∷ numbered 2 (5 ∷ 6 ∷ 7 ∷ 8 ∷ []) ∷ numbered 3 (9 ∷ 10 ∷ []) ∷ [])
+  pub again-told :
+      accountAfter none (logged againCalls)
+      ≡ since 10 4 (1 ∷ 2 ∷ 3 ∷ 4 ∷ 5 ∷ 6 ∷ 7 ∷ 8 ∷ 7 ∷ 7 ∷ 7 ∷ 7 ∷ []) (numbered 1 (11 ∷ 12 ∷ 13 ∷ 14 ∷ []) ∷ [])
+  pub none-told : accountAfter none (logged cancelCalls) ≡ none
+  pub sums : summed (numbered 1 (1 ∷ 2 ∷ []) ∷ numbered 2 (3 ∷ []) ∷ []) ≡ 3
+  pub joins : joined (numbered 1 (1 ∷ 2 ∷ []) ∷ numbered 2 (3 ∷ []) ∷ []) ≡ 1 ∷ 2 ∷ 3 ∷ []
+  pub counts : countFrom 1 3 ≡ 1 ∷ 2 ∷ 3 ∷ []
   pub whole :
       Leaves wholeCalls (began ∷ replicate 5 stored) (row 0 (10 ∷ 10 ∷ [])) (Open 10 4 3)
       (1 ∷ 2 ∷ 3 ∷ 4 ∷ 5 ∷ 6 ∷ 7 ∷ 8 ∷ 9 ∷ 10 ∷ 7 ∷ 7 ∷ [])
