@@ -60,7 +60,8 @@ causeNumber cause.Field = 33
 causeNumber cause.BoxCommand = 0
 
 -- nothing; 0 bytes, the command that the caller is asked to send, and the received sequence number; the count of an
--- acknowledgement; the count of a rejection, its command 12, the code and the cause; ROOM 22
+-- acknowledgement; the count of a rejection, its command 12, the code and the cause; ROOM 22. Where 19, 1D or 1F is
+-- handed over, the command is that of its reply without a fault
 abbrev pub replyRowOf : ReplyResult → Row
 replyRowOf reply.Nothing = row 0 []
 replyRowOf (reply.InformationWanted number) = row 0 (0 ∷ 0x02 ∷ number ∷ [])
