@@ -18,16 +18,16 @@ use Rattle.transfer.specs.Checks.{stopTests, cancelTests}
 use Rattle.transfer.specs.Writing.{acknowledged, pairOf}
 use Rattle.transfer.specs.Calls.{both, held, putIn, progressOf}
 use Rattle.transfer.specs.Logs.{Call, beginning, storing, stopping, cancelling, Entry, transferAfter, bufferAfter}
-use Rattle.transfer.specs.Logs.{Account, none, since, accountStep, accountAfter, piecesIn, summed}
+use Rattle.transfer.specs.Logs.{Piece, Account, none, since, accountStep, accountAfter, piecesIn, summed}
 use Rattle.transfer.specs.LogsComputed.{callOf, entryOf, logOf}
-use Rattle.transfer.specs.History.{progressRow, Stored, LinkOut}
+use Rattle.transfer.specs.History.{progressRow, Receiving, LinkOut}
 use Rattle.transfer.specs.Histories.{TransferHistory}
 use Rattle.transfer.specs.declared.state.Transfer.{Transfer}
 use Rattle.transfer.specs.declared.state.Transfer.the-variants.{Absent, Open}
 use Rattle.transfer.proofs.PieceLaws.{below-end, reaches-end}
 use Rattle.transfer.proofs.TestLaws.{open-sizes}
 use Rattle.transfer.proofs.Outcomes.{Others, other-refusal, acknowledged-other, pair-other, not-state}
-use Rattle.transfer.proofs.Accounts.{Told, told-ranged}
+use Rattle.transfer.proofs.Accounts.{Holds, Told, told-ranged}
 use Rattle.transfer.proofs.Moves.{begin-keeps, store-keeps, stop-keeps, cancel-keeps}
 
 -- ---- STATE is a link's
@@ -164,9 +164,9 @@ progress-told : (a : Account) (t : Transfer) (buffer : List ℕ) → Told a t bu
 progress-told none t buffer h = rw h
 progress-told (since size piece start ps) t buffer h = rw (h .is, h .ranged, h .bytes)
 
-stored-told : (a : Account) (t : Transfer) (buffer : List ℕ) → Told a t buffer → Stored a buffer
-stored-told none t buffer h = tt
-stored-told (since size piece start ps) t buffer h =
+stored-told : (size piece : ℕ) (start : List ℕ) (ps : List Piece) (t : Transfer) (buffer : List ℕ)
+    → Holds size piece start ps t buffer → Receiving size piece start ps buffer
+stored-told size piece start ps t buffer h =
     record {
       front = h .front;
       rest = h .rest;
@@ -202,6 +202,8 @@ transfer-history limit first max buffer calls =
     record {
       progress = progress-told (accountAfter none log) (transferAfter Absent log) (bufferAfter buffer log) h;
       bytes = bytes-told (accountAfter none log) (transferAfter Absent log) (bufferAfter buffer log) h;
-      stored = stored-told (accountAfter none log) (transferAfter Absent log) (bufferAfter buffer log) h;
+      stored = λ size piece start ps e.
+          stored-told size piece start ps (transferAfter Absent log) (bufferAfter buffer log)
+          (subst (λ (a : Account). Told a (transferAfter Absent log) (bufferAfter buffer log)) e h);
       never-state = state-only limit first max none Absent buffer refl calls;
     }

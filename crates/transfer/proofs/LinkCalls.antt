@@ -15,7 +15,9 @@ use Rattle.link.specs.Table.{acceptedRow}
 use Rattle.link.specs.declared.state.Link.{Link}
 use Rattle.link.proofs.Histories.{link-history}
 use Rattle.link.proofs.Refusals.{refused-unchanged}
+use Rattle.transfer.specs.Calls.{Left, Both, Held}
 use Rattle.transfer.specs.History.{LinkOut}
+use Rattle.transfer.specs.LinkCalls.{leaving, bothCallIn, BothChains, BothLogExact, BothStatedAlways}
 use Rattle.transfer.specs.LinkCalls.{Box, box, BothCall, linking, beginning, storing, stopping, cancelling}
 use Rattle.transfer.specs.LinkCalls.{bothOf, BothEntry, bothLog, linkLeft, offeredIn, linkCallsIn, linkCalls}
 use Rattle.transfer.specs.LinkCalls.{linkEntriesIn, linkEntries, lastLink, WrittenUnder, LinksFollow}
@@ -305,4 +307,29 @@ link-follows limit first max small buffer calls =
       left = last limit first max start calls;
       numbered = λ before e after q. all before e after q .0;
       never-state = λ before e after q. all before e after q .1;
+    }
+
+pub both-log-exact : BothLogExact
+unfolding bothLog BothChains
+both-log-exact limit first max b calls = record { all-calls = all b calls; chains = links b calls }
+  where
+    all : (b : Box) (cs : List BothCall) → map bothCallIn (bothLog limit first max b cs) ≡ cs
+    all b [] = refl
+    all b (c ∷ cs) = ap (λ l. c ∷ l) (all (bothOf limit first max b c .state) cs)
+
+    links : (b : Box) (cs : List BothCall) → BothChains limit first max b (bothLog limit first max b cs)
+    links b [] = tt
+    links b (c ∷ cs) = (refl, refl, links (bothOf limit first max b c .state) cs)
+
+pub both-stated : BothStatedAlways
+both-stated limit first max b =
+    record {
+      begins = λ clock number payload piece out y e.
+          ap (λ (z : Left Both). leaving z (box (z .state .transfer) (z .state .link) (b .buffer))) e;
+      stores = λ number flags payload out y e.
+          ap (λ (z : Left Held). leaving z (box (z .state .transfer) (b .link) (z .state .buffer))) e;
+      stops = λ number payload out y e.
+          ap (λ (z : Left Transfer). leaving z (box (z .state) (b .link) (b .buffer))) e;
+      cancels = λ clock out y e.
+          ap (λ (z : Left Both). leaving z (box (z .state .transfer) (z .state .link) (b .buffer))) e;
     }

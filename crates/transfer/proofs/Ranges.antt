@@ -15,7 +15,7 @@ use Rattle.transfer.specs.Calls.{progressIn, progressOf}
 use Rattle.transfer.specs.Logs.{Call, beginning, storing, stopping, cancelling}
 use Rattle.transfer.specs.LogsComputed.{callOf}
 use Rattle.transfer.specs.History.{LinkOut}
-use Rattle.transfer.specs.Ranges.{LinkIn, OutOfRange, InRange, TransferRanges}
+use Rattle.transfer.specs.Ranges.{LinkIn, OutOfRange, InRange, TransferRanges, ProgressExact}
 use Rattle.transfer.specs.declared.state.Transfer.{Transfer}
 use Rattle.transfer.specs.declared.state.Transfer.the-variants.{Absent, Open}
 use Rattle.transfer.proofs.PieceLaws.{below-end, reaches-end}
@@ -133,3 +133,6 @@ transfer-ranges =
             too-far size piece stored p s m,
           ) (and-false (leb (piecesOf size piece) maxPieces))));
     }
+
+pub progress-exact : ProgressExact
+progress-exact = record { absent = refl; opened = λ size piece stored h. rw h }

@@ -18,6 +18,7 @@ worked-transfers =
       whole-told = refl;
       again-told = refl;
       none-told = refl;
+      begun-told = refl;
       sums = refl;
       joins = refl;
       counts = refl;

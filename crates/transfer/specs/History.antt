@@ -32,11 +32,6 @@ pub record Receiving (size piece : ℕ) (start : List ℕ) (ps : List Piece) (bu
   pub whole : length ps ≡ piecesOf size piece → summed ps ≡ size
   pub partial : length ps < piecesOf size piece → summed ps < size
 
--- whatever there is
-abbrev pub Stored : Account → List ℕ → Type 0
-Stored none buffer = Unit {0}
-Stored (since size piece start ps) buffer = Receiving size piece start ps buffer
-
 -- a call that has a link which is out of range
 abbrev pub LinkOut : ℕ → ℕ → Call → Type 0
 LinkOut first max (beginning l clock number payload piece out) = inRange first max l ≡ false
@@ -51,7 +46,8 @@ pub record History (first max : ℕ) (buffer : List ℕ) (log : List Entry) : Ty
   pub progress : progressOf (transferAfter Absent log) ≡ progressRow (accountAfter none log)
   pub bytes : getD (progressOf (transferAfter Absent log) .values) 0 0 ≡ summed (piecesIn (accountAfter none log))
   -- and where they are
-  pub stored : Stored (accountAfter none log) (bufferAfter buffer log)
+  pub stored : (size piece : ℕ) (start : List ℕ) (ps : List Piece)
+      → accountAfter none log ≡ since size piece start ps → Receiving size piece start ps (bufferAfter buffer log)
   -- STATE is only a link's
   pub never-state : (before : List Entry) (e : Entry) (after : List Entry)
       → log ≡ before ++ (e ∷ after) → e .row .number ≡ 17 → LinkOut first max (e .call)

@@ -17,7 +17,7 @@ use Rattle.link.specs.Table.{acceptedRow}
 use Rattle.link.specs.declared.state.Link.{Link}
 use Rattle.transfer.specs.Payloads.{codeIn}
 use Rattle.transfer.specs.Writing.{readyPayload}
-use Rattle.transfer.specs.Calls.{Left, beginOf, storeOf, stopOf, cancelOf}
+use Rattle.transfer.specs.Calls.{Left, Both, Held, beginOf, storeOf, stopOf, cancelOf}
 use Rattle.transfer.specs.declared.state.Transfer.{Transfer}
 use Rattle.transfer.specs.declared.state.Transfer.the-variants.{Absent}
 
@@ -168,3 +168,47 @@ abbrev pub LinksFollow : Type 0
 LinksFollow =
     (limit first max : ℕ) → first ≤ 255 → (buffer : List ℕ) (calls : List BothCall)
     → LinkFollows first max (bothLog limit first max (box Absent (freshOf first) buffer) calls)
+
+-- ---- both-log-exact: the log has all calls, in order, each of the box that the previous one left
+
+-- the call of an entry
+abbrev pub bothCallIn : BothEntry → BothCall
+bothCallIn e = e .call
+
+-- each call is of what the previous one left
+unfoldable pub BothChains : ℕ → ℕ → ℕ → Box → List BothEntry → Type 0
+BothChains limit first max b [] = Unit {0}
+BothChains limit first max b (e ∷ es) =
+    (e .before ≡ b) × (e .after ≡ bothOf limit first max b (e .call))
+    × BothChains limit first max (e .after .state) es
+
+-- of a list of calls
+pub record BothExact (limit first max : ℕ) (b : Box) (calls : List BothCall) : Type 0 where
+  pub all-calls : map bothCallIn (bothLog limit first max b calls) ≡ calls
+  pub chains : BothChains limit first max b (bothLog limit first max b calls)
+
+-- of every one
+abbrev pub BothLogExact : Type 0
+BothLogExact = (limit first max : ℕ) (b : Box) (calls : List BothCall) → BothExact limit first max b calls
+
+-- ---- both-stated: a call of these logs is what the contracts state
+pub record BothStated (limit first max : ℕ) (b : Box) : Type 0 where
+  pub begins : (clock number : ℕ) (payload : List ℕ) (piece : ℕ) (out : List ℕ) (y : Left Both)
+      → beginOf limit first max (b .transfer) (b .link) clock number payload piece (length (b .buffer)) out ≡ y
+      → bothOf limit first max b (beginning clock number payload piece out)
+      ≡ leaving y (box (y .state .transfer) (y .state .link) (b .buffer))
+  pub stores : (number flags : ℕ) (payload out : List ℕ) (y : Left Held)
+      → storeOf limit (b .transfer) number flags payload (b .buffer) out ≡ y
+      → bothOf limit first max b (storing number flags payload out)
+      ≡ leaving y (box (y .state .transfer) (b .link) (y .state .buffer))
+  pub stops : (number : ℕ) (payload out : List ℕ) (y : Left Transfer)
+      → stopOf limit (b .transfer) number payload out ≡ y
+      → bothOf limit first max b (stopping number payload out) ≡ leaving y (box (y .state) (b .link) (b .buffer))
+  pub cancels : (clock : ℕ) (out : List ℕ) (y : Left Both)
+      → cancelOf limit first max (b .transfer) (b .link) clock out ≡ y
+      → bothOf limit first max b (cancelling clock out)
+      ≡ leaving y (box (y .state .transfer) (y .state .link) (b .buffer))
+
+-- of every box
+abbrev pub BothStatedAlways : Type 0
+BothStatedAlways = (limit first max : ℕ) (b : Box) → BothStated limit first max b

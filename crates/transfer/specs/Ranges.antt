@@ -1,5 +1,5 @@
 -- Claims: the ranges of a transfer, in the numbers of docs/STATES.md and without a division. PROTOCOL 15.14.
-use Prim.Native.Nat.{ℕ, _+_, _*_, _≤_, _<_}
+use Prim.Native.Nat.{ℕ, _+_, _*_, _≤_, _<_, min}
 use mathlib.Core.Path.{_≡_}
 use mathlib.Core.Logic.{_≢_}
 use mathlib.Core.Bool.{true, false}
@@ -45,3 +45,9 @@ pub record TransferRanges : Type 0 where
   pub piece-out : (size stored : ℕ) → OutOfRange (Open size 0 stored)
   pub many-out : (size piece stored : ℕ) → 65535 * piece < size → OutOfRange (Open size piece stored)
   pub stored-out : (size piece stored : ℕ) → size + piece ≤ stored * piece → OutOfRange (Open size piece stored)
+
+-- ---- progress-exact: the progress of every transfer in range, in numbers
+pub record ProgressExact : Type 0 where
+  pub absent : progressOf Absent ≡ row 0 []
+  pub opened : (size piece stored : ℕ) → inRangeOf (Open size piece stored) ≡ true
+      → progressOf (Open size piece stored) ≡ row 0 (min (stored * piece) size ∷ size ∷ [])

@@ -119,6 +119,7 @@ pub record WorkedTransfers : Type 0 where
       accountAfter none (logged againCalls)
       ≡ since 10 4 (1 ∷ 2 ∷ 3 ∷ 4 ∷ 5 ∷ 6 ∷ 7 ∷ 8 ∷ 7 ∷ 7 ∷ 7 ∷ 7 ∷ []) (numbered 1 (11 ∷ 12 ∷ 13 ∷ 14 ∷ []) ∷ [])
   pub none-told : accountAfter none (logged cancelCalls) ≡ none
+  pub begun-told : progressOf (transferAfter Absent (logged (announced idle ∷ []))) ≡ row 0 (0 ∷ 10 ∷ [])
   pub sums : summed (numbered 1 (1 ∷ 2 ∷ []) ∷ numbered 2 (3 ∷ []) ∷ []) ≡ 3
   pub joins : joined (numbered 1 (1 ∷ 2 ∷ []) ∷ numbered 2 (3 ∷ []) ∷ []) ≡ 1 ∷ 2 ∷ 3 ∷ []
   pub counts : countFrom 1 3 ≡ 1 ∷ 2 ∷ 3 ∷ []
