@@ -9,6 +9,7 @@ import re
 import sys
 import tempfile
 
+import boxing
 import firstuse
 import listener
 import live
@@ -363,6 +364,7 @@ def main():
         whole.all_outputs(test, door.path, root / "target/bin", room)
         listener.all_uses(test, door.path, room)
         replaying.all_uses(test, root / "bin/trogonreed", root / "target/bin", room, seed)
+        boxing.all_uses(test, root, seed)
         command_line(door, room)
         unreadable(root, room)
         places(door, root, room)

@@ -4,13 +4,13 @@ use mathlib.Core.Path.{_≡_, refl, sym, subst, _∙_}
 use mathlib.Core.Logic.{_≢_}
 use mathlib.Core.Bool.{false}
 use mathlib.Core.List.{List, [], _∷_}
-use borrow.Author.Tests.{eqb-true, eqb-false, ne-eqb}
+use borrow.Author.Tests.{eqb-true, eqb-false}
 use lib.Dec.{eqb}
 use lib.ListN.{length}
 use Rattle.base.specs.Rows.{Row, row}
 use Rattle.base.specs.Outcomes.{Outcome, outcome, Output, output}
 use Rattle.base.specs.Keys.{among}
-use Rattle.base.proofs.Tests.{either-way}
+use Rattle.base.proofs.Tests.{tests, either-way}
 use Rattle.base.proofs.Keys.{among-holds}
 use Rattle.frame.specs.Wire.{commandOf, numberOf, flagsOf, payloadOf}
 use Rattle.message.specs.Replies.{rejectOf, replyFrameOf, replyOf}
@@ -92,7 +92,7 @@ module _ (limit first max : ℕ) (g : Given) (body : List ℕ) where
     unfolding among
     silent answer f s =
         stands answer (output (row 0 []) (g .out)) (unasked g) (sym (silent-else limit answer body (g .out) f s))
-        (unheard first max answer body (g .link) (ne-eqb (answer .number) 1 f)) refl
+        (unheard first max answer body (g .link) (search tests)) refl
 
     pub wrong-sum : (v : List ℕ) → leaves limit first max g (row 15 v) body ≡ Sum
     wrong-sum v =
@@ -106,30 +106,21 @@ module _ (limit first max : ℕ) (g : Given) (body : List ℕ) where
           stands (row 1 v) (replyFrameOf limit (commandOf body) (numberOf body) (payloadOf body) (g .out)) heard refl
           refl (plain (commandOf body) limit (numberOf body) (payloadOf body) (g .out) h .stands)
 
-      -- handed over
-      handed : (reply : Output)
+      -- a frame that is handed over: with this reply `message` does it, and then this is left
+      handed : (reply : Output) (y : After)
           → replyFrameOf limit (commandOf body) (numberOf body) (payloadOf body) (g .out) ≡ reply
-          → leaves limit first max g (row 1 v) body
-          ≡ answerOf limit first max reply heard body (g .transfer) (g .clock) (g .piece) (g .buffer)
-      handed reply e = by-reply (row 1 v) reply heard (sym e) refl
+          → y ≡ answerOf limit first max reply heard body (g .transfer) (g .clock) (g .piece) (g .buffer)
+          → leaves limit first max g (row 1 v) body ≡ y
+      handed reply y e left = by-reply (row 1 v) reply heard (sym e) refl ∙ sym left
 
       pub begin : commandOf body ≡ 0x19 → leaves limit first max g (row 1 v) body ≡ Begin
-      begin is =
-          handed _ (hands-begin (commandOf body) limit (numberOf body) (payloadOf body) (g .out) is)
-          ∙ sym (to-begin limit first max (g .out) heard body (g .transfer) (g .clock) (g .piece) (g .buffer)
-          (numberOf body))
+      begin is = handed _ Begin (hands-begin _ _ _ _ _ is) (to-begin _ _ _ _ _ _ _ _ _ _ _)
 
       pub store : commandOf body ≡ 0x1D → leaves limit first max g (row 1 v) body ≡ Store
-      store is =
-          handed _ (hands-store (commandOf body) limit (numberOf body) (payloadOf body) (g .out) is)
-          ∙ sym (to-store limit first max (g .out) heard body (g .transfer) (g .clock) (g .piece) (g .buffer)
-          (numberOf body))
+      store is = handed _ Store (hands-store _ _ _ _ _ is) (to-store _ _ _ _ _ _ _ _ _ _ _)
 
       pub stop : commandOf body ≡ 0x1F → leaves limit first max g (row 1 v) body ≡ Stop
-      stop is =
-          handed _ (hands-stop (commandOf body) limit (numberOf body) (payloadOf body) (g .out) is)
-          ∙ sym (to-stop limit first max (g .out) heard body (g .transfer) (g .clock) (g .piece) (g .buffer)
-          (numberOf body))
+      stop is = handed _ Stop (hands-stop _ _ _ _ _ is) (to-stop _ _ _ _ _ _ _ _ _ _ _)
 
     -- what holds in each case holds of every call
     module _ (P : After → Type 0) (answer : Row) where

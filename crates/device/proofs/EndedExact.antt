@@ -23,10 +23,11 @@ use Rattle.link.specs.declared.state.Wait.the-variants.{Idle, Waiting}
 use Rattle.link.proofs.EachCall.{calls-exact}
 use Rattle.transfer.specs.Checks.{inRangeOf}
 use Rattle.transfer.specs.Calls.{Both}
+use Rattle.transfer.proofs.Refusals.{refused-kept}
 use Rattle.device.specs.Handling.{After, endedIn}
 use Rattle.device.specs.HandlingExact.{Given, holding, leaves, Ranged, linkAfter}
 use Rattle.device.specs.EndedExact.{Ends, IdleExact, WaitingExact, EndedExact}
-use Rattle.device.proofs.TransferLaws.{begin-arrives, begin-busy}
+use Rattle.device.proofs.TransferLaws.{begin-waits, begin-busy}
 use Rattle.device.proofs.CaseLaws.{Begin, other, begin, by-cases}
 use Rattle.device.proofs.StateFirst.{idle-in, waiting-in}
 
@@ -86,14 +87,13 @@ module _ (given : Given) (t : inRangeOf (given .transfer) ≡ true) where
         record {
           accepted = λ v body is done.
               let e = begin frameLimit firstNumber maxRepeats idle body (idle-in next, t) v is in
-              let a = begin-arrives frameLimit firstNumber maxRepeats (given .transfer)
-              (linkAfter firstNumber maxRepeats idle body) (given .clock) (numberOf body) (payloadOf body)
-              (given .piece) (length (given .buffer)) (given .out) in
               subst (Ends (row 0 []) (linkOf (numberAfter next) (Waiting 0x1B next (given .clock) 0))) (sym e)
               (record {
                 ended-is = ended-as idle body (row 43 []) (linkOf next Idle) (idle-stray body);
-                link-is = ap (λ (s : Both). s .link)
-                    (a .moves (sym (ap (λ (y : After). y .row .number) e) ∙ done))
+                link-is = begin-waits frameLimit firstNumber maxRepeats (given .transfer)
+                    (linkAfter firstNumber maxRepeats idle body) (given .clock) (numberOf body) (payloadOf body)
+                    (given .piece) (length (given .buffer)) (given .out)
+                    (sym (ap (λ (y : After). y .row .number) e) ∙ done)
                     ∙ ap (λ (l : Link). offerOf firstNumber maxRepeats l 0x1B (given .clock) .state)
                     (link-as idle body (row 43 []) (linkOf next Idle) (idle-stray body))
                     ∙ ap (λ (y : Outcome Link). y .state) (calls-exact .idle next .accepts 0x1B (given .clock) refl);
@@ -102,9 +102,9 @@ module _ (given : Given) (t : inRangeOf (given .transfer) ≡ true) where
               stays-by idle body (idle-in next, t) answer (λ _. idle-stray body)
               (λ (y : After). answer .number ≡ 1 → commandOf body ≡ 0x19 → y .row .number ≢ 0)
               (λ f is q. ap (λ (s : Both). s .link)
-              (begin-arrives frameLimit firstNumber maxRepeats (given .transfer)
+              (refused-kept frameLimit firstNumber maxRepeats (given .transfer)
               (linkAfter firstNumber maxRepeats idle body) (given .clock) (numberOf body) (payloadOf body)
-              (given .piece) (length (given .buffer)) (given .out) .stays (q f is)))
+              (given .out) .begins (given .piece) (length (given .buffer)) .unchanged (q f is)))
               p;
         }
 
@@ -152,8 +152,7 @@ module _ (given : Given) (t : inRangeOf (given .transfer) ≡ true) where
               (ends waiting body (row 0 (command ∷ number ∷ [])) (linkOf next Idle) (fits body c n) _ refl refl);
           stays = λ answer body h.
               stays-by waiting body ranged answer (λ f. stray body (h f)) (λ (_ : After). Unit {0})
-              (λ f is _. ap (λ (s : Both). s .link)
-              (begin-busy frameLimit firstNumber maxRepeats (given .transfer)
+              (λ f is _. (begin-busy frameLimit firstNumber maxRepeats (given .transfer)
               (linkAfter firstNumber maxRepeats waiting body) (given .clock) (numberOf body) (payloadOf body)
               (given .piece) (length (given .buffer)) (given .out)
               (ap (λ (l : Link). offerOf firstNumber maxRepeats l 0x1B (given .clock) .row .number)

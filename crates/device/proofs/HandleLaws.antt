@@ -1,7 +1,7 @@
 -- What a call leaves, by what the calls inside it returned. Assumes nothing.
 use Prim.Native.Nat.{ℕ}
 use mathlib.Core.Path.{_≡_, refl, ap, _∙_}
-use mathlib.Core.Bool.{Bool, true, false, cond, _&&_, true≢false}
+use mathlib.Core.Bool.{true, false, true≢false}
 use mathlib.Core.List.{List, [], _∷_}
 use lib.Dec.{eqb, leb}
 use lib.ListN.{length}
@@ -9,7 +9,7 @@ use Rattle.base.specs.Rows.{Row, row}
 use Rattle.base.specs.Outcomes.{Outcome, outcome, Output, output}
 use Rattle.base.specs.Keys.{among}
 use Rattle.base.proofs.Tests as tests
-use Rattle.base.proofs.Tests.{by-test}
+use Rattle.base.proofs.Tests.{by-test, either-way}
 use Rattle.frame.specs.Wire.{commandOf, numberOf, flagsOf, payloadOf}
 use Rattle.message.specs.Replies.{replyOf}
 use Rattle.link.specs.Sending.{fitsOf}
@@ -21,18 +21,18 @@ use Rattle.transfer.specs.Checks.{inRangeOf}
 use Rattle.transfer.specs.Calls.{Left, left, Both, both, Held, held, beginOf, storeOf, stopOf}
 use Rattle.transfer.specs.declared.state.Transfer.{Transfer}
 use Rattle.device.specs.Handling.{After, after, endedIn, heardOf, begunAfter, storedAfter, stoppedAfter}
-use Rattle.device.specs.Handling.{wantedIn, answerOf, handleOf}
+use Rattle.device.specs.Handling.{isFrame, wantedIn, answerOf, handleOf}
 
 -- ---- the link
 
 module _ (first max : ℕ) (answer : Row) (body : List ℕ) (l : Link) where
-  -- an answer that is not FRAME
-  pub unheard : eqb (answer .number) 1 ≡ false → outcome (row 0 []) l ≡ heardOf first max answer body l
+  -- an answer that is not given to it
+  pub unheard : isFrame answer ≡ false → outcome (row 0 []) l ≡ heardOf first max answer body l
   unheard e = simp e
 
-  -- FRAME: `command` and `number` are what the code read of the body, `r` and `next` what the link said of them, and
-  -- `x` is the row of the wait that ended
-  pub heard : eqb (answer .number) 1 ≡ true → (command number : ℕ) → command ≡ commandOf body → number ≡ numberOf body
+  -- one that is: `command` and `number` are what the code read of the body, `r` and `next` what the link said of them,
+  -- and `x` is the row of the wait that ended
+  pub heard : isFrame answer ≡ true → (command number : ℕ) → command ≡ commandOf body → number ≡ numberOf body
       → (r : Row) (next : Link) → outcome r next ≡ receiveOf first max l command number
       → (x : Row) → x ≡ endedIn r → outcome x next ≡ heardOf first max answer body l
   heard e command number p q r next received x ended =
@@ -115,17 +115,6 @@ module _ (limit first max : ℕ) (out : List ℕ) (heard : Outcome Link) (body :
 
 -- ---- the call
 
--- both tests have passed, or one has not
-in-both : {A : Type 0} (a b : Bool) (x y : A) → a ≡ true → b ≡ true → x ≡ cond (a && b) x y
-in-both a b x y p q = rw (p, q)
-
-not-first : {A : Type 0} (a b : Bool) (x y : A) → a ≡ false → y ≡ cond (a && b) x y
-not-first a b x y p = rw p
-
-not-second : {A : Type 0} (a b : Bool) (x y : A) → b ≡ false → y ≡ cond (a && b) x y
-not-second true b x y q = rw q
-not-second false b x y q = refl
-
 module _ (limit first max : ℕ) (answer : Row) (body : List ℕ) (t : Transfer) (l : Link) (clock piece : ℕ)
     (buffer out : List ℕ) where
   -- what the whole call leaves
@@ -138,11 +127,11 @@ module _ (limit first max : ℕ) (answer : Row) (body : List ℕ) (t : Transfer)
 
   pub link-out : inRange first max l ≡ false → Untouched ≡ Whole
   unfolding handleOf
-  link-out e = not-first (inRange first max l) (inRangeOf t) _ _ e
+  link-out e = rw e
 
   pub transfer-out : inRangeOf t ≡ false → Untouched ≡ Whole
   unfolding handleOf
-  transfer-out e = not-second (inRange first max l) (inRangeOf t) _ _ e
+  transfer-out e = either-way (inRange first max l) (λ ranged. rw (ranged, e)) link-out
 
   -- both in range: by the reply of `message` and what the link said
   pub answered : inRange first max l ≡ true → inRangeOf t ≡ true
@@ -154,4 +143,4 @@ module _ (limit first max : ℕ) (answer : Row) (body : List ℕ) (t : Transfer)
       ap (λ (w : Output). answerOf limit first max w said body t clock piece buffer) p
       ∙ ap (λ (y : Outcome Link). answerOf limit first max (replyOf limit answer body out) y body t clock piece buffer)
       q
-      ∙ in-both (inRange first max l) (inRangeOf t) _ _ linked ranged
+      ∙ rw (linked, ranged)

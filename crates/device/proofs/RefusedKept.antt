@@ -13,11 +13,12 @@ use Rattle.message.specs.declared.kind.Cause.the-variants as cause
 use Rattle.link.specs.Calls.{inRange}
 use Rattle.transfer.specs.Checks.{inRangeOf}
 use Rattle.transfer.specs.Calls.{Both, Held}
+use Rattle.transfer.specs.Refusals as refusals
+use Rattle.transfer.proofs.Refusals.{refused-kept as transfer-kept}
 use Rattle.device.specs.HandlingExact.{Given, leaves, Ranged, linkAfter}
 use Rattle.device.specs.RefusedKept.{Kept, RefusedKept}
 use Rattle.device.proofs.HandleLaws.{link-out, transfer-out}
 use Rattle.device.proofs.ReplyLaws.{plain, plain-reject}
-use Rattle.device.proofs.TransferLaws.{begin-arrives, store-arrives, stop-arrives}
 use Rattle.device.proofs.CaseLaws.{by-cases}
 
 -- none of the four numbers is 0
@@ -26,6 +27,14 @@ unfolding among
 not-done n h z = absurd (true≢false (sym (rw z at h)))
 
 module _ (limit first max : ℕ) (g : Given) (answer : Row) (body : List ℕ) where
+  -- the transfer's own claim, of the link after the frame
+  kept-by :
+      refusals.RefusedKept limit first max (g .transfer) (linkAfter first max g body) (g .clock) (numberOf body)
+      (payloadOf body) (g .out)
+  kept-by =
+      transfer-kept limit first max (g .transfer) (linkAfter first max g body) (g .clock) (numberOf body)
+      (payloadOf body) (g .out)
+
   in-range : Ranged first max g → Kept g (leaves limit first max g answer body)
   in-range ranged =
       by-cases limit first max g body ranged (Kept g) answer
@@ -41,22 +50,23 @@ module _ (limit first max : ℕ) (g : Given) (answer : Row) (body : List ℕ) wh
         out = λ h.
             plain (commandOf body) limit (numberOf body) (payloadOf body) (g .out) o .unwritten (not-done _ h);
       })
-      (λ _ _. let a = begin-arrives limit first max (g .transfer) (linkAfter first max g body) (g .clock)
-      (numberOf body) (payloadOf body) (g .piece) (length (g .buffer)) (g .out) in
+      (λ _ _. let a = kept-by .begins (g .piece) (length (g .buffer)) in
       record {
-        transfer = λ n. ap (λ (s : Both). s .transfer) (a .stays n);
+        transfer = λ n. ap (λ (s : Both). s .transfer) (a .unchanged n);
         buffer = λ _. refl;
-        out = a .unwritten;
+        out = a .nothing-written;
       })
-      (λ _ _. let a = store-arrives limit (numberOf body) (flagsOf body) (payloadOf body) (g .buffer) (g .out)
-      (g .transfer) in
+      (λ _ _. let a = kept-by .stores (flagsOf body) (g .buffer) in
       record {
-        transfer = λ n. ap (λ (s : Held). s .transfer) (a .stays n);
-        buffer = λ n. ap (λ (s : Held). s .buffer) (a .stays n);
-        out = a .unwritten;
+        transfer = λ n. ap (λ (s : Held). s .transfer) (a .unchanged n);
+        buffer = λ n. ap (λ (s : Held). s .buffer) (a .unchanged n);
+        out = a .nothing-written;
       })
-      λ _ _. let a = stop-arrives limit (g .transfer) (numberOf body) (payloadOf body) (g .out) in
-      record { transfer = a .stays; buffer = λ _. refl; out = a .unwritten }
+      λ _ _. record {
+        transfer = kept-by .stops .unchanged;
+        buffer = λ _. refl;
+        out = kept-by .stops .nothing-written;
+      }
 
 pub refused-kept : RefusedKept
 refused-kept limit first max g answer body =

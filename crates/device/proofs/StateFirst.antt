@@ -1,13 +1,10 @@
 -- STATE is answered exactly where a field is out of range. Assumes nothing.
-use Prim.Native.Nat.{ℕ, _≤_, _<_}
+use Prim.Native.Nat.{ℕ, _≤_}
 use mathlib.Core.Path.{_≡_, refl, sym, ap}
 use mathlib.Core.Logic.{_≢_}
-use mathlib.Core.Bool.{Bool, true, false, not, _&&_, _||_}
+use mathlib.Core.Bool.{true, false}
 use mathlib.Core.List.{List}
-use native.Mathlib.Omega.{arith}
-use borrow.Author.Tests.{eqb-false, ne-eqb, le-leb, lt-leb}
-use lib.Dec.{eqb, leb}
-use lib.ListN.{length}
+use borrow.Author.Tests.{eqb-false}
 use Rattle.base.specs.Rows.{Row}
 use Rattle.base.specs.Outcomes.{Outcome}
 use Rattle.base.specs.Keys.{among}
@@ -23,16 +20,19 @@ use Rattle.link.specs.declared.state.Wait.{Wait}
 use Rattle.link.specs.declared.state.Wait.the-variants.{Idle, Waiting}
 use Rattle.link.proofs.Refusals.{refused-unchanged}
 use Rattle.link.proofs.Ranges.{link-ranges}
-use Rattle.transfer.specs.Pieces.{maxPieces, piecesOf}
 use Rattle.transfer.specs.Checks.{inRangeOf}
+use Rattle.transfer.specs.Logs.{Call, beginning, storing, stopping}
+use Rattle.transfer.specs.LogsComputed.{callOf}
+use Rattle.transfer.specs.Ranges.{LinkIn}
 use Rattle.transfer.specs.declared.state.Transfer.{Transfer}
 use Rattle.transfer.specs.declared.state.Transfer.the-variants.{Absent, Open}
+use Rattle.transfer.proofs.Ranges.{transfer-ranges}
 use Rattle.device.specs.Handling.{After}
 use Rattle.device.specs.HandlingExact.{Given, holding, leaves, Ranged, linkAfter}
 use Rattle.device.specs.StateFirst.{StateExact, FieldsExact, WaitIn, TransferIn, StateFirst}
 use Rattle.device.proofs.HandleLaws.{received-ranged, link-out, transfer-out}
 use Rattle.device.proofs.ReplyLaws.{plain, plain-reject}
-use Rattle.device.proofs.TransferLaws.{begin-not-state, store-not-state, stop-not-state}
+use Rattle.device.proofs.TransferLaws.{in-range}
 use Rattle.device.proofs.CaseLaws.{by-cases}
 
 -- ---- by the ranges
@@ -44,12 +44,14 @@ module _ (limit first max : ℕ) (g : Given) (answer : Row) (body : List ℕ) wh
       (λ _. eqb-false 0 17 refl)
       (λ _. plain-reject (g .out) limit (numberOf body) cause.Sum .not-state)
       (λ _ o. plain (commandOf body) limit (numberOf body) (payloadOf body) (g .out) o .not-state)
-      (λ _ _. begin-not-state limit first max (g .transfer) (linkAfter first max g body) (g .clock) (numberOf body)
-      (payloadOf body) (g .piece) (length (g .buffer)) (g .out)
-      (received-ranged first max (g .link) (commandOf body) (numberOf body) (ranged .0)) (ranged .1))
-      (λ _ _. store-not-state limit (numberOf body) (flagsOf body) (payloadOf body) (g .buffer) (g .out) (g .transfer)
-      (ranged .1))
-      λ _ _. stop-not-state limit (g .transfer) (numberOf body) (payloadOf body) (g .out) (ranged .1)
+      (λ _ _. asked
+      (beginning (linkAfter first max g body) (g .clock) (numberOf body) (payloadOf body) (g .piece) (g .out))
+      (received-ranged first max (g .link) (commandOf body) (numberOf body) (ranged .0)))
+      (λ _ _. asked (storing (numberOf body) (flagsOf body) (payloadOf body) (g .out)) tt)
+      λ _ _. asked (stopping (numberOf body) (payloadOf body) (g .out)) tt
+    where
+      asked : (c : Call) → LinkIn first max c → callOf limit first max (g .transfer) (g .buffer) c .row .number ≢ 17
+      asked = in-range (g .transfer) (ranged .1) .calls limit first max (g .buffer)
 
   exact : StateExact limit first max g answer body
   exact =
@@ -90,32 +92,10 @@ link-in next (Waiting command number sent repeats) h =
 
 -- ---- the fields of a transfer
 
--- of two tests, the second fails
-later : (a : Bool) {b : Bool} → b ≡ false → (a && b) ≡ false
-later true e = e
-later false e = refl
-
-no-piece : (size stored : ℕ) → inRangeOf (Open size 0 stored) ≡ false
-no-piece size stored = either-way (eqb size 0) (λ e. rw e) λ e. rw e
-
-module _ (size piece stored : ℕ) where
-  many : 65535 < piecesOf size piece → inRangeOf (Open size piece stored) ≡ false
-  many h = later (not (eqb size 0 || eqb piece 0)) (rw (lt-leb (piecesOf size piece) maxPieces h))
-
-  beyond : piecesOf size piece < stored → inRangeOf (Open size piece stored) ≡ false
-  beyond h =
-      later (not (eqb size 0 || eqb piece 0))
-      (later (leb (piecesOf size piece) maxPieces) (lt-leb stored (piecesOf size piece) h))
-
 transfer-in : (t : Transfer) → TransferIn t → inRangeOf t ≡ true
-transfer-in Absent h = refl
+transfer-in Absent h = transfer-ranges .absent-in .test
 transfer-in (Open size piece stored) h =
-    rw (
-      ne-eqb size 0 (λ e. absurd (omega (arith, h .0))),
-      ne-eqb piece 0 (λ e. absurd (omega (arith, h .1))),
-      le-leb (piecesOf size piece) maxPieces (h .2),
-      le-leb stored (piecesOf size piece) (h .3),
-    )
+    transfer-ranges .open-in size piece stored (h .0) (h .1) (h .2) (h .3) .test
 
 -- ---- the claim
 
@@ -128,10 +108,14 @@ fields g answer body =
       command = λ t next command number sent repeats h.
           state t (linkOf next (Waiting command number sent repeats)) .link-out
           (out-by _ (link-ranges .each (ticking 0) .command-out next command number sent repeats h));
-      size = λ l piece stored. state (Open 0 piece stored) l .transfer-out refl;
-      piece = λ l size stored. state (Open size 0 stored) l .transfer-out (no-piece size stored);
-      pieces = λ l size piece stored h. state (Open size piece stored) l .transfer-out (many size piece stored h);
-      stored = λ l size piece stored h. state (Open size piece stored) l .transfer-out (beyond size piece stored h);
+      size = λ l piece stored.
+          state (Open 0 piece stored) l .transfer-out (transfer-ranges .size-out piece stored .test);
+      piece = λ l size stored.
+          state (Open size 0 stored) l .transfer-out (transfer-ranges .piece-out size stored .test);
+      pieces = λ l size piece stored h.
+          state (Open size piece stored) l .transfer-out (transfer-ranges .many-out size piece stored h .test);
+      stored = λ l size piece stored h.
+          state (Open size piece stored) l .transfer-out (transfer-ranges .stored-out size piece stored h .test);
     }
   where
     state : (t : Transfer) (l : Link) → StateExact frameLimit firstNumber maxRepeats (holding g t l) answer body

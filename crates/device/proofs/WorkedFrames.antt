@@ -16,7 +16,9 @@ worked-frames v =
       replied = refl;
       faulty = refl;
       no-room = refl;
+      again = refl;
       stray = refl;
       wrong-sum = refl;
       short = refl;
+      state = refl;
     }

@@ -1,5 +1,5 @@
 -- Claims: each answer has its number and values, no two the same, and the contract fixes all that a call leaves.
--- PROTOCOL 8.13, 9.12, 12.2, 12.4, 15.6 to 15.11.
+-- PROTOCOL 12.2, 12.4, 16.6.
 use Prim.Native.Nat.{ℕ}
 use mathlib.Core.Path.{_≡_}
 use mathlib.Core.List.{List, [], _∷_, map}

@@ -1,5 +1,5 @@
--- Claims: which wait a frame ends, and the link after each answer of the reader, in literal numbers. PROTOCOL 9.9,
--- 9.12, 15.6.
+-- Claims: which wait a frame ends, and the link after each answer of the reader, in literal numbers. PROTOCOL 16.2 to
+-- 16.5.
 use Prim.Native.Nat.{ℕ, _+_, _≤_}
 use mathlib.Core.Path.{_≡_}
 use mathlib.Core.Logic.{_≢_}

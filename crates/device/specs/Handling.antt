@@ -1,8 +1,8 @@
 -- Model: what the box does with an answer of the reader, composed from the models of `message`, `link` and `transfer`,
 -- and held to the rules by handle-exact, ended-exact, state-first, refused-kept and worked-frames. `limit` bounds the
--- length of a frame; `first` and `max` are the link's. PROTOCOL 8, 9.9, 9.15, 15.6 to 15.8, 15.14.
+-- length of a frame; `first` and `max` are the link's. PROTOCOL 16.
 use Prim.Native.Nat.{ℕ}
-use mathlib.Core.Bool.{cond, _&&_}
+use mathlib.Core.Bool.{Bool, cond, _&&_}
 use mathlib.Core.List.{List, [], _∷_}
 use lib.Dec.{eqb}
 use lib.ListN.{length, getD}
@@ -52,21 +52,25 @@ handledOf h buffer out =
 abbrev pub heardBy : Heard → Outcome Link
 heardBy h = outcome (endedRowOf (h .ended)) (h .link)
 
--- ---- the link: PROTOCOL 9.9, 9.12
+-- ---- the link: PROTOCOL 16.2
 
 -- the wait that ended, by the link's row of the received frame; STRAY ends nothing, and is not an answer here
 abbrev pub endedIn : Row → Row
 endedIn r = cond (eqb (r .number) 0) r (row 0 [])
 
--- FRAME 1 is received, and no other answer of the reader
+-- whether an answer of the reader is given to the link: FRAME 1, and no other
+abbrev pub isFrame : Row → Bool
+isFrame answer = eqb (answer .number) 1
+
+-- what the link says of an answer of the reader
 abbrev pub heardOf : ℕ → ℕ → Row → List ℕ → Link → Outcome Link
 heardOf first max answer body l =
-    cond (eqb (answer .number) 1)
+    cond (isFrame answer)
     (outcome (endedIn (receiveOf first max l (commandOf body) (numberOf body) .row))
     (receiveOf first max l (commandOf body) (numberOf body) .state))
     (outcome (row 0 []) l)
 
--- ---- the reply: PROTOCOL 8, 15.6 to 15.8
+-- ---- the reply: PROTOCOL 16.3, 16.4
 
 -- what the transfer leaves of a 19
 abbrev pub begunAfter : Outcome Link → List ℕ → Left Both → After
@@ -105,7 +109,7 @@ answerOf limit first max reply heard body t clock piece buffer =
 
 -- ---- the call
 
--- STATE of link or transfer before everything: PROTOCOL 9.15, 15.14
+-- STATE of link or transfer before everything: PROTOCOL 16.1. What was written decides nothing for the link: 16.5
 unfoldable pub handleOf : ℕ → ℕ → ℕ → Row → List ℕ → Transfer → Link → ℕ → ℕ → List ℕ → List ℕ → After
 handleOf limit first max answer body t l clock piece buffer out =
     cond (inRange first max l && inRangeOf t)

@@ -1,5 +1,4 @@
--- Claims: what the box does with each answer of the reader, case by case, in literal numbers. PROTOCOL 8.1 to 8.13,
--- 9.9, 15.6 to 15.8.
+-- Claims: what the box does with each answer of the reader, case by case, in literal numbers. PROTOCOL 16.2 to 16.5.
 use Prim.Native.Nat.{ℕ, _≤_}
 use mathlib.Core.Path.{_≡_}
 use mathlib.Core.Logic.{_≢_}
@@ -65,42 +64,30 @@ Silent g y =
 -- SUM: a 12 with code 1, under the number of the body
 pub record SumExact (limit : ℕ) (g : Given) (body : List ℕ) (y : After) : Type 0 where
   pub reply : RejectedWith limit (numberOf body) 1 15 (g .out) (output (y .row) (y .out))
-  pub ended : y .ended ≡ row 0 []
-  pub transfer : y .transfer ≡ g .transfer
-  pub link : y .link ≡ g .link
-  pub buffer : y .buffer ≡ g .buffer
+  pub ended-is : y .ended ≡ row 0 []
+  pub transfer-is : y .transfer ≡ g .transfer
+  pub link-is : y .link ≡ g .link
+  pub buffer-is : y .buffer ≡ g .buffer
 
--- a frame whose reply, `w`, is of `message`
-pub record OtherExact (g : Given) (l : Link) (w : Output) (y : After) : Type 0 where
-  pub answer : y .row ≡ w .row
-  pub out : y .out ≡ w .out
-  pub transfer : y .transfer ≡ g .transfer
-  pub link : y .link ≡ l
-  pub buffer : y .buffer ≡ g .buffer
+-- the answer and the output are those of `w`, and what the caller holds and lends is this
+pub record Comes (w : Output) (t : Transfer) (l : Link) (buffer : List ℕ) (y : After) : Type 0 where
+  pub answer-is : y .row ≡ w .row
+  pub out-is : y .out ≡ w .out
+  pub transfer-is : y .transfer ≡ t
+  pub link-is : y .link ≡ l
+  pub buffer-is : y .buffer ≡ buffer
 
 -- a 19, of which the transfer leaves `b`
-pub record BeginExact (g : Given) (b : Left Both) (y : After) : Type 0 where
-  pub answer : y .row ≡ b .row
-  pub out : y .out ≡ b .out
-  pub transfer : y .transfer ≡ b .state .transfer
-  pub link : y .link ≡ b .state .link
-  pub buffer : y .buffer ≡ g .buffer
+abbrev pub BeginComes : Given → Left Both → After → Type 0
+BeginComes g b y = Comes (output (b .row) (b .out)) (b .state .transfer) (b .state .link) (g .buffer) y
 
--- a 1D, of which the transfer leaves `s`
-pub record StoreExact (l : Link) (s : Left Held) (y : After) : Type 0 where
-  pub answer : y .row ≡ s .row
-  pub out : y .out ≡ s .out
-  pub transfer : y .transfer ≡ s .state .transfer
-  pub link : y .link ≡ l
-  pub buffer : y .buffer ≡ s .state .buffer
+-- a 1D, of which the transfer leaves `s`; the link is `l`
+abbrev pub StoreComes : Link → Left Held → After → Type 0
+StoreComes l s y = Comes (output (s .row) (s .out)) (s .state .transfer) l (s .state .buffer) y
 
 -- a 1F, of which the transfer leaves `s`
-pub record StopExact (g : Given) (l : Link) (s : Left Transfer) (y : After) : Type 0 where
-  pub answer : y .row ≡ s .row
-  pub out : y .out ≡ s .out
-  pub transfer : y .transfer ≡ s .state
-  pub link : y .link ≡ l
-  pub buffer : y .buffer ≡ g .buffer
+abbrev pub StopComes : Given → Link → Left Transfer → After → Type 0
+StopComes g l s y = Comes (output (s .row) (s .out)) (s .state) l (g .buffer) y
 
 -- the answers of the reader: FRAME 1, by its command, SUM 15, and all others
 pub record HandledExact (limit first max : ℕ) (g : Given) : Type 0 where
@@ -110,23 +97,22 @@ pub record HandledExact (limit first max : ℕ) (g : Given) : Type 0 where
   pub wrong-sum : (v body : List ℕ) → 6 ≤ limit → SumExact limit g body (leaves limit first max g (row 15 v) body)
   pub other :
       (v body : List ℕ) → among (commandOf body) (0x19 ∷ 0x1D ∷ 0x1F ∷ []) ≡ false
-      → OtherExact g (linkAfter first max g body)
-      (replyFrameOf limit (commandOf body) (numberOf body) (payloadOf body) (g .out))
-      (leaves limit first max g (row 1 v) body)
+      → Comes (replyFrameOf limit (commandOf body) (numberOf body) (payloadOf body) (g .out)) (g .transfer)
+      (linkAfter first max g body) (g .buffer) (leaves limit first max g (row 1 v) body)
   pub begin :
       (v body : List ℕ) → commandOf body ≡ 0x19
-      → BeginExact g
+      → BeginComes g
       (beginOf limit first max (g .transfer) (linkAfter first max g body) (g .clock) (numberOf body) (payloadOf body)
       (g .piece) (length (g .buffer)) (g .out))
       (leaves limit first max g (row 1 v) body)
   pub store :
       (v body : List ℕ) → commandOf body ≡ 0x1D
-      → StoreExact (linkAfter first max g body)
+      → StoreComes (linkAfter first max g body)
       (storeOf limit (g .transfer) (numberOf body) (flagsOf body) (payloadOf body) (g .buffer) (g .out))
       (leaves limit first max g (row 1 v) body)
   pub stop :
       (v body : List ℕ) → commandOf body ≡ 0x1F
-      → StopExact g (linkAfter first max g body)
+      → StopComes g (linkAfter first max g body)
       (stopOf limit (g .transfer) (numberOf body) (payloadOf body) (g .out))
       (leaves limit first max g (row 1 v) body)
 

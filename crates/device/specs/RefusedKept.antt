@@ -1,4 +1,4 @@
--- Claims: what a refusal leaves as it was, of every link and transfer, in range or not. PROTOCOL 12.3, 15.11.
+-- Claims: what a refusal leaves as it was, of every link and transfer, in range or not. PROTOCOL 12.3, 16.3, 16.5.
 use Prim.Native.Nat.{ℕ}
 use mathlib.Core.Path.{_≡_}
 use mathlib.Core.Logic.{_≢_}

@@ -1,6 +1,6 @@
 -- Claims: STATE is answered exactly where a field of the link or of the transfer is out of its range, whatever the
--- answer of the reader is, and then nothing changes. PROTOCOL 9.15, 15.14.
-use Prim.Native.Nat.{ℕ, _≤_, _<_}
+-- answer of the reader is, and then nothing changes. PROTOCOL 16.1.
+use Prim.Native.Nat.{ℕ, _+_, _*_, _≤_, _<_}
 use mathlib.Core.Path.{_≡_}
 use mathlib.Core.Logic.{_≢_}
 use mathlib.Core.Bool.{true, false}
@@ -14,7 +14,6 @@ use Rattle.link.specs.Ranges.{waiters}
 use Rattle.link.specs.declared.state.Link.{Link}
 use Rattle.link.specs.declared.state.Wait.{Wait}
 use Rattle.link.specs.declared.state.Wait.the-variants.{Idle, Waiting}
-use Rattle.transfer.specs.Pieces.{piecesOf}
 use Rattle.transfer.specs.Checks.{inRangeOf}
 use Rattle.transfer.specs.declared.state.Transfer.{Transfer}
 use Rattle.transfer.specs.declared.state.Transfer.the-variants.{Absent, Open}
@@ -46,7 +45,7 @@ abbrev pub OutOfRange : Given → Row → List ℕ → Transfer → Link → Typ
 OutOfRange g answer body t l =
     Untouched (holding g t l) (leaves frameLimit firstNumber maxRepeats (holding g t l) answer body)
 
--- by each field alone, whatever the others are
+-- by each field alone, whatever the others are. A transfer has at most 65,535 pieces, and stores no more than it has
 pub record FieldsExact (g : Given) (answer : Row) (body : List ℕ) : Type 0 where
   pub repeats : (t : Transfer) (next command number sent repeats : ℕ)
       → 3 ≤ repeats → OutOfRange g answer body t (linkOf next (Waiting command number sent repeats))
@@ -55,9 +54,9 @@ pub record FieldsExact (g : Given) (answer : Row) (body : List ℕ) : Type 0 whe
   pub size : (l : Link) (piece stored : ℕ) → OutOfRange g answer body (Open 0 piece stored) l
   pub piece : (l : Link) (size stored : ℕ) → OutOfRange g answer body (Open size 0 stored) l
   pub pieces : (l : Link) (size piece stored : ℕ)
-      → 65535 < piecesOf size piece → OutOfRange g answer body (Open size piece stored) l
+      → 65535 * piece < size → OutOfRange g answer body (Open size piece stored) l
   pub stored : (l : Link) (size piece stored : ℕ)
-      → piecesOf size piece < stored → OutOfRange g answer body (Open size piece stored) l
+      → size + piece ≤ stored * piece → OutOfRange g answer body (Open size piece stored) l
 
 -- the fields of what waits are in range; both sequence numbers are free
 abbrev pub WaitIn : Wait → Type 0
@@ -68,7 +67,7 @@ WaitIn (Waiting command number sent repeats) = (repeats ≤ 2) × (among command
 abbrev pub TransferIn : Transfer → Type 0
 TransferIn Absent = Unit {0}
 TransferIn (Open size piece stored) =
-    (1 ≤ size) × (1 ≤ piece) × (piecesOf size piece ≤ 65535) × (stored ≤ piecesOf size piece)
+    (1 ≤ size) × (1 ≤ piece) × (size ≤ 65535 * piece) × (stored * piece < size + piece)
 
 -- every call; the last says that no other link and transfer are answered STATE
 pub record StateFirst : Type 0 where

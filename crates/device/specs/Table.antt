@@ -1,5 +1,4 @@
--- Statement: the number and the values of each answer, and of the wait that the frame ended. PROTOCOL 8.13, 9.12,
--- 15.6 to 15.11.
+-- Statement: the number and the values of each answer, and of the wait that the frame ended. PROTOCOL 16.6.
 use mathlib.Core.List.{[], _∷_}
 use Rattle.base.specs.Rows.{Row, row}
 use Rattle.message.specs.Layouts.{codeNumber}

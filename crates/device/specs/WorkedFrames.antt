@@ -1,4 +1,4 @@
--- Claims: worked frames, by computation. PROTOCOL 8.2 to 8.13, 9.9, 9.12, 9.15, 15.6 to 15.11.
+-- Claims: worked frames, by computation. PROTOCOL 16.1 to 16.6.
 use Prim.Native.Nat.{ℕ, _-_}
 use mathlib.Core.Path.{_≡_}
 use mathlib.Core.List.{List, [], _∷_, _++_}
@@ -75,16 +75,19 @@ table =
     ∷ at 600 (0 ∷ 5 ∷ 0x1F ∷ 15 ∷ 0 ∷ 0 ∷ 0x33 ∷ [])
     ∷ []
 
--- the buffer before, with one piece, and with all three
+-- the buffer before
 abbrev pub noPiece : List ℕ
 noPiece = 7 ∷ 7 ∷ 7 ∷ 7 ∷ 7 ∷ 7 ∷ []
 
+-- with one piece
 abbrev pub onePiece : List ℕ
 onePiece = 0x61 ∷ 0x62 ∷ 7 ∷ 7 ∷ 7 ∷ 7 ∷ []
 
+-- with two
 abbrev pub twoPieces : List ℕ
 twoPieces = 0x61 ∷ 0x62 ∷ 0x63 ∷ 0x64 ∷ 7 ∷ 7 ∷ []
 
+-- with all three
 abbrev pub threePieces : List ℕ
 threePieces = 0x61 ∷ 0x62 ∷ 0x63 ∷ 0x64 ∷ 0x65 ∷ 7 ∷ []
 
@@ -108,17 +111,18 @@ tableLeft =
 abbrev pub reporting : Link
 reporting = linkOf 8 (Waiting 0x05 7 100 1)
 
--- what a call leaves then, into an output of this many bytes
-abbrev pub whileReporting : ℕ → Row → List ℕ → After
-whileReporting room answer body =
+-- what a call with this link leaves, into an output of this many bytes
+abbrev pub leavesInto : ℕ → Link → Row → List ℕ → After
+leavesInto room l answer body =
     leaves frameLimit firstNumber maxRepeats
-    (record { transfer = Absent; link = reporting; clock = 150; piece = 2; buffer = noPiece; out = replicate room 7 })
+    (record { transfer = Absent; link = l; clock = 150; piece = 2; buffer = noPiece; out = replicate room 7 })
     answer body
 
--- a 06 with a number, and a 06 with a payload of one byte
+-- a 06 with a number, without its sum, which nothing here reads
 abbrev pub reply06 : ℕ → List ℕ
 reply06 number = 0 ∷ 5 ∷ 0x06 ∷ number ∷ 0 ∷ 0 ∷ []
 
+-- a 06 with a payload of one byte
 abbrev pub faulty06 : List ℕ
 faulty06 = 0 ∷ 6 ∷ 0x06 ∷ 7 ∷ 0 ∷ 0 ∷ 0 ∷ 0x13 ∷ []
 
@@ -127,28 +131,36 @@ pub record WorkedFrames (v : List ℕ) : Type 0 where
   pub whole-table : play Absent (freshOf firstNumber) noPiece table ≡ tableLeft
   -- the reply ends the wait
   pub replied :
-      whileReporting 24 (row 1 v) (reply06 7)
+      leavesInto 24 reporting (row 1 v) (reply06 7)
       ≡ shows (row 0 []) (row 0 (0x05 ∷ 7 ∷ [])) Absent (linkOf 8 Idle) noPiece (written [])
   -- a faulty one too, and gets its 12 with code 3
   pub faulty :
-      whileReporting 24 (row 1 v) faulty06
+      leavesInto 24 reporting (row 1 v) faulty06
       ≡ shows (row 0 (10 ∷ 18 ∷ 3 ∷ 32 ∷ [])) (row 0 (0x05 ∷ 7 ∷ [])) Absent (linkOf 8 Idle) noPiece
       (rejection 7 3 0x22)
   -- also where the output has no room for the 12
   pub no-room :
-      whileReporting 9 (row 1 v) faulty06
+      leavesInto 9 reporting (row 1 v) faulty06
       ≡ shows (row 22 (0 ∷ [])) (row 0 (0x05 ∷ 7 ∷ [])) Absent (linkOf 8 Idle) noPiece (replicate 9 7)
+  -- the same frame again, with more room: no wait ends, and it gets its 12
+  pub again :
+      leavesInto 24 (linkOf 8 Idle) (row 1 v) faulty06
+      ≡ shows (row 0 (10 ∷ 18 ∷ 3 ∷ 32 ∷ [])) (row 0 []) Absent (linkOf 8 Idle) noPiece (rejection 7 3 0x22)
   -- a 06 under another number is stray: the report waits on
   pub stray :
-      whileReporting 24 (row 1 v) (reply06 6)
+      leavesInto 24 reporting (row 1 v) (reply06 6)
       ≡ shows (row 0 []) (row 0 []) Absent reporting noPiece (written [])
   -- SUM: a 12 with code 1, and the report waits on
   pub wrong-sum :
-      whileReporting 24 (row 15 v) (reply06 7)
+      leavesInto 24 reporting (row 15 v) (reply06 7)
       ≡ shows (row 0 (10 ∷ 18 ∷ 1 ∷ 15 ∷ [])) (row 0 []) Absent reporting noPiece (rejection 7 1 0x20)
   -- SHORT, and every other answer: nothing
   pub short :
-      whileReporting 24 (row 11 v) (reply06 7) ≡ shows (row 0 []) (row 0 []) Absent reporting noPiece (written [])
+      leavesInto 24 reporting (row 11 v) (reply06 7) ≡ shows (row 0 []) (row 0 []) Absent reporting noPiece (written [])
+  -- three repeats are out of range: STATE, for SUM too
+  pub state :
+      leavesInto 24 (linkOf 8 (Waiting 0x05 7 100 3)) (row 15 v) (reply06 7)
+      ≡ shows (row 17 (0 ∷ [])) (row 0 []) Absent (linkOf 8 (Waiting 0x05 7 100 3)) noPiece (written [])
 
 -- for all of them
 abbrev pub FramesWorked : Type 0

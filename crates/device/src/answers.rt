@@ -1,4 +1,4 @@
-// The answer of the box to a frame, and the wait that the frame ended. PROTOCOL 8.13, 9.12, 15.6 to 15.11.
+// The answer of the box to a frame, and the wait that the frame ended. PROTOCOL 16.6.
 use link::Link;
 use message::Cause;
 use message::Code;

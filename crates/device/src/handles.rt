@@ -1,4 +1,4 @@
-// What the box does with an answer of the reader. PROTOCOL 8.1 to 8.13, 9.9, 9.15, 15.6 to 15.8, 15.14.
+// What the box does with an answer of the reader. PROTOCOL 16.1 to 16.5.
 use super::answers::Ended;
 use super::answers::HandleResult;
 use super::answers::Handled;
@@ -36,7 +36,7 @@ fn as_heard(answer: HandleResult, transfer: Transfer, heard: Heard) -> Handled
     }
 }
 
-// A 19 goes to the transfer, with the link after the frame.
+// A 19 goes to the transfer, with the link after the frame: PROTOCOL 16.3.
 fn begin(
     number: u8,
     body: &[u8],

@@ -1,16 +1,15 @@
-// The link receives a frame: a reply that fits ends the wait, and every other frame is passed over. PROTOCOL 9.9, 9.12.
+// The link receives a frame: a reply that fits ends the wait, and every other frame is passed over. PROTOCOL 16.2.
 use super::answers::Ended;
 use frame::FeedResult;
 use frame::Verdict;
 use link::Link;
 use link::ReceiveResult;
 ghost use mathlib.Core.Path.{_≡_};
-ghost use lib.Dec.{eqb};
-ghost use Rattle.frame.specs.Table.{verdictNumber, rowOf};
+ghost use Rattle.frame.specs.Table.{decidedRow, rowOf};
 ghost use Rattle.link.specs.Sending.{firstNumber, maxRepeats};
 ghost use Rattle.link.specs.Table.{receiveRowOf};
 ghost use Rattle.device.specs.Table.{endedRowOf};
-ghost use Rattle.device.specs.Handling.{endedIn, heardBy, heardOf};
+ghost use Rattle.device.specs.Handling.{isFrame, endedIn, heardBy, heardOf};
 
 // The link after an answer of the reader, and the wait that the frame ended.
 pub(crate) struct Heard {
@@ -20,7 +19,7 @@ pub(crate) struct Heard {
 
 // Whether a verdict is FRAME.
 fn is_frame(verdict: Verdict) -> bool
-    ensures { λ r. ⌜ r ≡ eqb (verdictNumber verdict) 1 ⌝ }
+    ensures { λ r. ⌜ r ≡ isFrame (decidedRow verdict 0 0 0) ⌝ }
 {
     match verdict {
         Verdict::Frame => true,
@@ -33,9 +32,9 @@ fn is_frame(verdict: Verdict) -> bool
     }
 }
 
-// Whether an answer of the reader is FRAME.
+// Whether an answer of the reader is given to the link.
 fn delivers(answer: FeedResult) -> bool
-    ensures { λ r. ⌜ r ≡ eqb (rowOf answer .number) 1 ⌝ }
+    ensures { λ r. ⌜ r ≡ isFrame (rowOf answer) ⌝ }
 {
     match answer {
         FeedResult::Decided { verdict, .. } => is_frame(verdict),

@@ -1,5 +1,6 @@
 // Records of the link. A line has the word with the row's number and its values, then the link.
 use super::in_place::tick_in_place;
+use super::states;
 use super::text;
 use link::Link;
 use link::OfferResult;
@@ -14,35 +15,11 @@ pub(crate) struct LinkAfter {
     pub written: bool,
 }
 
-fn waiting(next: u8, w: Wait) -> bool {
-    match w {
-        Wait::Idle => text::line(b" :", &[next as u64]),
-        Wait::Waiting {
-            command,
-            number,
-            sent,
-            repeats,
-        } => {
-            text::line(
-                b" :",
-                &[
-                    next as u64,
-                    command as u64,
-                    number as u64,
-                    sent as u64,
-                    repeats as u64,
-                ],
-            )
-        }
-    }
-}
-
 // Ends a line with the link.
 fn ended(front: bool, link: Link) -> LinkAfter {
-    let wait = link.wait;
     LinkAfter {
         link,
-        written: front && waiting(link.next, wait),
+        written: front && states::link_line(link),
     }
 }
 

@@ -148,6 +148,9 @@ pub(crate) fn reply(r: ReplyResult, out: &[u8]) -> bool {
         ReplyResult::Nothing => text::text(b"answer 0"),
         ReplyResult::InformationWanted { number } => text::front(b"answer 0 0 2", &[number as u64]),
         ReplyResult::StatusWanted { number } => text::front(b"answer 0 0 4", &[number as u64]),
+        ReplyResult::BeginWanted { number } => text::front(b"answer 0 0 26", &[number as u64]),
+        ReplyResult::StoreWanted { number } => text::front(b"answer 0 0 30", &[number as u64]),
+        ReplyResult::StopWanted { number } => text::front(b"answer 0 0 32", &[number as u64]),
         ReplyResult::Acknowledged { count } => wrote(b"answer 0", &[count as u64], out, count),
         ReplyResult::Rejected { count, code, cause } => {
             let values = [
