@@ -7,7 +7,7 @@ use Rattle.message.proofs.RepliesExact.{replies-exact}
 use Rattle.link.specs.declared.state.Link.{Link}
 use Rattle.transfer.specs.declared.state.Transfer.{Transfer}
 use Rattle.device.specs.Handling.{After, after}
-use Rattle.device.specs.HandlingExact.{SumExact, Comes, HandleExact}
+use Rattle.device.specs.HandlingExact.{SumExact, Comes, HandleExact, LeavesStated}
 use Rattle.device.proofs.CaseLaws.{silent, wrong-sum, other, begin, store, stop}
 
 -- what an equation says of each field
@@ -40,3 +40,6 @@ handle-exact limit first max g ranged =
       store = λ v body is. comes (store limit first max g body ranged v is);
       stop = λ v body is. comes (stop limit first max g body ranged v is);
     }
+
+pub leaves-stated : LeavesStated
+leaves-stated limit first max g answer body = refl

@@ -119,3 +119,10 @@ pub record HandledExact (limit first max : ℕ) (g : Given) : Type 0 where
 -- under every limit and with any figures of the link
 abbrev pub HandleExact : Type 0
 HandleExact = (limit first max : ℕ) (g : Given) → Ranged first max g → HandledExact limit first max g
+
+-- ---- leaves-stated: a call of these claims is what the contract of `handle` states
+abbrev pub LeavesStated : Type 0
+LeavesStated =
+    (limit first max : ℕ) (g : Given) (answer : Row) (body : List ℕ)
+    → leaves limit first max g answer body
+    ≡ handleOf limit first max answer body (g .transfer) (g .link) (g .clock) (g .piece) (g .buffer) (g .out)
