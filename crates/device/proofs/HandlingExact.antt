@@ -42,4 +42,9 @@ handle-exact limit first max g ranged =
     }
 
 pub leaves-stated : LeavesStated
-leaves-stated limit first max g answer body = refl
+leaves-stated limit first max answer body =
+    record {
+      of-parts = λ t l clock piece buffer out. refl;
+      held = λ g t l. refl;
+      with-link = λ g l. refl;
+    }

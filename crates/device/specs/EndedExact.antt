@@ -7,8 +7,7 @@ use mathlib.Core.Bool.{true}
 use mathlib.Core.List.{List, [], _∷_}
 use Rattle.base.specs.Rows.{Row, row}
 use Rattle.base.specs.Keys.{among}
-use Rattle.frame.specs.Wire.{frameLimit, commandOf, numberOf}
-use Rattle.link.specs.Sending.{firstNumber, maxRepeats}
+use Rattle.frame.specs.Wire.{commandOf, numberOf}
 use Rattle.link.specs.Calls.{linkOf}
 use Rattle.link.specs.EachCall.{numberAfter}
 use Rattle.link.specs.Ranges.{waiters}
@@ -16,13 +15,9 @@ use Rattle.link.specs.declared.state.Link.{Link}
 use Rattle.link.specs.declared.state.Wait.the-variants.{Idle, Waiting}
 use Rattle.transfer.specs.Checks.{inRangeOf}
 use Rattle.device.specs.Handling.{After}
-use Rattle.device.specs.HandlingExact.{Given, holding, leaves}
+use Rattle.device.specs.HandlingExact.{Given, leavesWith}
 
 -- ---- ended-exact: of every link and transfer in range
-
--- what the code's own call leaves, with this link
-abbrev pub leavesWith : Given → Link → Row → List ℕ → After
-leavesWith g l answer body = leaves frameLimit firstNumber maxRepeats (holding g (g .transfer) l) answer body
 
 -- a wait ended, or none
 pub record Ends (ended : Row) (l : Link) (y : After) : Type 0 where

@@ -8,9 +8,10 @@ use lib.ListN.{length}
 use Rattle.base.specs.Rows.{Row, row}
 use Rattle.base.specs.Outcomes.{Output, output}
 use Rattle.base.specs.Keys.{among}
-use Rattle.frame.specs.Wire.{commandOf, numberOf, flagsOf, payloadOf}
+use Rattle.frame.specs.Wire.{frameLimit, commandOf, numberOf, flagsOf, payloadOf}
 use Rattle.message.specs.Replies.{replyFrameOf}
 use Rattle.message.specs.RepliesExact.{RejectedWith}
+use Rattle.link.specs.Sending.{firstNumber, maxRepeats}
 use Rattle.link.specs.Calls.{inRange, receiveOf}
 use Rattle.link.specs.declared.state.Link.{Link}
 use Rattle.transfer.specs.Checks.{inRangeOf}
@@ -38,6 +39,10 @@ holding g t l =
 abbrev pub leaves : ℕ → ℕ → ℕ → Given → Row → List ℕ → After
 leaves limit first max g answer body =
     handleOf limit first max answer body (g .transfer) (g .link) (g .clock) (g .piece) (g .buffer) (g .out)
+
+-- what the code's own call leaves, with this link
+abbrev pub leavesWith : Given → Link → Row → List ℕ → After
+leavesWith g l answer body = leaves frameLimit firstNumber maxRepeats (holding g (g .transfer) l) answer body
 
 -- the link and the transfer are in range
 abbrev pub Ranged : ℕ → ℕ → Given → Type 0
@@ -120,9 +125,18 @@ pub record HandledExact (limit first max : ℕ) (g : Given) : Type 0 where
 abbrev pub HandleExact : Type 0
 HandleExact = (limit first max : ℕ) (g : Given) → Ranged first max g → HandledExact limit first max g
 
--- ---- leaves-stated: a call of these claims is what the contract of `handle` states
+-- ---- leaves-stated: a call of these claims is what the contract of `handle` states, of all parts
+pub record EachStated (limit first max : ℕ) (answer : Row) (body : List ℕ) : Type 0 where
+  pub of-parts : (t : Transfer) (l : Link) (clock piece : ℕ) (buffer out : List ℕ)
+      → leaves limit first max
+      (record { transfer = t; link = l; clock = clock; piece = piece; buffer = buffer; out = out }) answer body
+      ≡ handleOf limit first max answer body t l clock piece buffer out
+  pub held : (g : Given) (t : Transfer) (l : Link) → leaves limit first max (holding g t l) answer body
+      ≡ handleOf limit first max answer body t l (g .clock) (g .piece) (g .buffer) (g .out)
+  pub with-link : (g : Given) (l : Link) → leavesWith g l answer body
+      ≡ handleOf frameLimit firstNumber maxRepeats answer body (g .transfer) l (g .clock) (g .piece) (g .buffer)
+      (g .out)
+
+-- under every limit and with any figures of the link
 abbrev pub LeavesStated : Type 0
-LeavesStated =
-    (limit first max : ℕ) (g : Given) (answer : Row) (body : List ℕ)
-    → leaves limit first max g answer body
-    ≡ handleOf limit first max answer body (g .transfer) (g .link) (g .clock) (g .piece) (g .buffer) (g .out)
+LeavesStated = (limit first max : ℕ) (answer : Row) (body : List ℕ) → EachStated limit first max answer body
