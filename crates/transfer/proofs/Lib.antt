@@ -20,6 +20,7 @@ pub mod OfferLaws
 pub mod LinkCalls
 pub mod Ranges
 pub mod Refusals
+pub mod PayloadNever
 pub mod EachCall
 pub mod WorkedTransfers
 pub mod WorkedRefusals

@@ -32,7 +32,7 @@ other-refusal k (t ∷ ts) z h =
 
 -- a row that is rewritten where it was 0 keeps away from a number
 module _ (k : ℕ) (f : ℕ → Row) (made : (n : ℕ) → eqb (f n .number) k ≡ false) where
-  rowed-other : (w : Output) → eqb (w .row .number) k ≡ false → eqb (rowed f w .row .number) k ≡ false
+  pub rowed-other : (w : Output) → eqb (w .row .number) k ≡ false → eqb (rowed f w .row .number) k ≡ false
   rowed-other w h = by-test (λ (v : Output). eqb (v .row .number) k ≡ false) (eqb (w .row .number) 0) (λ _. made _)
       (λ _. h)
 

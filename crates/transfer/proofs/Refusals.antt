@@ -130,8 +130,8 @@ module _ {S : Type 0} (before next : S) (number : ℕ) (out : List ℕ) where
 
 -- ---- the calls
 
-piece-others : (k : ℕ) → eqb 62 k ≡ false → eqb 63 k ≡ false → eqb 64 k ≡ false → eqb 65 k ≡ false → eqb 66 k ≡ false
-    → (t : Transfer) (flags index total : ℕ) (bytes buffer : List ℕ)
+pub piece-others : (k : ℕ) → eqb 62 k ≡ false → eqb 63 k ≡ false → eqb 64 k ≡ false → eqb 65 k ≡ false
+    → eqb 66 k ≡ false → (t : Transfer) (flags index total : ℕ) (bytes buffer : List ℕ)
     → Others k (pieceTests t flags index total bytes buffer)
 piece-others k a b c d e Absent flags index total bytes buffer = (c, (d, tt))
 piece-others k a b c d e (Open size piece stored) flags index total bytes buffer = (a, (c, (b, (d, (e, tt)))))

@@ -14,6 +14,7 @@ pub mod LogsComputed
 -- Claims: what is proved
 pub mod Ranges
 pub mod Refusals
+pub mod PayloadNever
 pub mod EachCall
 pub mod PiecesExact
 pub mod PayloadsExact

@@ -31,6 +31,7 @@ pub record PieceExact (a b c d : ℕ) (bytes : List ℕ) : Type 0 where
 pub record PayloadsExact : Type 0 where
   pub announcement : (a b c d h l : ℕ) (code : List ℕ) → AnnouncementExact a b c d h l code
   pub short-announcement : (p : List ℕ) → length p < 6 → faulty 0x19 p ≡ true
+  pub code-size : (p : List ℕ) → faulty 0x19 p ≡ false → length (codeIn p) + 6 ≡ length p
   pub piece : (a b c d : ℕ) (bytes : List ℕ) → PieceExact a b c d bytes
   pub short-piece : (p : List ℕ) → length p < 4 → faulty 0x1D p ≡ true
   pub stop : faulty 0x1F [] ≡ false
