@@ -1,25 +1,28 @@
 -- What a refusal leaves as it was. Assumes nothing.
-use Prim.Native.Nat.{ℕ}
-use mathlib.Core.Path.{_≡_, refl, sym, ap, subst}
+use Prim.Native.Nat.{ℕ, _-_, _≤_}
+use mathlib.Core.Path.{_≡_, refl, sym, ap, subst, _∙_}
 use mathlib.Core.Logic.{_≢_}
 use mathlib.Core.Bool.{true, true≢false}
 use mathlib.Core.List.{List, [], _∷_}
-use lib.ListN.{length}
+use native.Mathlib.Omega.{arith}
+use lib.ListN.{length, drop, length-take}
 use Rattle.base.specs.Rows.{Row}
 use Rattle.base.specs.Keys.{among}
 use Rattle.base.proofs.Tests.{either-way}
-use Rattle.frame.specs.Wire.{commandOf, numberOf, flagsOf, payloadOf}
+use Rattle.frame.specs.Wire.{frameLimit, commandOf, numberOf, flagsOf, payloadOf, lengthOf}
 use Rattle.message.specs.declared.kind.Cause.the-variants as cause
 use Rattle.link.specs.Calls.{inRange}
 use Rattle.transfer.specs.Checks.{inRangeOf}
 use Rattle.transfer.specs.Calls.{Both, Held}
 use Rattle.transfer.specs.Refusals as refusals
 use Rattle.transfer.proofs.Refusals.{refused-kept as transfer-kept}
+use Rattle.transfer.proofs.PayloadNever.{payload-never}
 use Rattle.device.specs.HandlingExact.{Given, leaves, Ranged, linkAfter}
-use Rattle.device.specs.RefusedKept.{Kept, RefusedKept}
+use Rattle.device.specs.RefusedKept.{Kept, RefusedKept, NoPayload}
 use Rattle.device.proofs.HandleLaws.{link-out, transfer-out}
 use Rattle.device.proofs.ReplyLaws.{plain, plain-reject}
 use Rattle.device.proofs.CaseLaws.{by-cases}
+use Rattle.device.proofs.HandlingExact.{handle-exact}
 
 -- none of the four numbers is 0
 not-done : (n : ℕ) → among n (17 ∷ 21 ∷ 22 ∷ 41 ∷ []) ≡ true → n ≢ 0
@@ -76,3 +79,12 @@ refused-kept limit first max g answer body =
     (g .buffer) (g .out) t) (record { transfer = λ _. refl; buffer = λ _. refl; out = λ _. refl }))
     λ l. subst (Kept g) (link-out limit first max answer body (g .transfer) (g .link) (g .clock) (g .piece)
     (g .buffer) (g .out) l) (record { transfer = λ _. refl; buffer = λ _. refl; out = λ _. refl })
+
+pub no-payload : NoPayload
+no-payload first max g ranged v body is short e =
+    payload-never first max (g .transfer) (linkAfter first max g body) (g .clock) (numberOf body) (payloadOf body)
+    (g .out) .begins (g .piece) (length (g .buffer)) few
+    (sym (ap (λ (r : Row). r .number) (handle-exact frameLimit first max g ranged .begin v body is .answer-is)) ∙ e)
+  where
+    few : length (payloadOf body) ≤ 1019
+    few = let t = length-take (lengthOf body - 5) (drop 6 body) in omega (arith, t, short)
