@@ -24,6 +24,12 @@ extern "C" {
 /* A buffer of this size holds every frame on the wire: 2 bytes, and twice the 1,026 of the longest body. */
 #define TROGONREED_MAX_FRAME 2054ul
 
+/*
+ * A call uses less than this many bytes of stack, its return address and the arguments on the stack included. Tested
+ * with this archive on x86-64 Linux, for payloads of every size; docs/STACK.md has what was measured.
+ */
+#define TROGONREED_STACK 1024ul
+
 /* A returned number below this one is a count of bytes. A refusal is this number plus the number of the refusal. */
 #define TROGONREED_REFUSED 65536ul
 

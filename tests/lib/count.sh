@@ -1,0 +1,63 @@
+# For the run of a test that counts in shell, to source. It compiles C, and adds up what programs count.
+passed=0 failed=0 room=
+strict='-Wall -Wextra -Wpedantic -Werror -Iinclude -Itests/lib'
+
+# The last line of every run, good or bad, is its count.
+finish() {
+    [ -z "$room" ] || rm -rf "$room"
+    echo "$passed passed, $failed failed"
+    [ "$failed" -eq 0 ]
+    exit
+}
+
+# Prints the output of a command only where it fails.
+try() { # WHAT COMMAND..
+    local printed
+    if printed=$("${@:2}" 2>&1); then
+        passed=$((passed + 1))
+        return 0
+    fi
+    failed=$((failed + 1))
+    echo "$1"
+    echo "$printed"
+    return 1
+}
+
+compilers() {
+    command -v gcc && command -v g++ && command -v nm && return 0
+    apt-get update -qq && apt-get install -y -qq gcc g++
+}
+
+# At the top of the repository, with a folder for what is built, and a C compiler. Without them a run ends here.
+open_room() { # NAME
+    if ! cd "$root" || ! room=$(mktemp -d); then
+        failed=1
+        finish
+    fi
+    try "$1: no C compiler" compilers || finish
+}
+
+# Compiles C of the year 1999 and links it.
+compile() { # WHAT WORD..
+    # shellcheck disable=SC2086
+    try "$1" gcc -std=c99 $strict "${@:2}"
+}
+
+# Runs a program that counts, and adds its count, which it prints last; a run that dies has none. What else it prints is
+# shown.
+count() { # NAME COMMAND..
+    local printed status last
+    printed=$("${@:2}" 2>&1)
+    status=$?
+    last=${printed##*$'\n'}
+    if [[ $last =~ ^([0-9]+)\ passed,\ ([0-9]+)\ failed$ ]] &&
+        { [ "$status" -eq 0 ] || [ "${BASH_REMATCH[2]}" -gt 0 ]; }; then
+        passed=$((passed + BASH_REMATCH[1])) failed=$((failed + BASH_REMATCH[2]))
+        printed=${printed%"$last"}
+        printf '%s' "$printed"
+    else
+        failed=$((failed + 1))
+        echo "$1: ended with status $status"
+        echo "$printed"
+    fi
+}

@@ -1,0 +1,129 @@
+/*
+ * Whether the painting works: functions that use a known amount of stack are measured, and the answer is known. No
+ * figure of this room means anything where a test of this file fails.
+ */
+/* for fork, which C99 does not have */
+#define _DEFAULT_SOURCE
+#include "controls.h"
+
+#include <signal.h>
+#include <stdio.h>
+#include <sys/resource.h>
+#include <sys/wait.h>
+#include <unistd.h>
+
+#include "judge.h"
+#include "switch.h"
+#include "trogonreed.h"
+
+enum { RETURN_ADDRESS = 8, WORD = 8, IN_REGISTERS = 6 };
+
+typedef void (*function)(void);
+
+int is_too_much(size_t used)
+{
+    return used >= TROGONREED_STACK;
+}
+
+/* The use of a control, called with so many words, of which it reads the first two. */
+static size_t use_of(struct fenced stack, enum way way, function control, size_t depth, uint8_t value, size_t count)
+{
+    const struct call call = {control, count, {depth, value}};
+    size_t used = 0;
+
+    painted_call(stack, way, &call, &used);
+    return used;
+}
+
+/* By both patterns: one of them may have the value that is written. */
+static size_t painted_use(struct fenced stack, function control, size_t depth, uint8_t value)
+{
+    const size_t first = use_of(stack, PAINT, control, depth, value, 2);
+    const size_t second = use_of(stack, INVERSE, control, depth, value, 2);
+
+    return first > second ? first : second;
+}
+
+/* Whatever is written, and whether the bytes above the lowest one are written too. */
+static void test_depths(struct fenced stack)
+{
+    static const size_t depths[] = {1, 7, 8, 64, 100, 1000, 1015, 1016, 4096, STACK_SIZE - RETURN_ADDRESS};
+    size_t i, value;
+
+    for (i = 0; i < sizeof depths / sizeof depths[0]; i++) {
+        const size_t want = depths[i] + RETURN_ADDRESS;
+        int filled = 1, touched = 1;
+
+        for (value = 0; value < 256; value++) {
+            filled = filled && painted_use(stack, (function)control_fill, depths[i], (uint8_t)value) == want;
+            touched = touched && painted_use(stack, (function)control_touch, depths[i], (uint8_t)value) == want;
+        }
+        test(filled, "a use of %lu bytes, all written, is not measured right", (unsigned long)want);
+        test(touched, "a use of %lu bytes, the lowest one written, is not measured right", (unsigned long)want);
+    }
+}
+
+/* Arguments that do not fit the registers count, and so does what keeps the stack pointer a multiple of 16. */
+static void test_words(struct fenced stack)
+{
+    size_t count;
+
+    for (count = 2; count <= MOST_WORDS; count++) {
+        const size_t words = count > IN_REGISTERS ? count - IN_REGISTERS : 0;
+        const size_t want = 100 + RETURN_ADDRESS + (words + words % 2) * WORD;
+
+        test(use_of(stack, STEPS, (function)control_touch, 100, 1, count) == want &&
+                 use_of(stack, PAINT, (function)control_fill, 100, 1, count) == want,
+             "a call with %lu arguments is not measured right", (unsigned long)count);
+    }
+}
+
+/* What is set aside and not written is seen by the steps, and by them alone. */
+static void test_reserved(struct fenced stack)
+{
+    static const size_t depths[] = {0, 8, 1000, 1016, 8192};
+    size_t i;
+
+    for (i = 0; i < sizeof depths / sizeof depths[0]; i++) {
+        const size_t want = depths[i] + RETURN_ADDRESS;
+
+        test(use_of(stack, STEPS, (function)control_reserve, depths[i], 0, 2) == want,
+             "a use of %lu bytes, none written, is not measured right", (unsigned long)want);
+        test(painted_use(stack, (function)control_reserve, depths[i], 0) == RETURN_ADDRESS,
+             "what is not written changes the pattern");
+    }
+}
+
+/* The use of 1,024 bytes is too much, one of 1,023 is not. */
+static void test_judgement(struct fenced stack)
+{
+    test(!is_too_much(painted_use(stack, (function)control_fill, 1015, 0)), "1,023 bytes are judged too much");
+    test(is_too_much(painted_use(stack, (function)control_fill, 1016, 0)), "1,024 bytes are judged to be little");
+}
+
+/* One byte more than the stack has kills. */
+static void test_fence(struct fenced stack)
+{
+    const struct rlimit none = {0, 0};
+    int status = 0;
+    pid_t child;
+
+    fflush(stdout);
+    child = fork();
+    if (child == 0) {
+        setrlimit(RLIMIT_CORE, &none);
+        use_of(stack, PAINT, (function)control_touch, stack.size - RETURN_ADDRESS + 1, 0, 2);
+        _exit(0);
+    }
+    test(child > 0 && waitpid(child, &status, 0) == child && WIFSIGNALED(status) && WTERMSIG(status) == SIGSEGV,
+         "a use beyond the stack is not stopped by the fence");
+}
+
+void test_controls(struct fenced stack)
+{
+    test_depths(stack);
+    test_words(stack);
+    test_reserved(stack);
+    test_judgement(stack);
+    test_fence(stack);
+}

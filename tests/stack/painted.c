@@ -1,0 +1,99 @@
+/* for what C99 does not have: signals with a stack of their own, and the registers in their context */
+#define _GNU_SOURCE
+#include "painted.h"
+
+#include <signal.h>
+#include <stdio.h>
+#include <stdlib.h>
+#include <ucontext.h>
+#include <x86intrin.h>
+
+#include "switch.h"
+
+/* The processor's flag that stops it after each instruction. */
+#define TRAP_FLAG UINT64_C(0x100)
+
+/* A pattern without a period that a stack frame could have. */
+static uint8_t pattern(enum way way, size_t place)
+{
+    const uint8_t byte = (uint8_t)((place * UINT64_C(0x9E3779B97F4A7C15)) >> 56);
+
+    return way == INVERSE ? (uint8_t)~byte : byte;
+}
+
+static void paint(struct fenced stack, enum way way)
+{
+    size_t i;
+
+    for (i = 0; i < stack.size; i++)
+        stack.first[i] = pattern(way, i);
+}
+
+/* The bytes from the lowest one that changed up to the top. */
+static size_t changed(struct fenced stack, enum way way)
+{
+    size_t i = 0;
+
+    while (i < stack.size && stack.first[i] == pattern(way, i))
+        i++;
+    return stack.size - i;
+}
+
+static const uint8_t *bottom, *top, *lowest;
+
+static void note(int signal, siginfo_t *info, void *context)
+{
+    const uint8_t *here = (const uint8_t *)((ucontext_t *)context)->uc_mcontext.gregs[REG_RSP];
+
+    (void)signal, (void)info;
+    if (here >= bottom && here < lowest)
+        lowest = here;
+}
+
+/* The handler runs on a stack of its own: it must not write to the one that is measured. */
+static void catch_steps(void)
+{
+    static uint8_t own[1 << 16];
+    stack_t stack = {0};
+    struct sigaction action = {0};
+
+    stack.ss_sp = own;
+    stack.ss_size = sizeof own;
+    action.sa_sigaction = note;
+    action.sa_flags = SA_SIGINFO | SA_ONSTACK;
+    if (sigaltstack(&stack, NULL) != 0 || sigaction(SIGTRAP, &action, NULL) != 0) {
+        perror("signals");
+        exit(2);
+    }
+}
+
+static uint64_t stepped(struct fenced stack, const struct call *call, size_t *used)
+{
+    uint64_t returned;
+
+    bottom = stack.first;
+    lowest = top = stack.first + stack.size;
+    catch_steps();
+    __writeeflags(__readeflags() | TRAP_FLAG);
+    returned = switch_call(stack.first + stack.size, call->function, call->words, call->count);
+    __writeeflags(__readeflags() & ~TRAP_FLAG);
+    *used = (size_t)(top - lowest);
+    return returned;
+}
+
+struct fenced painted_new(size_t least)
+{
+    return fenced_new(least);
+}
+
+uint64_t painted_call(struct fenced stack, enum way way, const struct call *call, size_t *used)
+{
+    uint64_t returned;
+
+    if (way == STEPS)
+        return stepped(stack, call, used);
+    paint(stack, way);
+    returned = switch_call(stack.first + stack.size, call->function, call->words, call->count);
+    *used = changed(stack, way);
+    return returned;
+}
