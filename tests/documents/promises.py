@@ -12,10 +12,10 @@ from tree import files, name_of, text_of
 CALL = re.compile(r"^ *pub (?:extern \"C\" )?fn (\w+)(.*?)\{$", re.M | re.S)  # up to the brace that opens its body
 LIMIT, SENDING = {"limit": "frameLimit"}, {"first": "firstNumber", "max": "maxRepeats"}  # parameters: the code's own
 ALL = LIMIT | SENDING
-OWN = {"link": SENDING, "transfer": ALL, "device": ALL}  # in all other crates: LIMIT
+OWN = {"link": SENDING, "transfer": ALL, "device": ALL, "stack_driver": ALL}  # in all other crates: LIMIT
 DEFINED = re.compile(r"^ghost use Rattle·(\w+?)(?:·specs\.specs|\.specs)\.(\w+)\.\{([^}]*)\};", re.M)
-LAYERS = ("message", "link", "transfer", "device", "firmware", "listing", "capture", "replay")
-ALONE = ("capture",)  # cites definitions of other layers, and no theorem
+LAYERS = ("message", "link", "transfer", "device", "firmware", "listing", "capture", "replay", "stack_driver")
+ALONE = ("capture", "stack_driver")  # cites definitions of other layers, and no theorem
 CITED = re.compile(r"^use Rattle·(\w+)\.proofs\.(\w+(?:\.\w+)*)(?:\.\{([^}]*)\})?", re.M)
 
 

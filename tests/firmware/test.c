@@ -173,6 +173,7 @@ static void test_header(void)
     test(TROGONREED_REFUSED == 65536 && TROGONREED_PAYLOAD == 21 && TROGONREED_ROOM == 22, "header: other numbers");
     test(TROGONREED_REFUSED_PAYLOAD == 65557 && TROGONREED_REFUSED_ROOM == 65558, "header: other refusals");
     test(TROGONREED_MAX_PAYLOAD == 1019 && TROGONREED_MAX_FRAME == 2 + 2 * (1019 + 7), "header: other limits");
+    test(TROGONREED_STACK == 1024, "header: another limit of the stack");
     test(!trogonreed_is_refused(65535) && trogonreed_is_refused(65536), "header: another test for a refusal");
 }
 

@@ -20,7 +20,7 @@ SOURCES = [
     ("Python", ["tests/**/*.py", "tests/bench/bench", "samples/*.py"]),
     ("shell", ["bin/*", ".ci/run", "tests/*/run", "tests/lib/*.sh"]),
     ("Rust", ["tests/differential/src/**/*.rs"]),
-    ("C", ["include/*.h", "examples/*.c", "tests/firmware/*.[ch]", "tests/cli/*.c"]),
+    ("C", ["include/*.h", "examples/*.c", "tests/*/*.[ch]", "tests/stack/*.S"]),
 ]
 
 

@@ -27,11 +27,10 @@ USE = re.compile(r"^stack: (.*?)(?: uses at most|:) (\d+) bytes", re.M)
 ROW = re.compile(r"^\| ([^|]*?) \| (\d[\d,]*) \|", re.M)
 # Writers that copy: each is an edit of a real source, of which the array has to be found.
 COPYING = [
-    ("a copy of the body", "frame/src/writer.rt", "    out[0] = 255;\n", "    let body = [0u8; 1026];\n    out[0] = 255;\n"),
-    ("a copy in what it calls", "base/src/slices.rt", "    if a <= b {\n", "    let c = [0u64; 3];\n    if a <= b {\n"),
-    ("a struct with a body", "frame/src/writer.rt", "    sum: u8,\n}\n", "    sum: u8,\n    body: [u8; LIMIT + 2],\n}\n"),
-    ("the reader in its place", "firmware/src/lib.rt", "    let written = ",
-     "    let r = frame::Reader::new();\n    let written = "),
+    ("a copy of the body", "frame/src/writer.rt", "out[0] = 255;", "let body = [0u8; 1026]; out[0] = 255;"),
+    ("a copy in what it calls", "base/src/slices.rt", "if a <= b {", "let c = [0u64; 3]; if a <= b {"),
+    ("a struct with a body", "frame/src/writer.rt", "sum: u8,\n}", "sum: u8, body: [u8; LIMIT + 2],\n}"),
+    ("a reader", "firmware/src/lib.rt", "let written =", "let r = frame::Reader::new(); let written ="),
 ]
 
 
@@ -50,7 +49,8 @@ def text_of(path, edits=()):
 
 def too_long(sources, item):
     """The arrays above the limit that an item reaches."""
-    return [f"{size} bytes in {found.name}: {text}" for found, text, size in arrays_of(sources, item) if size > MAX_ARRAY]
+    found = arrays_of(sources, item)
+    return [f"{size} bytes in {inner.name}: {text}" for inner, text, size in found if size > MAX_ARRAY]
 
 
 def functions(sources, items):
