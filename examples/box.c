@@ -51,7 +51,8 @@ int main(void)
     const struct status status = {FEEDING | GATHER, 3, 255, 0};
     const uint8_t number = 2;
     uint8_t payload[REPORT_SIZE];
-    uint8_t frame[TROGONREED_MAX_FRAME];
+    /* not on the stack: a small box has 2 KiB of it, and a frame may have as many */
+    static uint8_t frame[TROGONREED_MAX_FRAME];
     uint32_t count, i;
 
     put_report(&status, payload);

@@ -1,7 +1,7 @@
 """The stack of the writer: no array above 16 bytes in its sources, and less than 1,024 bytes used by the archive for C.
 
-check.py FOLDER: the folder has the programs that tests/stack/run builds. Of the other calls the use is compared with
-docs/STACK.md, so that the page is true, and not judged.
+check.py FOLDER [SEED]: the folder has the programs that tests/stack/run builds. Of the other calls the use is compared
+with docs/STACK.md, so that the page is true, and not judged.
 """
 import pathlib
 import re
@@ -17,7 +17,7 @@ from rattle import Sources, Unreadable
 HERE = pathlib.Path(__file__).resolve().parent
 ROOT = HERE.parents[1]
 sys.path.insert(0, str(HERE.parent / "lib"))
-from checks import Checks  # noqa: E402
+from checks import Checks, seed_and_count  # noqa: E402
 
 KIT = pathlib.Path(shutil.which("rt") or "").resolve().parents[1]
 MAX_ARRAY = 16  # bytes
@@ -88,17 +88,17 @@ def check_compiler(checks, crate):
     checks.test(f"{crate}: the compiler has the same arrays", found == (max(sizes) > MAX_ARRAY), str(sorted(sizes)))
 
 
-def run(program):
+def run(program, *words):
     """The status and the lines of a program, and its count."""
-    done = subprocess.run([program], capture_output=True, text=True, timeout=PATIENCE, check=False)
+    done = subprocess.run([program, *map(str, words)], capture_output=True, text=True, timeout=PATIENCE, check=False)
     lines = done.stdout.splitlines()
     count = COUNT.match(lines[-1]) if lines else None
     return done.returncode, lines, [int(number) for number in count.groups()] if count else None
 
 
-def check_program(checks, program, uses):
+def check_program(checks, uses, program, *words):
     """Adds the count of a program that has to pass, prints its lines, and notes the uses that it prints."""
-    status, lines, count = run(program)
+    status, lines, count = run(program, *words)
     for line in lines[:-1]:
         print(line)
     if count is None or (status != 0) != (count[1] > 0):
@@ -139,6 +139,7 @@ def limit_in_header():
 
 def main():
     checks, uses, folder = Checks("stack"), {}, pathlib.Path(sys.argv[1])
+    seed, _ = seed_and_count(sys.argv[2:], 0)
     try:
         check_arrays.check(checks)
         check_writer(checks)
@@ -148,8 +149,8 @@ def main():
         checks.test("the sources can be read", False, str(error))
     limit = limit_in_header()
     checks.test("the header has the limit", limit == 1024, str(limit))
-    check_program(checks, folder / "writer", uses)
-    check_program(checks, folder / "calls", uses)
+    check_program(checks, uses, folder / "writer", seed)
+    check_program(checks, uses, folder / "calls")
     check_copying(checks, folder / "copying", limit)
     check_page(checks, uses)
     return checks.end()

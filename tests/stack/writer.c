@@ -1,9 +1,10 @@
 /*
  * The stack that the exported writer uses: payloads of every size from 0 to one byte too many, in outputs that are too
  * small, just right and ample. Prints the greatest use; a use of TROGONREED_STACK bytes or more fails. Last line
- * 'N passed, M failed'. The painting itself is tested first (controls.c).
+ * 'N passed, M failed'. The painting itself is tested first (controls.c). The argument is the seed of random payloads.
  */
 #include <stdio.h>
+#include <stdlib.h>
 #include <string.h>
 
 #include "controls.h"
@@ -17,8 +18,8 @@ enum room { NO_ROOM, SHORT_BY_ONE, JUST_RIGHT, AMPLE, ROOMS };
 static const char *const kind_names[KINDS] = {"plain", "all FF", "random"};
 static const char *const room_names[ROOMS] = {"no room", "one byte short", "just right", "ample"};
 
-/* xorshift64*, from a seed of its own: the same payloads in each run */
-static uint64_t state = 1;
+/* xorshift64*: the same payloads in each run with one seed */
+static uint64_t state;
 
 static uint8_t random_byte(void)
 {
@@ -115,11 +116,15 @@ static void test_sizes(struct fenced stack, enum way first, enum way last, size_
          (unsigned long)(size - step), room_names[room]);
 }
 
-int main(void)
+int main(int argc, char **argv)
 {
     const struct fenced stack = painted_new(STACK_SIZE);
+    const unsigned long seed = argc > 1 ? strtoul(argv[1], NULL, 10) : 1;
     int kind, room;
 
+    printf("stack: seed %lu\n", seed);
+    /* a state of 0 would stay 0 */
+    state = seed == 0 ? UINT64_MAX : seed;
     test_controls(stack);
     for (kind = PLAIN; kind < KINDS; kind++) {
         fill((enum kind)kind);
