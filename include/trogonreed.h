@@ -21,12 +21,16 @@ extern "C" {
 /* The greatest size of a payload, in bytes. */
 #define TROGONREED_MAX_PAYLOAD 1019ul
 
-/* A buffer of this size holds every frame on the wire: 2 bytes, and twice the 1,026 of the longest body. */
+/*
+ * A buffer of this size holds every frame on the wire: 2 bytes, and twice the 1,026 of the longest body. For a payload
+ * of n bytes, 2 + 2 * (n + 7) are enough.
+ */
 #define TROGONREED_MAX_FRAME 2054ul
 
 /*
- * A call uses less than this many bytes of stack, its return address and the arguments on the stack included. Tested
- * with this archive on x86-64 Linux, for payloads of every size; docs/STACK.md has what was measured.
+ * A call uses less than this many bytes of stack, its return address and the arguments on the stack included; payload
+ * and buffer are the caller's own. Tested for payloads of every size, not proved; with this archive, 72 bytes were
+ * measured on x86-64 Linux. docs/STACK.md has more.
  */
 #define TROGONREED_STACK 1024ul
 

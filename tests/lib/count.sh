@@ -1,10 +1,10 @@
 # For the run of a test that counts in shell, to source. It compiles C, and adds up what programs count.
-passed=0 failed=0 room=
+passed=0 failed=0 folder=
 strict='-Wall -Wextra -Wpedantic -Werror -Iinclude -Itests/lib'
 
 # The last line of every run, good or bad, is its count.
 finish() {
-    [ -z "$room" ] || rm -rf "$room"
+    [ -z "$folder" ] || rm -rf "$folder"
     echo "$passed passed, $failed failed"
     [ "$failed" -eq 0 ]
     exit
@@ -28,9 +28,9 @@ compilers() {
     apt-get update -qq && apt-get install -y -qq gcc g++
 }
 
-# At the top of the repository, with a folder for what is built, and a C compiler. Without them a run ends here.
-open_room() { # NAME
-    if ! cd "$root" || ! room=$(mktemp -d); then
+# The top of the repository, a folder for what is built, and a C compiler. Without them a run ends here.
+open_folder() { # NAME
+    if ! cd "$root" || ! folder=$(mktemp -d); then
         failed=1
         finish
     fi
@@ -45,7 +45,7 @@ compile() { # WHAT WORD..
 
 # Runs a program that counts, and adds its count, which it prints last; a run that dies has none. What else it prints is
 # shown.
-count() { # NAME COMMAND..
+add_count() { # NAME COMMAND..
     local printed status last
     printed=$("${@:2}" 2>&1)
     status=$?

@@ -6,29 +6,38 @@ known by its name alone, so each method of that name is reached. An array is a t
 """
 import re
 
-from rattle import PAIRS, Item, Unreadable, closing, split
+import layout
+from rattle import Item, Unreadable, closing, split
 
 SIZES = {"bool": 1, "u8": 1, "i8": 1, "u16": 2, "i16": 2, "u32": 4, "i32": 4, "f32": 4}
 SIZES |= dict.fromkeys(("u64", "i64", "f64", "usize", "isize"), 8)
-WIDEST, SLICE = 8, 16  # bytes: of a number, and of a reference to a slice
+WIDEST, SLICE = 8, (16, 8)  # the bytes of a number; a reference to a slice, and its alignment
 NAME = re.compile(r"[^\W\d]\w*$")
+NUMBER = re.compile(r"(0x[\da-fA-F_]+|0b[01_]+|0o[0-7_]+|\d[\d_]*?)_?([uif](?:8|16|32|64|size))?$")
+OPERATORS = {"+", "-", "*", "/", "%", "(", ")", "<<", ">>"}
 KEYWORDS = {"as", "break", "const", "continue", "else", "enum", "extern", "false", "fn", "for", "if", "impl", "in"}
 KEYWORDS |= {"let", "loop", "match", "mut", "pub", "return", "struct", "true", "type", "while", "_"}
 BUILT_IN = {"len"}  # methods of the language
 OF_NUMBERS = {"count_ones", "leading_zeros", "trailing_zeros", "MAX", "MIN", "BITS"}  # in paths such as u64::MAX
 
 
+def path_at(tokens, place):
+    """The path that begins at a place, and the place of its last name."""
+    path = [tokens[place]]
+    while tokens[place + 1 : place + 2] == ("::",):
+        path.append(tokens[place + 2])
+        place += 2
+    return tuple(path), place
+
+
 def paths_in(tokens):
     """(path, what follows it, what precedes it) for each name or path in tokens."""
     place = 0
     while place < len(tokens):
-        start = place
         if NAME.match(tokens[place]) and tokens[place] not in KEYWORDS:
-            path = [tokens[place]]
-            while tokens[place + 1 : place + 2] == ("::",):
-                path.append(tokens[place + 2])
-                place += 2
-            yield tuple(path), tokens[place + 1] if place + 1 < len(tokens) else "", tokens[start - 1] if start else ""
+            before = tokens[place - 1] if place else ""
+            path, place = path_at(tokens, place)
+            yield path, tokens[place + 1] if place + 1 < len(tokens) else "", before
         place += 1
 
 
@@ -57,13 +66,18 @@ def named_in(sources, item):
 
 
 def reached(sources, start):
-    """All items that an item reaches, itself first."""
-    found, waiting = {}, [start]
-    while waiting:
-        item = waiting.pop()
-        if item.path not in found:
-            found[item.path] = item
-            waiting.extend(named_in(sources, item))
+    """All items that an item reaches, itself first.
+
+    A method may be one of a crate that is only read on the way, so this goes on until no module is new.
+    """
+    known = -1
+    while known != len(sources.modules):
+        known, found, waiting = len(sources.modules), {}, [start]
+        while waiting:
+            item = waiting.pop()
+            if item.path not in found:
+                found[item.path] = item
+                waiting.extend(named_in(sources, item))
     return list(found.values())
 
 
@@ -73,92 +87,101 @@ class Reader:
     def __init__(self, sources, item):
         self.sources, self.item = sources, item
 
-    def number(self, tokens):
-        """The value of a constant expression."""
-        words = []
-        for path, *_ in paths_in(tokens):
-            if path[0] not in SIZES:
-                words.append(path)
-        text = " ".join(tokens)
-        for path in words:
-            found = self.sources.resolve(self.item.home, path)
-            if not isinstance(found, Item) or found.kind != "const":
-                raise Unreadable(f"{self.item.name}: {'::'.join(path)} is not a constant")
-            value = Reader(self.sources, found).number(found.tokens[found.tokens.index("=") + 1 : -1])
-            text = text.replace(" :: ".join(path), str(value))
-        text = re.sub(r"\b(0x[\da-fA-F_]+|\d[\d_]*)(?:[ui](?:8|16|32|64|size))?\b", lambda n: n.group(1), text)
-        text = re.sub(r" as \w+", "", text).replace("/", "//")
-        if not re.fullmatch(r"[\da-fA-Fx_ +*/%()-]+", text):
-            raise Unreadable(f"{self.item.name}: the length {text} is not known")
-        return int(eval(text, {"__builtins__": {}}))  # digits and operators only
+    def fail(self, why):
+        raise Unreadable(f"{self.item.name}: {why}")
 
-    def size_of_type(self, tokens):
-        """The bytes of a type, or None where the tokens are not one."""
-        if not tokens:
-            return None
-        if tokens[0] == "&":
+    def number(self, tokens):
+        """The value of a constant expression: numbers, constants, operators and casts."""
+        words, place = [], 0
+        while place < len(tokens):
+            token = tokens[place]
+            if token == "as":
+                place += 1
+            elif NUMBER.match(token):
+                words.append(str(int(NUMBER.match(token).group(1), 0)))
+            elif token in OPERATORS:
+                words.append("//" if token == "/" else token)
+            else:
+                path, place = path_at(tokens, place)
+                words.append(str(self.constant(path)))
+            place += 1
+        try:
+            return int(eval(" ".join(words), {"__builtins__": {}}))  # numbers and operators only
+        except (SyntaxError, ArithmeticError):
+            return self.fail(f"the length {' '.join(tokens)} is not known")
+
+    def constant(self, path):
+        """The value of a constant."""
+        found = self.sources.resolve(self.item.home, path) if NAME.match(path[0]) else None
+        if not isinstance(found, Item) or found.kind != "const":
+            self.fail(f"{'::'.join(path)} is not a constant")
+        return Reader(self.sources, found).number(found.tokens[found.tokens.index("=") + 1 : -1])
+
+    def layout_of_type(self, tokens):
+        """The size and the alignment of a type, or None where the tokens are not one."""
+        if tokens[:1] == ("&",):
             return SLICE
-        if tokens[0] == "[" and closing(tokens, 0) == len(tokens) - 1:
+        if tokens[:1] == ("[",) and closing(tokens, 0) == len(tokens) - 1:
             runs = split(tokens[1:-1], ";")
-            size = self.size_of_type(runs[0]) if len(runs) == 2 else None
-            return None if size is None else size * self.number(runs[1])
+            element = self.layout_of_type(runs[0]) if len(runs) == 2 else None
+            return element and layout.of_array(element, self.number(runs[1]))
         if len(tokens) == 1 and tokens[0] in SIZES:
-            return SIZES[tokens[0]]
+            return SIZES[tokens[0]], SIZES[tokens[0]]
         found = self.type_named(tokens)
-        return None if found is None else Reader(self.sources, found).size_of_declared()
+        return found and Reader(self.sources, found).layout_of_declared()
 
     def type_named(self, tokens):
         """The declared type that tokens name, or None."""
-        paths = [path for path, *_ in paths_in(tokens)]
-        if len(paths) != 1 or tokens != tuple(" :: ".join(paths[0]).split()):
+        if not tokens or not NAME.match(tokens[0]):
             return None
-        found = self.sources.resolve(self.item.home, paths[0]) if paths[0][-1][0].isupper() else None
+        path, end = path_at(tokens, 0)
+        found = self.sources.resolve(self.item.home, path) if end == len(tokens) - 1 else None
         return found if isinstance(found, Item) and found.kind in ("struct", "enum", "type") else None
 
-    def size_of_declared(self):
-        """The bytes of a type's fields; of an enum, of all variants."""
-        tokens = self.item.tokens
+    def layout_of_declared(self):
+        """The size and the alignment of a type that the sources declare."""
         if self.item.kind == "type":
-            return self.size_of_type(tokens[3:-1])
-        return sum(self.size_of_type(field) or 0 for field in self.fields())
+            return self.layout_of_type(self.item.tokens[3:-1]) or self.fail("it is not a type")
+        opening = next((place for place, token in enumerate(self.item.tokens) if token in ("{", "(")), None)
+        if opening is None:
+            return layout.laid_out([])
+        inside = self.item.tokens[opening + 1 : closing(self.item.tokens, opening)]
+        if self.item.kind == "struct":
+            return layout.laid_out(self.layouts_of_fields(inside))
+        return layout.of_enum([self.layouts_of_fields(run[2:-1]) for run in split(inside, ",")])
 
-    def fields(self):
-        """The types of the fields of a struct, or of all variants of an enum."""
-        tokens = self.item.tokens
-        opening = next((place for place, token in enumerate(tokens) if token in ("{", "(")), None)
-        return [] if opening is None else list(self.fields_in(tokens[opening + 1 : closing(tokens, opening)]))
-
-    def fields_in(self, tokens):
+    def layouts_of_fields(self, tokens):
+        """Of each field of a struct or a variant, with or without a name."""
+        found = []
         for run in split(tokens, ","):
             run = run[1:] if run[0] == "pub" else run
-            if ":" in run[:2]:
-                yield run[run.index(":") + 1 :]
-            elif len(run) > 1 and run[1] in PAIRS and NAME.match(run[0]):
-                yield from self.fields_in(run[2:-1])
-            elif self.item.kind == "struct":
-                yield run
+            run = run[2:] if run[1:2] == (":",) else run
+            found.append(self.layout_of_type(run) or self.fail(f"{' '.join(run)} is not a type"))
+        return found
 
     def size_of_value(self, tokens):
-        """The bytes of a value, as far as its text says: a cast, a suffix, a byte, an array; else the widest."""
+        """The bytes of a value where its text says them, by a cast, a suffix, a byte or an array; else None."""
         if len(tokens) > 2 and tokens[-2] == "as" and tokens[-1] in SIZES:
             return SIZES[tokens[-1]]
         if len(tokens) == 1:
-            suffix = re.match(r"\d[\d_]*([uif](?:8|16|32|64|size))$", tokens[0])
-            if suffix or tokens[0].startswith("b'"):
-                return SIZES[suffix.group(1)] if suffix else 1
+            number = NUMBER.match(tokens[0])
+            if tokens[0].startswith("b'"):
+                return 1
+            return SIZES[number.group(2)] if number and number.group(2) else None
         if tokens[:1] == ("[",) and closing(tokens, 0) == len(tokens) - 1:
             return self.size_of_array(tokens[1:-1])
         return None
 
     def size_of_array(self, tokens):
-        """The bytes of what stands between two brackets, or None for a slice type or one value."""
+        """The bytes of what stands between two brackets."""
         runs = split(tokens, ";")
         if len(runs) == 2:
-            size = self.size_of_type(runs[0])
-            return (size if size is not None else self.size_of_value(runs[0]) or WIDEST) * self.number(runs[1])
+            element = self.layout_of_type(runs[0])
+            size = element[0] if element else self.size_of_value(runs[0])
+            return (WIDEST if size is None else size) * self.number(runs[1])
         values = split(tokens, ",")
-        told = [size for size in map(self.size_of_value, values) if size is not None]
-        return len(values) * (max(told) if told else WIDEST)
+        known = [size for size in map(self.size_of_value, values) if size is not None]
+        return len(values) * (max(known) if known else WIDEST)
 
     def arrays(self):
         """(text, bytes) of each array in the item."""

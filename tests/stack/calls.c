@@ -1,13 +1,13 @@
 /*
  * The stack that the other calls of a box's main loop use, through the archive of crate stack_driver. Each call is made
- * with inputs that take its different ways, and the number of each answer is known. Prints a line for each call with
- * its greatest use, which nothing judges; a wrong answer fails. Last line 'N passed, M failed'.
+ * with inputs that take its different paths, and the number of each answer is known. Prints a line for each call with
+ * its greatest use, which has no limit; a wrong answer fails. Last line 'N passed, M failed'.
  */
 #include <stdio.h>
 #include <string.h>
 
 #include "driver.h"
-#include "judge.h"
+#include "measure.h"
 #include "trogonreed.h"
 
 enum { FINE = 0, STATE = 17, ROOM = 22, SIZE = 32, BUSY = 41, STRAY = 43 };
@@ -16,30 +16,35 @@ enum { MORE = 0, FRAME = 1, SHORT = 11, LONG = 12, STUFF = 13, CUT = 14, SUM = 1
 
 static struct fenced stack;
 
-/* The call that is measured: its name, and its greatest use so far. */
+/* The call that is measured: its name, its greatest use so far, and its arguments on the stack. */
 static struct {
     const char *name;
-    size_t most;
+    size_t most, arguments;
+    int is_right;
 } row;
 
 static void begin_row(const char *name)
 {
     row.name = name;
     row.most = 0;
+    row.is_right = 1;
 }
 
 static void end_row(void)
 {
-    test(row.most > 0 && row.most < stack.size, "%s is not measured", row.name);
-    printf("stack: %s: %lu bytes\n", row.name, (unsigned long)row.most);
+    test(row.is_right && row.most < stack.size, "%s: another answer", row.name);
+    printf("stack: %s: %lu bytes, %lu of them arguments\n", row.name, (unsigned long)row.most,
+           (unsigned long)row.arguments);
 }
 
-static void try(struct call call, enum way last, uint64_t expected)
+static void try(struct call call, enum way last, uint32_t expected)
 {
-    const size_t used = used_by(stack, PAINT, last, row.name, &call, expected);
+    const struct measure found = measure(stack, PAINT, last, &call, expected);
 
-    if (used > row.most)
-        row.most = used;
+    if (found.used > row.most)
+        row.most = found.used;
+    row.arguments = size_of_arguments(call.count);
+    row.is_right = row.is_right && found.is_right;
 }
 
 #define WORDS(...) (sizeof((uint64_t[]){__VA_ARGS__}) / sizeof(uint64_t)), {__VA_ARGS__}
@@ -54,11 +59,13 @@ static const uint8_t zeros[2000];
 
 static void messages(void)
 {
-    begin_row("message::write, a report");
-    TRY(stack_report, FINE, 3, 255, NOTHING, 2, OUT);
-    TRY(stack_report, FINE, 0xFFFF, 0xFFFFFFFF, NOTHING, 0xFF, OUT);
-    TRY(stack_report, ROOM, 3, 255, NOTHING, 2, NOTHING);
-    TRY(stack_report, SIZE, 3, 255, TEXT("x"), 2, OUT);
+    begin_row("message::write, a report or a status");
+    TRY(stack_status, FINE, 5, 3, 255, NOTHING, 2, OUT);
+    TRY(stack_status, FINE, 5, 0xFFFF, 0xFFFFFFFF, NOTHING, 0xFF, OUT);
+    TRY(stack_status, ROOM, 5, 3, 255, NOTHING, 2, NOTHING);
+    TRY(stack_status, SIZE, 5, 3, 255, TEXT("x"), 2, OUT);
+    TRY(stack_status, FINE, 4, 3, 255, NOTHING, 2, OUT);
+    TRY(stack_status, ROOM, 4, 3, 255, NOTHING, 2, SLICE(out, 18));
     end_row();
     begin_row("message::write, device information");
     TRY(stack_information, FINE, 0, SLICE(zeros, 64), 2, OUT);
@@ -112,14 +119,14 @@ static void links(void)
 static void transfers(void)
 {
     begin_row("transfer::begin");
-    TRY(stack_begin, FINE, 0, 0, 0, 0, 1, 5, TEXT("\0\0\0\5\0\2ab"), 2, TABLE, OUT);
-    TRY(stack_begin, FINE, 5, 1, 0xFF, 0, 1, 0xFF, TEXT("\0\0\0\5\0\0"), 2, TABLE, OUT);
-    TRY(stack_begin, ROOM, 0, 0, 0, 0, 1, 5, TEXT("\0\0\0\5\0\2ab"), 2, TABLE, SLICE(out, 20));
-    TRY(stack_begin, STATE, 5, 4, 0, 0, 1, 5, TEXT("\0\0\0\5\0\2ab"), 2, TABLE, OUT);
-    TRY(stack_begin, SIZE, 0, 0, 0, 0, 1, 5, TEXT("\0\0\0\5\0\2a"), 2, TABLE, OUT);
-    TRY(stack_begin, BUSY, 0, 0, 0, 5, 1, 5, TEXT("\0\0\0\5\0\2ab"), 2, TABLE, OUT);
-    TRY(stack_begin, EMPTY, 0, 0, 0, 0, 1, 5, TEXT("\0\0\0\5\0\2ab"), 0, TABLE, OUT);
-    TRY(stack_begin, TOOBIG, 0, 0, 0, 0, 1, 5, TEXT("\0\0\0\5\0\2ab"), 2, SLICE(table, 4), OUT);
+    TRY(stack_begin, FINE, 0, 0, 0, 0, 0, 1, 5, TEXT("\0\0\0\5\0\2ab"), 2, TABLE, OUT);
+    TRY(stack_begin, FINE, 5, 2, 1, 0xFF, 0, 1, 0xFF, TEXT("\0\0\0\5\0\0"), 2, TABLE, OUT);
+    TRY(stack_begin, ROOM, 0, 0, 0, 0, 0, 1, 5, TEXT("\0\0\0\5\0\2ab"), 2, TABLE, SLICE(out, 20));
+    TRY(stack_begin, STATE, 5, 2, 4, 0, 0, 1, 5, TEXT("\0\0\0\5\0\2ab"), 2, TABLE, OUT);
+    TRY(stack_begin, SIZE, 0, 0, 0, 0, 0, 1, 5, TEXT("\0\0\0\5\0\2a"), 2, TABLE, OUT);
+    TRY(stack_begin, BUSY, 0, 0, 0, 0, 5, 1, 5, TEXT("\0\0\0\5\0\2ab"), 2, TABLE, OUT);
+    TRY(stack_begin, EMPTY, 0, 0, 0, 0, 0, 1, 5, TEXT("\0\0\0\5\0\2ab"), 0, TABLE, OUT);
+    TRY(stack_begin, TOOBIG, 0, 0, 0, 0, 0, 1, 5, TEXT("\0\0\0\5\0\2ab"), 2, SLICE(table, 4), OUT);
     end_row();
     begin_row("transfer::store");
     TRY(stack_store, FINE, 5, 2, 0, 6, 0, TEXT("\0\1\0\3a1"), TABLE, OUT);
@@ -199,7 +206,7 @@ static void devices(void)
 }
 
 #define FEED(expected, bytes) TRY(stack_feed, expected, TEXT(bytes))
-#define PASS_ON(expected, bytes, output) TRY(stack_turn, expected, TEXT(bytes), 100, 2, TABLE, output)
+#define ONE_TURN(expected, bytes, output) TRY(stack_turn, expected, TEXT(bytes), 100, 2, TABLE, output)
 #define BEAT "\xFF\xFF\x00\x05\x07\x01\x00\x00"
 
 /* The longest frame, as the writer writes it. */
@@ -229,18 +236,18 @@ static void readers(void)
     TRY(stack_feed, MORE, NOTHING);
     end_row();
     begin_row("frame::feed and device::handle, a turn of the main loop");
-    PASS_ON(FINE, BEAT "\x0D", OUT);
-    PASS_ON(ROOM, BEAT "\x0D", NOTHING);
-    PASS_ON(FINE, BEAT "\x0E", OUT);
-    PASS_ON(FINE, "\xFF\xFF\x00\x0D\x19\x05\0\0" "\0\0\0\5\0\2ab" "\xF5", OUT);
-    PASS_ON(TURN, "\xFF\xFF\x00\x0B\x1D\x05\0\0" "\0\1\0\3a1" "\xC3", OUT);
+    ONE_TURN(FINE, BEAT "\x0D", OUT);
+    ONE_TURN(ROOM, BEAT "\x0D", NOTHING);
+    ONE_TURN(FINE, BEAT "\x0E", OUT);
+    ONE_TURN(FINE, "\xFF\xFF\x00\x0D\x19\x05\0\0" "\0\0\0\5\0\2ab" "\xF5", OUT);
+    ONE_TURN(TURN, "\xFF\xFF\x00\x0B\x1D\x05\0\0" "\0\1\0\3a1" "\xC3", OUT);
     TRY(stack_turn, FINE, SLICE(wire, size), 100, 2, TABLE, OUT);
     end_row();
 }
 
 int main(void)
 {
-    stack = painted_new(STACK_SIZE);
+    stack = fenced_new(STACK_SIZE);
     messages();
     replies();
     links();

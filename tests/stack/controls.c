@@ -1,6 +1,6 @@
 /*
  * Whether the painting works: functions that use a known amount of stack are measured, and the answer is known. No
- * figure of this room means anything where a test of this file fails.
+ * figure of tests/stack means anything where a test of this file fails.
  */
 /* for fork, which C99 does not have */
 #define _DEFAULT_SOURCE
@@ -12,11 +12,11 @@
 #include <sys/wait.h>
 #include <unistd.h>
 
-#include "judge.h"
+#include "measure.h"
 #include "switch.h"
 #include "trogonreed.h"
 
-enum { RETURN_ADDRESS = 8, WORD = 8, IN_REGISTERS = 6 };
+enum { RETURN_ADDRESS = 8 };
 
 typedef void (*function)(void);
 
@@ -68,9 +68,8 @@ static void test_words(struct fenced stack)
 {
     size_t count;
 
-    for (count = 2; count <= MOST_WORDS; count++) {
-        const size_t words = count > IN_REGISTERS ? count - IN_REGISTERS : 0;
-        const size_t want = 100 + RETURN_ADDRESS + (words + words % 2) * WORD;
+    for (count = 2; count <= MAX_WORDS; count++) {
+        const size_t want = 100 + RETURN_ADDRESS + size_of_arguments(count);
 
         test(use_of(stack, STEPS, (function)control_touch, 100, 1, count) == want &&
                  use_of(stack, PAINT, (function)control_fill, 100, 1, count) == want,
@@ -78,10 +77,10 @@ static void test_words(struct fenced stack)
     }
 }
 
-/* What is set aside and not written is seen by the steps, and by them alone. */
+/* What is set aside and not written is seen by the steps, and by them alone; more than the stack has too. */
 static void test_reserved(struct fenced stack)
 {
-    static const size_t depths[] = {0, 8, 1000, 1016, 8192};
+    static const size_t depths[] = {0, 8, 1000, 1016, 8192, STACK_SIZE - RETURN_ADDRESS + 1, 20000};
     size_t i;
 
     for (i = 0; i < sizeof depths / sizeof depths[0]; i++) {
@@ -94,15 +93,15 @@ static void test_reserved(struct fenced stack)
     }
 }
 
-/* The use of 1,024 bytes is too much, one of 1,023 is not. */
-static void test_judgement(struct fenced stack)
+/* A use of 1,024 bytes is too much, one of 1,023 is not. */
+static void test_limit(struct fenced stack)
 {
-    test(!is_too_much(painted_use(stack, (function)control_fill, 1015, 0)), "1,023 bytes are judged too much");
-    test(is_too_much(painted_use(stack, (function)control_fill, 1016, 0)), "1,024 bytes are judged to be little");
+    test(!is_too_much(painted_use(stack, (function)control_fill, 1015, 0)), "1,023 bytes are too much");
+    test(is_too_much(painted_use(stack, (function)control_fill, 1016, 0)), "1,024 bytes are not too much");
 }
 
-/* One byte more than the stack has kills. */
-static void test_fence(struct fenced stack)
+/* Whether a control dies that touches one byte so far below its return address. */
+static int is_killed(struct fenced stack, size_t depth)
 {
     const struct rlimit none = {0, 0};
     int status = 0;
@@ -112,11 +111,37 @@ static void test_fence(struct fenced stack)
     child = fork();
     if (child == 0) {
         setrlimit(RLIMIT_CORE, &none);
-        use_of(stack, PAINT, (function)control_touch, stack.size - RETURN_ADDRESS + 1, 0, 2);
+        use_of(stack, PAINT, (function)control_touch, depth, 0, 2);
         _exit(0);
     }
-    test(child > 0 && waitpid(child, &status, 0) == child && WIFSIGNALED(status) && WTERMSIG(status) == SIGSEGV,
-         "a use beyond the stack is not stopped by the fence");
+    return child > 0 && waitpid(child, &status, 0) == child && WIFSIGNALED(status) && WTERMSIG(status) == SIGSEGV;
+}
+
+/* The fences: the last byte of the stack may be touched, one more on either side kills. */
+static void test_fences(struct fenced stack)
+{
+    const size_t last = stack.size - RETURN_ADDRESS, above = (size_t)-RETURN_ADDRESS;
+
+    test(!is_killed(stack, last), "the lowest byte of the stack kills");
+    test(is_killed(stack, last + 1), "a use beyond the stack is not stopped by the fence");
+    test(is_killed(stack, above), "a byte above the stack is not stopped by the fence");
+}
+
+static uint32_t seven(void)
+{
+    return 7;
+}
+
+/* Another number than the right one is noticed, in each way. */
+static void test_answers(struct fenced stack)
+{
+    const struct call call = {(function)seven, 0, {0}};
+    int way;
+
+    for (way = PAINT; way < WAYS; way++) {
+        test(measure(stack, (enum way)way, (enum way)way, &call, 7).is_right, "a right answer is not noticed");
+        test(!measure(stack, (enum way)way, (enum way)way, &call, 8).is_right, "a wrong answer is not noticed");
+    }
 }
 
 void test_controls(struct fenced stack)
@@ -124,6 +149,7 @@ void test_controls(struct fenced stack)
     test_depths(stack);
     test_words(stack);
     test_reserved(stack);
-    test_judgement(stack);
-    test_fence(stack);
+    test_limit(stack);
+    test_fences(stack);
+    test_answers(stack);
 }

@@ -4,7 +4,7 @@
 
 #include "fenced.h"
 
-/* The use from which on a call is judged to use too much. */
+/* Whether a use is too much: TROGONREED_STACK bytes or more. */
 int is_too_much(size_t used);
 
 /* Measures functions whose use is known. */

@@ -6,8 +6,11 @@ above a size.
 import re
 import subprocess
 
+import layout
+
 TOKEN = re.compile(r'\(|\)|"[^"]*"|[^\s()"]+')
 EMPTY = "rt_empty::main"  # the program around a library
+PLAIN = {"tyBool": (1, 1), "tyUnit": (0, 1), "tyPtr": (8, 8), "tyRef": (8, 8)}
 
 
 def parsed(text):
@@ -48,26 +51,38 @@ def functions_in(tree):
 
 
 def declared_in(tree):
-    """The fields of each declared type, all variants' together."""
+    """Of each declared type its fields, or its variants."""
     return {node[1]: node[2] for node in nodes(tree) if len(node) == 3 and node[0] == "pair" and node[2] != "lnil"}
 
 
-def size_of(kind, declared):
-    """The bytes of a type; a list of types counts together."""
-    if isinstance(kind, str):
-        return {"tyBool": 1, "tyPtr": 8}.get(kind, 0)
-    if kind[0] == "tyInt":
-        return int(kind[1]) // 8
-    if kind[0] == "tyArray":
-        return size_of(kind[1], declared) * int(kind[2][1])
-    if kind[0] == "tyRef":
-        return 8
-    if kind[0] == "tyNamed":
-        return size_of(declared.get(kind[1][1], []), declared)
-    return sum(size_of(part, declared) for part in kind[1:])
+def listed(node):
+    """The entries of a list that is written as pairs: (tcons a (tcons b tnil))."""
+    while isinstance(node, list):
+        yield node[1]
+        node = node[2]
+
+
+def layout_of(kind, declared):
+    """The size and the alignment of a type."""
+    name = kind if isinstance(kind, str) else kind[0]
+    if name in PLAIN:
+        return PLAIN[name]
+    if name == "tyInt":
+        return int(kind[1]) // 8, int(kind[1]) // 8
+    if name == "tyArray":
+        return layout.of_array(layout_of(kind[1], declared), int(kind[2][1]))
+    if name == "tyStruct":
+        return layout.laid_out([layout_of(field, declared) for field in listed(kind[2])])
+    if name == "tyNamed":
+        return layout_of(declared[kind[1][1]], declared)
+    if name == "fields":
+        return layout.laid_out([layout_of(field, declared) for field in listed(kind[1])])
+    if name == "variants":
+        return layout.of_enum([[layout_of(field, declared) for field in listed(each)] for each in listed(kind[1])])
+    raise ValueError(f"rt mir has a type {name}")
 
 
 def arrays_in(tree):
     """The bytes of each array type in a program."""
     declared = declared_in(tree)
-    return {size_of(node, declared) for node in nodes(tree) if node and node[0] == "tyArray"}
+    return {layout_of(node, declared)[0] for node in nodes(tree) if node and node[0] == "tyArray"}

@@ -10,8 +10,18 @@
 
 #include "switch.h"
 
+/* On x86-64. */
+enum { WORD = 8, IN_REGISTERS = 6 };
+
 /* The processor's flag that stops it after each instruction. */
 #define TRAP_FLAG UINT64_C(0x100)
+
+size_t size_of_arguments(size_t count)
+{
+    const size_t words = count > IN_REGISTERS ? count - IN_REGISTERS : 0;
+
+    return (words + words % 2) * WORD;
+}
 
 /* A pattern without a period that a stack frame could have. */
 static uint8_t pattern(enum way way, size_t place)
@@ -39,14 +49,18 @@ static size_t changed(struct fenced stack, enum way way)
     return stack.size - i;
 }
 
-static const uint8_t *bottom, *top, *lowest;
+/* The stack pointer is noted where it is less than this below the top: even where it is below the whole stack. */
+#define NEAR ((uintptr_t)1 << 24)
+
+static uintptr_t top;
+static volatile uintptr_t lowest; /* the handler writes it */
 
 static void note(int signal, siginfo_t *info, void *context)
 {
-    const uint8_t *here = (const uint8_t *)((ucontext_t *)context)->uc_mcontext.gregs[REG_RSP];
+    const uintptr_t here = (uintptr_t)((ucontext_t *)context)->uc_mcontext.gregs[REG_RSP];
 
     (void)signal, (void)info;
-    if (here >= bottom && here < lowest)
+    if (top - here < NEAR && here < lowest)
         lowest = here;
 }
 
@@ -71,19 +85,13 @@ static uint64_t stepped(struct fenced stack, const struct call *call, size_t *us
 {
     uint64_t returned;
 
-    bottom = stack.first;
-    lowest = top = stack.first + stack.size;
+    lowest = top = (uintptr_t)(stack.first + stack.size);
     catch_steps();
     __writeeflags(__readeflags() | TRAP_FLAG);
     returned = switch_call(stack.first + stack.size, call->function, call->words, call->count);
     __writeeflags(__readeflags() & ~TRAP_FLAG);
-    *used = (size_t)(top - lowest);
+    *used = top - lowest;
     return returned;
-}
-
-struct fenced painted_new(size_t least)
-{
-    return fenced_new(least);
 }
 
 uint64_t painted_call(struct fenced stack, enum way way, const struct call *call, size_t *used)

@@ -114,7 +114,10 @@ class Sources:
             if text is None:
                 raise Unreadable(f"there is no module {'::'.join(path)}")
             self.modules[path] = found = ({}, {}, set())
-            self.declare(path, tokens_of(text), found)
+            try:
+                self.declare(path, tokens_of(text), found)
+            except (IndexError, ValueError) as error:
+                raise Unreadable(f"{'::'.join(path)}: {error}") from error
             for inner in found[2]:
                 self.module((*path, inner))
         return self.modules[path]
@@ -126,7 +129,7 @@ class Sources:
         while place < len(tokens):
             if tokens[place] == "#":
                 end = closing(tokens, place + 1) + 1
-                is_exported, place = "no_mangle" in tokens[place:end], end
+                is_exported, place = is_exported or "no_mangle" in tokens[place:end], end
             elif tokens[place] == "(":  # after `pub`
                 place = closing(tokens, place) + 1
             elif tokens[place] in ("pub", "extern", '"C"'):

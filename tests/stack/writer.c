@@ -8,7 +8,7 @@
 #include <string.h>
 
 #include "controls.h"
-#include "judge.h"
+#include "measure.h"
 #include "trogonreed.h"
 
 enum { LONGEST = 1020 };
@@ -68,57 +68,61 @@ static size_t room_of(enum room room, size_t need)
     }
 }
 
-static uint64_t expected(size_t size, size_t room, size_t need)
+static uint32_t expected(size_t size, size_t room, size_t need)
 {
     if (size > TROGONREED_MAX_PAYLOAD)
         return TROGONREED_REFUSED_PAYLOAD;
-    return room < need ? TROGONREED_REFUSED_ROOM : need;
+    return room < need ? TROGONREED_REFUSED_ROOM : (uint32_t)need;
 }
 
-static size_t use_of(struct fenced stack, enum way first, enum way last, size_t size, enum room room)
+/* The greatest use so far, and of which call; how many calls were measured by painting, and how many by steps. */
+static struct {
+    size_t used, size;
+    enum kind kind;
+    enum room room;
+} most;
+static unsigned long painted, stepped;
+
+/* Whether a call with a payload of this size uses little and answers right. */
+static int is_good(struct fenced stack, enum way first, enum way last, size_t size, enum kind kind, enum room room)
 {
     const size_t need = size_on_wire(size), given = room_of(room, need);
     const struct call call = {(void (*)(void))trogonreed_write_frame,
                               7,
                               {fields[0], fields[1], (uint64_t)(fields[2] << 8 | fields[3]), SLICE(fields + 4, size),
                                SLICE(out, given)}};
+    const struct measure found = measure(stack, first, last, &call, expected(size, given, need));
 
-    return used_by(stack, first, last, "trogonreed_write_frame", &call, expected(size, given, need));
-}
-
-/* The greatest use so far, and of which call. */
-static struct {
-    size_t used, size;
-    enum kind kind;
-    enum room room;
-} most;
-
-static int is_little(size_t used, size_t size, enum kind kind, enum room room)
-{
-    if (used > most.used) {
-        most.used = used;
+    if (found.used > most.used) {
+        most.used = found.used;
         most.size = size;
         most.kind = kind;
         most.room = room;
     }
-    return !is_too_much(used);
+    if (!found.is_right)
+        printf("stack: %s payload of %lu bytes, %s: another answer\n", kind_names[kind], (unsigned long)size,
+               room_names[room]);
+    return found.is_right && !is_too_much(found.used);
 }
 
-/* Whether a call of each of these sizes uses little. */
-static void test_sizes(struct fenced stack, enum way first, enum way last, size_t step, enum kind kind, enum room room)
+/* Every size by painting, and some by steps, which are slow: the last two are the longest frame and PAYLOAD. */
+static void test_sizes(struct fenced stack, enum kind kind, enum room room)
 {
-    size_t size;
+    static const size_t some[] = {0, 510, 1019, 1020};
+    size_t size, i;
     int good = 1;
 
-    for (size = 0; good && size <= LONGEST; size += step)
-        good = is_little(use_of(stack, first, last, size, room), size, kind, room);
-    test(good, "%s payload of %lu bytes, %s: too much stack, or another answer", kind_names[kind],
-         (unsigned long)(size - step), room_names[room]);
+    for (size = 0; size <= LONGEST; size++, painted++)
+        good = is_good(stack, PAINT, INVERSE, size, kind, room) && good;
+    test(good, "%s payloads, %s: too much stack, or another answer", kind_names[kind], room_names[room]);
+    for (good = 1, i = 0; i < sizeof some / sizeof some[0]; i++, stepped++)
+        good = is_good(stack, STEPS, STEPS, some[i], kind, room) && good;
+    test(good, "%s payloads, %s, by steps: too much stack, or another answer", kind_names[kind], room_names[room]);
 }
 
 int main(int argc, char **argv)
 {
-    const struct fenced stack = painted_new(STACK_SIZE);
+    const struct fenced stack = fenced_new(STACK_SIZE);
     const unsigned long seed = argc > 1 ? strtoul(argv[1], NULL, 10) : 1;
     int kind, room;
 
@@ -128,14 +132,13 @@ int main(int argc, char **argv)
     test_controls(stack);
     for (kind = PLAIN; kind < KINDS; kind++) {
         fill((enum kind)kind);
-        for (room = NO_ROOM; room < ROOMS; room++) {
-            test_sizes(stack, PAINT, INVERSE, 1, (enum kind)kind, (enum room)room);
-            /* slow: three sizes, the last of which is PAYLOAD */
-            test_sizes(stack, STEPS, STEPS, LONGEST / 2, (enum kind)kind, (enum room)room);
-        }
+        for (room = NO_ROOM; room < ROOMS; room++)
+            test_sizes(stack, (enum kind)kind, (enum room)room);
     }
-    printf("stack: trogonreed_write_frame uses at most %lu bytes, of less than %lu; first with a payload of %lu bytes, "
-           "%s, %s\n", (unsigned long)most.used, TROGONREED_STACK, (unsigned long)most.size, kind_names[most.kind],
-           room_names[most.room]);
+    test(painted == 3 * 4 * 1021 && stepped == 3 * 4 * 4, "%lu calls were painted and %lu stepped", painted, stepped);
+    printf("stack: trogonreed_write_frame: %lu bytes, %u of them arguments; less than %lu are allowed. First with a %s "
+           "payload of %lu bytes, %s\n",
+           (unsigned long)most.used, (unsigned)size_of_arguments(7), TROGONREED_STACK, kind_names[most.kind],
+           (unsigned long)most.size, room_names[most.room]);
     return end();
 }

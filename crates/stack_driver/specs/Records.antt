@@ -6,6 +6,7 @@ use Rattle.link.specs.declared.state.Link.{Link}
 use Rattle.link.specs.declared.state.Wait.the-variants.{Idle, Waiting}
 use Rattle.link.specs.Calls.{linkOf}
 use Rattle.message.specs.declared.counter.Mode.the-variants as mode
+use Rattle.message.specs.declared.counter.Status.{Status}
 use Rattle.message.specs.declared.values.Extra.the-variants as extra
 use Rattle.message.specs.declared.values.Message.{Message}
 use Rattle.message.specs.declared.values.Message.the-variants as message
@@ -21,11 +22,10 @@ linkFrom next waiting sent repeats =
 abbrev pub transferFrom : ℕ → ℕ → ℕ → Transfer
 transferFrom size piece stored = cond (eqb size 0) Absent (Open size piece stored)
 
--- a report: feeding, mode gather, no alarm
-abbrev pub reportOf : ℕ → ℕ → Message
-reportOf volume leaf =
-    message.Report
-    (record {
+-- a status: feeding, mode gather, no alarm
+abbrev pub gathering : ℕ → ℕ → Status
+gathering volume leaf =
+    record {
       feeding = true;
       lamp = false;
       mode = mode.Gather;
@@ -34,7 +34,12 @@ reportOf volume leaf =
       double = false;
       skipped = false;
       fault = false;
-    })
+    }
+
+-- such a status as the reply 04, or as a report
+abbrev pub statusOf : ℕ → ℕ → ℕ → Message
+statusOf command volume leaf =
+    cond (eqb command 0x04) (message.Status (gathering volume leaf)) (message.Report (gathering volume leaf))
 
 -- device information without attributes
 abbrev pub informationOf : ℕ → Message

@@ -16,15 +16,15 @@ pub extern "C" fn stack_link(
     command: u8,
     clock: u32,
     later: u32,
-    received: u8,
+    reply: u8,
     number: u8,
 ) -> u32
     ensures { λ r. ⌜ r ≡ linkTurnOf firstNumber maxRepeats (linkFrom next waiting sent repeats) command clock later
-        received number .number ⌝ }
+        reply number .number ⌝ }
 {
     let offered = link::offer(link_from(next, waiting, sent, repeats), command, clock);
     let ticked = link::tick_by_value(offered.link, later);
-    let heard = link::receive(ticked.link, received, number);
-    let answer = heard.answer;
+    let received = link::receive(ticked.link, reply, number);
+    let answer = received.answer;
     of_receive(answer)
 }

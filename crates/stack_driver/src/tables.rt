@@ -1,39 +1,32 @@
-// A counting table received: the calls of `transfer`, and `device`, which makes them for the box. What waits in the
-// link was sent just now.
+// A counting table received: the calls of `transfer`. What waits in the link was sent just now.
 use super::numbers::of_arrive;
 use super::numbers::of_cancel;
-use super::numbers::of_handle;
 use super::records::link_from;
 use super::records::transfer_from;
-use frame::FeedResult;
-use frame::Verdict;
-use frame::WirePlace;
 ghost use lib.ListN.{length};
 ghost use Rattle.frame.specs.Wire.{frameLimit};
-ghost use Rattle.frame.specs.Table.{decidedRow};
-ghost use Rattle.frame.specs.declared.scan.Verdict.the-variants.{Frame};
 ghost use Rattle.link.specs.Sending.{firstNumber, maxRepeats};
 ghost use Rattle.transfer.specs.Calls.{beginOf, storeOf, stopOf, cancelOf};
-ghost use Rattle.device.specs.Handling.{handleOf};
-ghost use Rattle.stack_driver.specs.Numbered.{Numbered, NumberedHeld, NumberedAfter, ofLeft};
+ghost use Rattle.stack_driver.specs.Numbered.{Numbered, NumberedHeld, ofLeft};
 ghost use Rattle.stack_driver.specs.Records.{linkFrom, transferFrom};
 
-// A 19.
+// A 19, of which pieces of `wanted` bytes are asked for.
 #[no_mangle]
 pub extern "C" fn stack_begin(
     size: u32,
+    piece: u16,
     stored: u16,
     next: u8,
     waiting: u8,
     clock: u32,
     number: u8,
     payload: &[u8],
-    piece: u16,
+    wanted: u16,
     buffer: &[u8],
     out: &mut [u8],
 ) -> u32
     ensures { λ r. ⌜ Numbered r (now (out .exit)) (ofLeft (beginOf frameLimit firstNumber maxRepeats
-        (transferFrom size piece stored) (linkFrom next waiting clock 0) clock number (now (payload .entry)) piece
+        (transferFrom size piece stored) (linkFrom next waiting clock 0) clock number (now (payload .entry)) wanted
         (length (now (buffer .entry))) (now (out .entry)))) ⌝ }
 {
     let begun = transfer::begin(
@@ -42,7 +35,7 @@ pub extern "C" fn stack_begin(
         clock,
         number,
         payload,
-        piece,
+        wanted,
         buffer,
         out,
     );
@@ -67,8 +60,8 @@ pub extern "C" fn stack_store(
         (now (out .entry))) ⌝ }
 {
     let transfer = transfer_from(size, piece, stored);
-    let kept = transfer::store(transfer, number, flags, payload, buffer, out);
-    let answer = kept.answer;
+    let arrived = transfer::store(transfer, number, flags, payload, buffer, out);
+    let answer = arrived.answer;
     of_arrive(answer)
 }
 
@@ -109,35 +102,4 @@ pub extern "C" fn stack_cancel(
     let cancelled = transfer::cancel(transfer, link_from(next, waiting, clock, 0), clock, out);
     let answer = cancelled.answer;
     of_cancel(answer)
-}
-
-// A FRAME whose body the caller holds.
-#[no_mangle]
-pub extern "C" fn stack_handle(
-    body: &[u8],
-    size: u32,
-    stored: u16,
-    next: u8,
-    waiting: u8,
-    clock: u32,
-    piece: u16,
-    buffer: &mut [u8],
-    out: &mut [u8],
-) -> u32
-    ensures { λ r. ⌜ NumberedAfter r (now (buffer .exit)) (now (out .exit))
-        (handleOf frameLimit firstNumber maxRepeats (decidedRow Frame (length (now (body .entry))) 0 0)
-        (now (body .entry)) (transferFrom size piece stored) (linkFrom next waiting clock 0) clock piece
-        (now (buffer .entry)) (now (out .entry))) ⌝ }
-{
-    let frame = FeedResult::Decided {
-        count: body.len(),
-        start: WirePlace(0),
-        end: WirePlace(0),
-        verdict: Verdict::Frame,
-    };
-    let transfer = transfer_from(size, piece, stored);
-    let link = link_from(next, waiting, clock, 0);
-    let handled = device::handle(frame, body, transfer, link, clock, piece, buffer, out);
-    let answer = handled.answer;
-    of_handle(answer)
 }

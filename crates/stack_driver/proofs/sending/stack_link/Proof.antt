@@ -22,7 +22,7 @@ stack-link-spec =
     let args = made .before .args in
     c .of-receive .ensures
     ∙ ap (λ (y : Outcome Link). y .row .number)
-    (called (λ l. receiveOf firstNumber maxRepeats l (args .received) (args .number)) (heard .receive .ensures)
+    (called (λ l. receiveOf firstNumber maxRepeats l (args .reply) (args .number)) (heard .receive .ensures)
     (state-after (λ l. tickOf firstNumber maxRepeats l (args .later)) (ticked .tick-by-value .ensures)
     (state-after (λ l. offerOf firstNumber maxRepeats l (args .command) (args .clock)) (offered .offer .ensures)
     (made .link-from .ensures)))))

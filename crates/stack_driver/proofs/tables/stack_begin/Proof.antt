@@ -20,5 +20,5 @@ stack-begin-spec =
     let args = transfer .before .before .before .before .args in
     numbered-left (c .of-arrive .ensures)
     (called-both (λ t l. beginOf frameLimit firstNumber maxRepeats t l (args .clock) (args .number) (args .payload .now)
-    (args .piece) (length (args .buffer .now)) (args .out .now))
+    (args .wanted) (length (args .buffer .now)) (args .out .now))
     (call .begin .ensures) (transfer .transfer-from .ensures) (link .link-from .ensures)))

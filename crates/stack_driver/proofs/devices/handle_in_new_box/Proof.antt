@@ -1,15 +1,15 @@
--- `reading::handle` returns the number of what `device` answers in a new box, and leaves what it stored and wrote.
+-- `devices::handle_in_new_box` returns the number of what `device` answers in a new box, and leaves what it stored and wrote.
 use borrow.Author.Needs.{needs}
 use Rattle.frame.specs.Table.{rowOf}
 use Rattle.frame.specs.Wire.{frameLimit}
 use Rattle.link.specs.Sending.{firstNumber, maxRepeats}
 use Rattle.device.specs.Handling.{handleOf}
 use Rattle.stack_driver.proofs.Laws.{numbered-after}
-use Rattle.stack_driver.proofs.reading.handle.Statement.{statement}
-use Rattle.stack_driver.proofs.reading.handle.Tie as tie
+use Rattle.stack_driver.proofs.devices.handle_in_new_box.Statement.{statement}
+use Rattle.stack_driver.proofs.devices.handle_in_new_box.Tie as tie
 
-pub handle-spec : {M : Type 1} → statement M
-handle-spec =
+pub handle-in-new-box-spec : {M : Type 1} → statement M
+handle-in-new-box-spec =
     tie.close
     (tie.spec
     (search needs) (search needs) (search needs) (search needs) (search needs) (search needs)

@@ -1,4 +1,4 @@
--- `reading::stack_turn` gives a new box what a fresh reader answers, and the body that it then holds.
+-- `devices::stack_turn` gives a new box what a fresh reader answers, and the body that it then holds.
 use borrow.Author.Needs.{needs}
 use Rattle.base.specs.Outcomes.{Outcome}
 use Rattle.frame.specs.Wire.{frameLimit}
@@ -7,8 +7,8 @@ use Rattle.frame.specs.Calls.{feedOf}
 use Rattle.link.specs.Sending.{firstNumber, maxRepeats}
 use Rattle.stack_driver.specs.Turns.{newBoxOf}
 use Rattle.stack_driver.proofs.Laws.{called, numbered-by}
-use Rattle.stack_driver.proofs.reading.stack_turn.Statement.{statement}
-use Rattle.stack_driver.proofs.reading.stack_turn.Tie as tie
+use Rattle.stack_driver.proofs.devices.stack_turn.Statement.{statement}
+use Rattle.stack_driver.proofs.devices.stack_turn.Tie as tie
 
 pub stack-turn-spec : {M : Type 1} → statement M
 stack-turn-spec =
@@ -23,4 +23,4 @@ stack-turn-spec =
     numbered-by (λ (y : Outcome State). newBoxOf frameLimit firstNumber maxRepeats (y .row) (y .state .body)
     (args .clock) (args .piece) (args .buffer .now) (args .out .now))
     (called (λ r. feedOf frameLimit r (args .bytes .now)) (fed .feed .ensures) (made .new .ensures))
-    (call .handle .ensures))
+    (call .handle-in-new-box .ensures))

@@ -1,4 +1,4 @@
--- `tables::stack_handle` returns the number of what `device` answers to a frame, and leaves what it stored and wrote.
+-- `devices::stack_handle` returns the number of what `device` answers to a frame, and leaves what it stored and wrote.
 use borrow.Author.Needs.{needs}
 use lib.ListN.{length}
 use Rattle.frame.specs.Wire.{frameLimit}
@@ -7,8 +7,8 @@ use Rattle.frame.specs.declared.scan.Verdict.the-variants.{Frame}
 use Rattle.link.specs.Sending.{firstNumber, maxRepeats}
 use Rattle.device.specs.Handling.{handleOf}
 use Rattle.stack_driver.proofs.Laws.{numbered-after}
-use Rattle.stack_driver.proofs.tables.stack_handle.Statement.{statement}
-use Rattle.stack_driver.proofs.tables.stack_handle.Tie as tie
+use Rattle.stack_driver.proofs.devices.stack_handle.Statement.{statement}
+use Rattle.stack_driver.proofs.devices.stack_handle.Tie as tie
 
 pub stack-handle-spec : {M : Type 1} → statement M
 stack-handle-spec =

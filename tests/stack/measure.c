@@ -1,4 +1,4 @@
-#include "judge.h"
+#include "measure.h"
 
 #include <stdarg.h>
 #include <stdio.h>
@@ -30,24 +30,20 @@ int end(void)
     return failed == 0 ? 0 : 1;
 }
 
-size_t used_by(struct fenced stack, enum way first, enum way last, const char *name, const struct call *call,
-               uint64_t expected)
+struct measure measure(struct fenced stack, enum way first, enum way last, const struct call *call, uint32_t expected)
 {
-    size_t most = 0, used;
+    struct measure found = {0, 1};
+    size_t used;
     int way;
 
     for (way = (int)first; way <= (int)last; way++) {
         memset(out, 0xAA, sizeof out);
         memset(table, 0, sizeof table);
         /* the functions return 32 bits; what is above them in the word means nothing */
-        const uint32_t returned = (uint32_t)painted_call(stack, (enum way)way, call, &used);
-
-        if (returned != expected) {
-            test(0, "%s returns %lu, not %lu", name, (unsigned long)returned, (unsigned long)expected);
-            return stack.size;
-        }
-        if (used > most)
-            most = used;
+        if ((uint32_t)painted_call(stack, (enum way)way, call, &used) != expected)
+            found.is_right = 0;
+        if (used > found.used)
+            found.used = used;
     }
-    return most;
+    return found;
 }

@@ -1,6 +1,6 @@
-/* What the programs of this room share: counting, the memory that calls are made on, and one call measured. */
-#ifndef JUDGE_H
-#define JUDGE_H
+/* What the programs of tests/stack share: counting, the memory that calls are made on, and one call measured. */
+#ifndef MEASURE_H
+#define MEASURE_H
 
 #include "painted.h"
 
@@ -18,11 +18,13 @@ int end(void);
 /* The words of a slice: its place and its size. */
 #define SLICE(bytes, size) (uint64_t)(uintptr_t)(bytes), (uint64_t)(size)
 
-/*
- * The greatest use that is measured of a call, in each way from `first` to `last`. Where it returns another number than
- * it has to, that is a failed test, and the use is the whole stack.
- */
-size_t used_by(struct fenced stack, enum way first, enum way last, const char *name, const struct call *call,
-               uint64_t expected);
+/* The greatest use of a call, and whether it returned the right number each time. */
+struct measure {
+    size_t used;
+    int is_right;
+};
+
+/* Makes a call once in each way from `first` to `last`. */
+struct measure measure(struct fenced stack, enum way first, enum way last, const struct call *call, uint32_t expected);
 
 #endif
