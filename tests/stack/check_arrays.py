@@ -54,7 +54,34 @@ CRATES = {
             both[0]
         }
         """,
+    ("far",): """
+        pub struct Made {
+            n: u8,
+        }
+        pub fn make(n: u8) -> Made {
+            Made { n }
+        }
+        impl Made {
+            pub fn least(self) -> u8 {
+                let b = [0u8; 1026];
+                b[0]
+            }
+        }
+        """,
 }
+# What some of the edits below name.
+NAMED = """
+    const TABLE: [u32; 5] = [1, 2, 3, 4, 5];
+    const EIGHTY: usize = 80;
+    struct Wide {
+        wide: u32,
+        narrow: u8,
+    }
+    enum Each {
+        Wide { wide: u64 },
+        Empty,
+    }
+    """
 INNER, KEPT = ("box", "inner"), ("base", "kept")
 # What is put where, and the bytes of the largest array that is then reached.
 FINDS = [
@@ -74,6 +101,11 @@ FINDS = [
     ("a parameter", KEPT, "a: u8, b: u8", "a: &[u8; 18], b: u8", 18),
     ("a result", KEPT, "b: u8) -> u8", "b: u8) -> [u8; 18]", 18),
     ("what a method does", KEPT, "self.first", "let b = [0u8; 19]; b[0]", 19),
+    ("an array of structs that are padded", INNER, "let k =", "let b: [Wide; 3] = x; let k =", 24),
+    ("an array of enums, with their tags", INNER, "let k =", "let b: [Each; 2] = x; let k =", 32),
+    ("a length of two constants alike", INNER, "let k =", "let b = [0u8; EIGHT + EIGHTY]; let k =", 88),
+    ("a length in another base", INNER, "let k =", "let b = [0u8; (0b10_0 + 0o2usize) * 3]; let k =", 18),
+    ("a method of a crate that is read later", INNER, "let k =", "let b = far::make(n); n.least(); let k =", 1026),
     ("what a constant is", INNER, "let k =", "let b = TABLE[n]; let k =", 40),
     ("what is called inside a call", INNER, "let k =", "let k = apart(apart(n)); let k =", 8208),
 ]
@@ -89,11 +121,11 @@ LOST = [
 
 
 def edited(module, old, new):
-    """The made-up crates with one edit; the constant that some edits name is always there."""
+    """The made-up crates with one edit."""
     crates = dict(CRATES)
     assert crates[module].count(old) == 1
     crates[module] = crates[module].replace(old, new)
-    crates[INNER] += "const TABLE: [u32; 5] = [1, 2, 3, 4, 5];\n"
+    crates[INNER] += NAMED
     return Sources(crates.get)
 
 

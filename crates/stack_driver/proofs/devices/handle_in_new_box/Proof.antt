@@ -1,4 +1,4 @@
--- `devices::handle_in_new_box` returns the number of what `device` answers in a new box, and leaves what it stored and wrote.
+-- `devices::handle_in_new_box` returns the number of what `device` answers in a new box, and leaves what it wrote.
 use borrow.Author.Needs.{needs}
 use Rattle.frame.specs.Table.{rowOf}
 use Rattle.frame.specs.Wire.{frameLimit}
