@@ -46,19 +46,24 @@ def is_local(path, after, before):
     return len(path) == 1 and (before == "." or after != "(" and not path[0][0].isupper())
 
 
+def own_path(item, path):
+    """A path in an item: `Self` is the type that a method's own path has."""
+    return (item.path[-2], *path[1:]) if path[0] == "Self" else path
+
+
 def named_in(sources, item):
     """The items that an item names."""
+    if item.kind == "fn" and (")", "(") in zip(item.tokens, item.tokens[1:]):
+        raise Unreadable(f"{item.name}: what is called stands in brackets")
     for path, after, before in paths_in(item.tokens[2:]):
-        if before == "." and after == "(" and path[0] not in BUILT_IN:
+        if before == "." and after == "(":
             methods = sources.methods.get(path[0], {}).values()
-            if not methods:
+            if not methods and path[0] not in BUILT_IN:
                 raise Unreadable(f"{item.name}: there is no method {path[0]}")
             yield from methods
         if is_local(path, after, before) or path[0] in SIZES and (len(path) == 1 or path[1] in OF_NUMBERS):
             continue
-        if path[0] == "Self":  # in a method: the type that its own path has
-            path = (item.path[-2], *path[1:])
-        found = sources.resolve(item.home, path)
+        found = sources.resolve(item.home, own_path(item, path))
         if isinstance(found, Item):
             yield found
         elif item.kind != "enum" or len(path) > 1:  # an enum names its variants
@@ -98,13 +103,16 @@ class Reader:
             if token == "as":
                 place += 1
             elif NUMBER.match(token):
-                words.append(str(int(NUMBER.match(token).group(1), 0)))
+                digits = NUMBER.match(token).group(1).replace("_", "")
+                words.append(str(int(digits, 0 if digits[1:2].isalpha() else 10)))
             elif token in OPERATORS:
                 words.append("//" if token == "/" else token)
             else:
                 path, place = path_at(tokens, place)
                 words.append(str(self.constant(path)))
             place += 1
+        if "-" in words and {"//", "%"} & set(words):  # below 0 Python rounds another way
+            self.fail(f"the length {' '.join(tokens)} is not known")
         try:
             return int(eval(" ".join(words), {"__builtins__": {}}))  # numbers and operators only
         except (SyntaxError, ArithmeticError):
@@ -112,7 +120,7 @@ class Reader:
 
     def constant(self, path):
         """The value of a constant."""
-        found = self.sources.resolve(self.item.home, path) if NAME.match(path[0]) else None
+        found = self.sources.resolve(self.item.home, own_path(self.item, path)) if NAME.match(path[0]) else None
         if not isinstance(found, Item) or found.kind != "const":
             self.fail(f"{'::'.join(path)} is not a constant")
         return Reader(self.sources, found).number(found.tokens[found.tokens.index("=") + 1 : -1])
@@ -135,6 +143,7 @@ class Reader:
         if not tokens or not NAME.match(tokens[0]):
             return None
         path, end = path_at(tokens, 0)
+        path = own_path(self.item, path)
         found = self.sources.resolve(self.item.home, path) if end == len(tokens) - 1 else None
         return found if isinstance(found, Item) and found.kind in ("struct", "enum", "type") else None
 
@@ -155,6 +164,7 @@ class Reader:
         found = []
         for run in split(tokens, ","):
             run = run[1:] if run[0] == "pub" else run
+            run = run[closing(run, 0) + 1 :] if run[0] == "(" else run
             run = run[2:] if run[1:2] == (":",) else run
             found.append(self.layout_of_type(run) or self.fail(f"{' '.join(run)} is not a type"))
         return found
@@ -165,7 +175,7 @@ class Reader:
             return SIZES[tokens[-1]]
         if len(tokens) == 1:
             number = NUMBER.match(tokens[0])
-            if tokens[0].startswith("b'"):
+            if tokens[0].startswith("b'") or tokens[0] in ("true", "false"):
                 return 1
             return SIZES[number.group(2)] if number and number.group(2) else None
         if tokens[:1] == ("[",) and closing(tokens, 0) == len(tokens) - 1:
@@ -188,7 +198,7 @@ class Reader:
         tokens = self.item.tokens
         for place, token in enumerate(tokens):
             if token.startswith('b"'):
-                yield token, len(token.encode("latin-1", "replace").decode("unicode_escape")) - 3
+                yield token, len(re.sub(r"\\(x..|.)", "?", token)) - 3
             elif token == "[" and not follows_value(tokens, place):
                 inside = tokens[place + 1 : closing(tokens, place)]
                 if len(split(inside, ";")) == 2 or len(split(inside, ",")) > 1:
@@ -198,6 +208,8 @@ class Reader:
 def follows_value(tokens, place):
     """Whether a bracket is an index, or an attribute's."""
     before = tokens[place - 1] if place else ""
+    if before == ")" and "pub" in tokens[max(place - 4, 0) : place]:
+        return False
     return before in (")", "]", "#") or bool(re.match(r"\w", before)) and before not in KEYWORDS
 
 

@@ -10,6 +10,7 @@ import subprocess
 import sys
 
 import check_arrays
+import machine
 import mir
 from arrays import WIDEST, arrays_of, reached
 from rattle import Sources, Unreadable
@@ -140,14 +141,14 @@ def check_page(checks, uses):
 
 
 def check_header(checks, uses):
-    """The header has the limit that the writer is tested for, and what was measured; the limit."""
+    """The header has the limit that the writer is tested for, and what was measured; both."""
     header = (ROOT / "include" / "trogonreed.h").read_text(encoding="utf-8")
     limit = int(re.search(r"^#define TROGONREED_STACK (\d+)ul$", header, re.M).group(1))
     checks.test("the header has the limit", limit == 1024, str(limit))
     measured = re.search(r"(\d+) bytes were measured", re.sub(r"\s+\*\s+", " ", header))
     found = uses.get("trogonreed_write_frame", (0, 0))[0]
     checks.test("the header has what was measured", measured and int(measured.group(1)) == found, str(found))
-    return limit
+    return limit, found
 
 
 def main():
@@ -158,11 +159,13 @@ def main():
         check_writer(checks)
         for crate in ("firmware", "stack_driver"):
             check_compiler(checks, crate)
-    except Unreadable as error:
+    except (Unreadable, ValueError, IndexError) as error:
         checks.test("the sources can be read", False, str(error))
     check_program(checks, uses, folder / "writer", seed)
     check_program(checks, uses, folder / "calls")
-    check_copying(checks, folder / "copying", check_header(checks, uses))
+    limit, measured = check_header(checks, uses)
+    check_copying(checks, folder / "copying", limit)
+    machine.check(checks, ROOT / "target" / "staticlib" / "libfirmware.a", limit, measured)
     check_page(checks, uses)
     return checks.end()
 

@@ -117,6 +117,12 @@ LOST = [
     ("a variant", INNER, "let k =", "let b = Kept::None; let k ="),
     ("a module", ("base",), "mod kept;", "mod lost;"),
     ("a crate", INNER, "use base::Kept;", "use best::Kept;"),
+    ("a name of all of a module's", INNER, "use base::Kept;", "use base::*;"),
+    ("what stands in brackets", INNER, "let k =", "let b = (apart)(n); let k ="),
+    ("an item without its capital", INNER, "const SIZE", "const size: usize = 9; const SIZE"),
+    ("the end of a raw string", INNER, "let k =", 'let b = br"0123456789abcdefgh"; let k ='),
+    ("the end of a comment", INNER, "let k =", '/* /* */ " */ let b = [0u8; 1026]; /* " */ let k ='),
+    ("the second of two items of one name", INNER, "fn apart()", "type Put = u8; type Put = u8; fn apart()"),
 ]
 
 

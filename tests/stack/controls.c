@@ -101,7 +101,7 @@ static void test_limit(struct fenced stack)
 }
 
 /* Whether a control dies that touches one byte so far below its return address. */
-static int is_killed(struct fenced stack, size_t depth)
+static int is_killed(struct fenced stack, enum way way, size_t depth)
 {
     const struct rlimit none = {0, 0};
     int status = 0;
@@ -111,20 +111,22 @@ static int is_killed(struct fenced stack, size_t depth)
     child = fork();
     if (child == 0) {
         setrlimit(RLIMIT_CORE, &none);
-        use_of(stack, PAINT, (function)control_touch, depth, 0, 2);
+        use_of(stack, way, (function)control_touch, depth, 0, 2);
         _exit(0);
     }
     return child > 0 && waitpid(child, &status, 0) == child && WIFSIGNALED(status) && WTERMSIG(status) == SIGSEGV;
 }
 
-/* The fences: the last byte of the stack may be touched, one more on either side kills. */
+/* The fences: the last byte of the stack may be touched, one more on either side kills. The same with fewer bytes. */
 static void test_fences(struct fenced stack)
 {
     const size_t last = stack.size - RETURN_ADDRESS, above = (size_t)-RETURN_ADDRESS;
 
-    test(!is_killed(stack, last), "the lowest byte of the stack kills");
-    test(is_killed(stack, last + 1), "a use beyond the stack is not stopped by the fence");
-    test(is_killed(stack, above), "a byte above the stack is not stopped by the fence");
+    test(!is_killed(stack, PAINT, last), "the lowest byte of the stack kills");
+    test(is_killed(stack, PAINT, last + 1), "a use beyond the stack is not stopped by the fence");
+    test(is_killed(stack, PAINT, above), "a byte above the stack is not stopped by the fence");
+    test(!is_killed(stack, FENCE, 1000), "1,008 bytes are stopped by the near fence");
+    test(is_killed(stack, FENCE, 1001), "1,009 bytes are not stopped by the near fence");
 }
 
 static uint32_t seven(void)

@@ -10,6 +10,7 @@ import layout
 
 TOKEN = re.compile(r'\(|\)|"[^"]*"|[^\s()"]+')
 EMPTY = "rt_empty::main"  # the program around a library
+KINDS = ("fields", "variants")  # another pair is a type's name and its lifetimes
 PLAIN = {"tyBool": (1, 1), "tyUnit": (0, 1), "tyPtr": (8, 8), "tyRef": (8, 8)}
 
 
@@ -52,7 +53,7 @@ def functions_in(tree):
 
 def declared_in(tree):
     """Of each declared type its fields, or its variants."""
-    return {node[1]: node[2] for node in nodes(tree) if len(node) == 3 and node[0] == "pair" and node[2] != "lnil"}
+    return {node[1]: node[2] for node in nodes(tree) if len(node) == 3 and node[0] == "pair" and node[2][0] in KINDS}
 
 
 def listed(node):
@@ -67,7 +68,7 @@ def layout_of(kind, declared):
     name = kind if isinstance(kind, str) else kind[0]
     if name in PLAIN:
         return PLAIN[name]
-    if name == "tyInt":
+    if name in ("tyInt", "tyFloat"):
         return int(kind[1]) // 8, int(kind[1]) // 8
     if name == "tyArray":
         return layout.of_array(layout_of(kind[1], declared), int(kind[2][1]))

@@ -49,9 +49,6 @@ static size_t changed(struct fenced stack, enum way way)
     return stack.size - i;
 }
 
-/* The stack pointer is noted where it is less than this below the top: even where it is below the whole stack. */
-#define NEAR ((uintptr_t)1 << 24)
-
 static uintptr_t top;
 static volatile uintptr_t lowest; /* the handler writes it */
 
@@ -60,7 +57,7 @@ static void note(int signal, siginfo_t *info, void *context)
     const uintptr_t here = (uintptr_t)((ucontext_t *)context)->uc_mcontext.gregs[REG_RSP];
 
     (void)signal, (void)info;
-    if (top - here < NEAR && here < lowest)
+    if (here < lowest) /* main's stack is above this one */
         lowest = here;
 }
 
@@ -100,6 +97,10 @@ uint64_t painted_call(struct fenced stack, enum way way, const struct call *call
 
     if (way == STEPS)
         return stepped(stack, call, used);
+    if (way == FENCE) {
+        *used = 0;
+        return switch_call(stack.first + FENCED, call->function, call->words, call->count);
+    }
     paint(stack, way);
     returned = switch_call(stack.first + stack.size, call->function, call->words, call->count);
     *used = changed(stack, way);

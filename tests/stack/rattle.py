@@ -8,9 +8,10 @@ import re
 
 TOKEN = re.compile(
     r"""(?P<space>\s+|//[^\n]*|/\*.*?\*/)
-      | (?P<string>b?"(?:[^"\\]|\\.)*"|b'(?:[^'\\]|\\.)+')
+      | (?P<raw>b?r\#*")
+      | (?P<string>b?"(?:[^"\\]|\\.)*"|b'(?:[^'\\]|\\x..|\\.)')
       | (?P<number>\d\w*(?:\.\d\w*)?)
-      | (?P<name>[^\W\d]\w*|'[a-z]\w*)
+      | (?P<name>'?[^\W\d]\w*)
       | (?P<mark>::|->|=>|\.\.=|\.\.|[-+*/%&|^<>=!]=|&&|\|\||<<|>>|.)""",
     re.X | re.S,
 )
@@ -37,8 +38,19 @@ class Item:
         return "::".join(self.path)
 
 
+def is_misread(found):
+    """Whether a token may end at another place than here: a comment in a comment, a raw string, a string of lines."""
+    text = found.group()
+    if found.lastgroup == "space":
+        return text.startswith("/*") and "/*" in text[2:]
+    return found.lastgroup == "raw" or found.lastgroup == "string" and "\n" in text
+
+
 def tokens_of(text):
-    return tuple(found.group() for found in TOKEN.finditer(text) if found.lastgroup != "space")
+    found = list(TOKEN.finditer(text))
+    for token in filter(is_misread, found):
+        raise Unreadable(f"a comment or a string: {token.group()[:40]}")
+    return tuple(token.group() for token in found if token.lastgroup != "space")
 
 
 def closing(tokens, at):
@@ -64,12 +76,20 @@ def split(tokens, mark):
     return runs + [tokens[start:]] if tokens[start:] else runs
 
 
+def end_of_clause(tokens, at):
+    """The place after a clause of a contract. A comment in it, of antt's, may have a bracket or a quote."""
+    end = closing(tokens, tokens.index("{", at)) + 1
+    if {("-", "-"), ("{", "-")} & set(zip(tokens[at:end], tokens[at + 1 : end])):
+        raise Unreadable(f"a comment in a contract: {' '.join(tokens[at:at + 8])}")
+    return end
+
+
 def without_contract(tokens):
     """The tokens of a function without what it requires and ensures, which is not code."""
     kept, place = [], 0
     while place < len(tokens):
         if tokens[place] in ("requires", "ensures"):
-            place = closing(tokens, tokens.index("{", place)) + 1
+            place = end_of_clause(tokens, place)
         else:
             kept.append(tokens[place])
             place += 1
@@ -81,7 +101,7 @@ def end_of_item(tokens, at, kind):
     place = at
     while tokens[place] != ";":
         if tokens[place] in ("requires", "ensures"):
-            place = closing(tokens, tokens.index("{", place)) + 1
+            place = end_of_clause(tokens, place)
         elif tokens[place] == "{" and kind != "const":
             return closing(tokens, place) + 1
         else:
@@ -98,6 +118,8 @@ def imports_in(tokens):
                 yield name, tuple(part for part in run[:at] if part != "::") + path
         else:
             path = tuple(part for part in run if part != "::")
+            if path[-1] == "*":
+                raise Unreadable(f"all names of {'::'.join(path[:-1])} are imported")
             yield (path[-1], path[:-2]) if "as" in path else (path[-1], path)
 
 
@@ -147,6 +169,9 @@ class Sources:
                 place = self.declare_methods(path, tokens, place)
             elif tokens[place] in DECLARING:
                 kind, name, end = tokens[place], tokens[place + 1], end_of_item(tokens, place, tokens[place])
+                # `const fn`; arrays.is_local goes by the capital
+                if name in items or name == "fn" or kind != "fn" and not name[0].isupper():
+                    raise Unreadable(f"{'::'.join(path)}: {kind} {name}")
                 items[name] = Item(kind, (*path, name), path, without_contract(tokens[place:end]), is_exported)
                 place, is_exported = end, False
             else:
@@ -156,7 +181,7 @@ class Sources:
         """Enters the functions of an `impl`, each under its own name, and returns the place after it."""
         opening = tokens.index("{", at)
         end, found = closing(tokens, opening), ({}, {}, set())
-        owner = tokens[at + 1]
+        owner = tokens[tokens.index(">", at) + 1 if tokens[at + 1] == "<" else at + 1]
         self.declare((*path, owner), tokens[opening + 1 : end], found)
         for name, item in found[0].items():
             self.methods.setdefault(name, {})[item.path] = dataclasses.replace(item, home=path)
@@ -204,7 +229,7 @@ class Sources:
         """What stands after a type in a path: a function or constant of its own, or a variant, which is the type."""
         if len(rest) == 1:
             method = self.methods.get(rest[0], {}).get((*item.path, rest[0]))
-            if method or rest[0] in item.tokens:
+            if method or item.kind == "enum" and rest[0][0].isupper() and rest[0] in item.tokens:
                 return method or item
         raise Unreadable(f"{item.name} has no {'::'.join(rest)}")
 

@@ -75,13 +75,13 @@ static uint32_t expected(size_t size, size_t room, size_t need)
     return room < need ? TROGONREED_REFUSED_ROOM : (uint32_t)need;
 }
 
-/* The greatest use so far, and of which call; how many calls were measured by painting, and how many by steps. */
+/* The greatest use so far, and of which call; how many calls were painted, with a near fence, and stepped. */
 static struct {
     size_t used, size;
     enum kind kind;
     enum room room;
 } most;
-static unsigned long painted, stepped;
+static unsigned long painted, near, stepped;
 
 /* Whether a call with a payload of this size uses little and answers right. */
 static int is_good(struct fenced stack, enum way first, enum way last, size_t size, enum kind kind, enum room room)
@@ -105,7 +105,10 @@ static int is_good(struct fenced stack, enum way first, enum way last, size_t si
     return found.is_right && !is_too_much(found.used);
 }
 
-/* Every size by painting, and some by steps, which are slow: the last two are the longest frame and PAYLOAD. */
+/*
+ * Every size by painting, and with the fence so near that a use of 1,024 bytes dies; some by steps, which are slow: the
+ * last two of these are the longest frame and PAYLOAD.
+ */
 static void test_sizes(struct fenced stack, enum kind kind, enum room room)
 {
     static const size_t some[] = {0, 510, 1019, 1020};
@@ -115,6 +118,8 @@ static void test_sizes(struct fenced stack, enum kind kind, enum room room)
     for (size = 0; size <= LONGEST; size++, painted++)
         good = is_good(stack, PAINT, INVERSE, size, kind, room) && good;
     test(good, "%s payloads, %s: too much stack, or another answer", kind_names[kind], room_names[room]);
+    for (size = 0; good && size <= LONGEST; size++, near++) /* after a use that is too much, this would die */
+        good = is_good(stack, FENCE, FENCE, size, kind, room);
     for (good = 1, i = 0; i < sizeof some / sizeof some[0]; i++, stepped++)
         good = is_good(stack, STEPS, STEPS, some[i], kind, room) && good;
     test(good, "%s payloads, %s, by steps: too much stack, or another answer", kind_names[kind], room_names[room]);
@@ -136,6 +141,7 @@ int main(int argc, char **argv)
             test_sizes(stack, (enum kind)kind, (enum room)room);
     }
     test(painted == 3 * 4 * 1021 && stepped == 3 * 4 * 4, "%lu calls were painted and %lu stepped", painted, stepped);
+    test(near == painted || most.used >= TROGONREED_STACK, "%lu calls had a near fence, of %lu", near, painted);
     printf("stack: trogonreed_write_frame: %lu bytes, %u of them arguments; less than %lu are allowed. First with a %s "
            "payload of %lu bytes, %s\n",
            (unsigned long)most.used, (unsigned)size_of_arguments(7), TROGONREED_STACK, kind_names[most.kind],
