@@ -17,12 +17,16 @@ struct call {
 size_t size_of_arguments(size_t count);
 
 /*
- * How a use is measured, or limited. PAINT and INVERSE fill the stack with a pattern and look for the lowest byte that changed: the
- * second has the complement of the first in each place, so a byte that the call stores differs from one of the two.
+ * How a use is measured, or limited.
+ *
+ * PAINT and INVERSE fill the stack with a pattern and look for the lowest byte that changed. The second has the
+ * complement of the first in each place, so a byte that the call stores differs from one of the two.
+ *
  * STEPS makes the call one instruction at a time and notes the lowest stack pointer, so that it also sees what a call
  * sets aside and does not write; it is slow. What neither sees: a function that calls no other may set up to 128 bytes
- * aside below its stack pointer (the red zone of x86-64), and leave them unwritten. FENCE measures nothing: the call has
- * FENCED bytes above the fence, and dies where it reads or writes below them.
+ * aside below its stack pointer (the red zone of x86-64), and leave them unwritten.
+ *
+ * FENCE measures nothing: the call has FENCED bytes above the fence, and dies where it reads or writes below them.
  */
 enum way { PAINT, INVERSE, STEPS, FENCE, WAYS };
 
