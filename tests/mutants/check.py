@@ -11,6 +11,12 @@ over the same folder without one. The incremental check is not a verdict that so
 enough: each error is one that the prover found now. One `rule_` edit of each crate stands in crates/NAME/must-fail all
 the same, where rt ci tries it from nothing; this test reads the output of that run.
 
+A batch is some `code_` edits of a crate that one check tries together. Each changes bodies of functions that no other
+one changes or calls, and a function is proved by itself, against contracts: so it is refused for its own edit. Which
+edits these are, and which error is about which of them, is in batches.py; the error is read as that of a check of the
+edit alone. An edit that a batch does not show to be refused is tried alone, and that decides. So no edit passes in a
+batch that does not pass alone.
+
 Words of the command line, CRATE or CRATE/EDIT, ask for these alone.
 """
 import concurrent.futures
@@ -28,6 +34,8 @@ import time
 HERE = pathlib.Path(__file__).resolve().parent
 ROOT = HERE.parents[1]
 sys.path.insert(0, str(HERE.parent / "lib"))
+import check_batches  # noqa: E402
+from batches import batches, changed, merged, shares  # noqa: E402
 from checks import Checks  # noqa: E402
 
 PATIENCE = 1200  # seconds for one check
@@ -63,6 +71,20 @@ def edited(crate, edit):
     if not texts:
         raise ValueError("it changes nothing")
     return texts
+
+
+def code_of(crate):
+    """The texts of a crate's code."""
+    paths = crate.glob("src/**/*.rt")
+    return {path.relative_to(crate).as_posix(): path.read_text(encoding="utf-8") for path in paths}
+
+
+def bodies_of(crate, edit):
+    """{function: its new body} of a `code_` edit that may be in a batch; {} of any other edit."""
+    try:
+        return changed(code_of(crate), edited(crate, edit)) if edit.stem.startswith("code_") else {}
+    except (OSError, ValueError):
+        return {}  # tried alone, it says what is wrong
 
 
 def claims_of(edit):
@@ -120,7 +142,7 @@ def is_misfit(edit, output, error):
     return any(misfit in message for misfit in (*MISFITS, "has no field"))
 
 
-def fault_of(crate, edit, output, verdict):
+def fault_of(edit, output, verdict):
     """Why a check does not show what its edit has to show, or '', and the place of the first error."""
     if verdict != "refused":
         return f"it is {verdict}, and must be refused: {output[-300:]}", ""
@@ -129,9 +151,15 @@ def fault_of(crate, edit, output, verdict):
         return f"refused without a place: {output[-300:]}", ""
     if is_misfit(edit, output, error):
         return f"refused only because a proof file does not fit the code: {error.group(0)[:300]}", ""
-    place = error.group(1).removeprefix(f"{crate}/")
+    place = error.group(1)
     wrong = unrefused(edit, output)
     return wrong and f"{wrong}; first at {place}", place
+
+
+def shown(name, batch, texts, output, verdict):
+    """{edit: the place of its first error} of the edits of a batch that its check shows to be refused."""
+    faults = {edit: fault_of(edit, share, verdict) for edit, share in shares(name, batch, texts, output).items()}
+    return {edit: place for edit, (wrong, place) in faults.items() if not wrong}
 
 
 def link_or_copy(source, target):
@@ -170,6 +198,7 @@ class Rooms:
 
     def __init__(self, folder, scratch):
         self.folder, self.scratch = pathlib.Path(folder), scratch
+        self.checked = []  # the edits of each check
 
     def own(self):
         """The room of the worker that asks."""
@@ -190,23 +219,41 @@ class Rooms:
         modules = re.search(rf"^crate {name}: (.*)", output, re.M)
         return "", f"proved ({modules.group(1) if modules else 'modules not counted'})"
 
-    def try_edit(self, name, edit):
-        """Tries an edit; why it does not show what it has to show, or '', and a line on it."""
-        began = time.monotonic()
+    def check(self, name, edits, texts):
+        """Checks a crate with the texts of edits; its output, with places as seen from the crate, and its verdict."""
+        self.checked.append(edits)
         room = self.own()
         crate = room / "crates" / name
-        try:
-            texts = edited(crate, edit)
-        except (OSError, ValueError) as error:
-            return str(error), ""
         kept = {file: (crate / file).read_text(encoding="utf-8") for file in texts}
         shutil.copytree(self.folder / "proved" / name, room / "target" / "inc" / name, copy_function=link_or_copy)
         write(crate, texts)
         output, verdict = prove(room, name, self.scratch)
         write(crate, kept)
         shutil.rmtree(room / "target" / "inc" / name)
-        wrong, place = fault_of(crate, edit, output, verdict)
+        return output.replace(f"{crate}/", ""), verdict
+
+    def try_edit(self, name, edit):
+        """Tries an edit; why it does not show what it has to show, or '', and a line on it."""
+        began = time.monotonic()
+        try:
+            texts = edited(self.own() / "crates" / name, edit)
+        except (OSError, ValueError) as error:
+            return str(error), ""
+        wrong, place = fault_of(edit, *self.check(name, [edit], texts))
         return wrong, f"refused, first at {place} ({time.monotonic() - began:.0f} s)"
+
+    def try_together(self, name, batch):
+        """Tries a batch in one check; what try_edit says, of the edits that this shows to be refused."""
+        began = time.monotonic()
+        texts = merged(code_of(self.own() / "crates" / name), batch)
+        places = shown(name, batch, texts, *self.check(name, list(batch), texts))
+        took = f"{time.monotonic() - began:.0f} s for {len(batch)} edits"
+        return {edit: ("", f"refused, first at {place} ({took})") for edit, place in places.items()}
+
+    def try_batch(self, name, batch):
+        """Tries a batch, and alone each edit that this does not show to be refused; what try_edit says, of each."""
+        found = self.try_together(name, batch) if len(batch) > 1 else {}
+        return {edit: found.get(edit) or self.try_edit(name, edit) for edit in batch}
 
 
 def output_in_rt_ci(edit, name):
@@ -237,6 +284,22 @@ def is_wanted(job, words):
     return not words or name in words or f"{name}/{edit.stem}" in words
 
 
+def batches_of(jobs):
+    """(crate, batch) of each batch of the edits."""
+    for name in dict.fromkeys(name for name, _ in jobs):
+        crate = ROOT / "crates" / name
+        edits = {edit: bodies_of(crate, edit) for other, edit in jobs if other == name}
+        yield from ((name, batch) for batch in batches(edits, code_of(crate)))
+
+
+def account(checked):
+    """A line on the checks of `code_` edits, from the edits of each check."""
+    code = [edits for edits in checked if edits[0].stem.startswith("code_")]
+    tried = [edit for edits in code for edit in edits]
+    again = len(tried) - len(set(tried))
+    return f"{len(set(tried))} code edits in {len(code)} checks, {again} of them again alone" if code else ""
+
+
 def tests(rooms, pool, words):
     """(what, why it is wrong or '', a line) of everything that is tried."""
     jobs = [job for job in all_edits() if is_wanted(job, words)]
@@ -246,8 +309,12 @@ def tests(rooms, pool, words):
         yield f"{name} without an edit", wrong, line
     outputs = {edit: output_in_rt_ci(edit, name) for name, edit in rules_of_rt()}
     tried = [(name, edit) for name, edit in jobs if outputs.get(edit) is None and not proofs[name][0]]
-    for (name, edit), (wrong, line) in zip(tried, pool.map(lambda job: rooms.try_edit(*job), tried)):
-        yield f"{name}/{edit.stem}", wrong, line
+    turns = list(batches_of(tried))
+    for (name, _), found in zip(turns, pool.map(lambda turn: rooms.try_batch(*turn), turns)):
+        for edit, (wrong, line) in found.items():
+            yield f"{name}/{edit.stem}", wrong, line
+    left = {edit for _, edit in tried} - {edit for _, batch in turns for edit in batch}
+    yield "each edit is in a batch", ", ".join(edit.stem for edit in left), account(rooms.checked)
     for name, edit in jobs:
         if outputs.get(edit) is not None:
             line = f"refused in rt ci by {', '.join(claims_of(edit))}"
@@ -272,6 +339,7 @@ def folders():
 
 def main():
     checks = Checks("mutants")
+    check_batches.check(checks, shown)
     with folders() as found, concurrent.futures.ThreadPoolExecutor(2) as pool:
         for what, wrong, line in tests(Rooms(*found), pool, sys.argv[1:]):
             checks.test(what, not wrong, wrong)
