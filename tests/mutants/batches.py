@@ -13,7 +13,7 @@ import re
 MOST = 8  # edits in one check
 # From the head of a function to the line that ends it, as rt fmt sets them.
 FUNCTION = re.compile(
-    r'^(?=( *)(?:pub(?:\(crate\))? )?(?:extern "C" )?fn (?P<name>\w+))'
+    r'^(?=( *)(?:pub(?:\(\w+\))? |const |unsafe |extern "C" )*fn (?P<name>\w+))'
     r"(?P<head>(?:.+\n)*?\1(?! ).*\{\n)(?P<body>(?:.*\n)*?)(?P<end>\1\})$", re.M)
 # An error, or a note on a function that the prover answers by itself, with the indented lines that go on.
 MESSAGE = re.compile(r"^(?:note: (?=\S+:\d+:\d+: )|(?=\S+:\d+:\d+: error))(?P<place>\S+):.*(?:\n +.*)*", re.M)
@@ -31,11 +31,16 @@ def bodies(texts):
     return {name_of(file, it): it["body"] for file, text in texts.items() for it in FUNCTION.finditer(text)}
 
 
+def outside(text):
+    """A file without the bodies of its functions."""
+    return FUNCTION.sub(r"\g<head>\g<end>", text)
+
+
 def changed(code, texts):
     """{function: its new body} of an edit of the code, from its texts; {} if it changes more than bodies."""
-    old, outside = bodies(code), lambda text: FUNCTION.sub(r"\g<head>\g<end>", text)
     if any(outside(text) != outside(code.get(file, "")) for file, text in texts.items()):
         return {}
+    old = bodies(code)
     return {name: body for name, body in bodies(texts).items() if body != old[name]}
 
 
@@ -47,9 +52,9 @@ def merged(code, batch):
     return {file: text for file, text in texts.items() if text != code[file]}
 
 
-def reach(new, code):
+def reach(new, old):
     """The functions that an edit changes, and all that they call, be it through others."""
-    found, more, old = {}, new, bodies(code)
+    found, more = {}, new
     while more:
         found |= more
         called = {name for body in more.values() for name in re.findall(r"(\w+)\s*\(", body)}
@@ -59,12 +64,16 @@ def reach(new, code):
 
 def batches(edits, code):
     """Edits, each with {function: its new body}, in batches; an edit that has none is alone in one."""
-    reached = {edit: reach(new, code) for edit, new in edits.items()}
-    found = []
+    found, old = [], bodies(code)
+    reached = {edit: reach(new, old) for edit, new in edits.items()}
+
+    def apart(edit, other):
+        """Whether both have functions, and none of one is reached by the other."""
+        one, two = edits[edit], edits[other]
+        return one and two and reached[edit].isdisjoint(two) and reached[other].isdisjoint(one)
+
     for edit, new in edits.items():
-        fitting = (batch for batch in found if len(batch) < MOST and all(
-            new and other and reached[edit].isdisjoint(other) and reached[name].isdisjoint(new)
-            for name, other in batch.items()))
+        fitting = (batch for batch in found if len(batch) < MOST and all(apart(edit, other) for other in batch))
         batch = next(fitting, {})
         if not batch:
             found.append(batch)

@@ -314,7 +314,7 @@ def tests(rooms, pool, words):
         for edit, (wrong, line) in found.items():
             yield f"{name}/{edit.stem}", wrong, line
     left = {edit for _, edit in tried} - {edit for _, batch in turns for edit in batch}
-    yield "each edit is in a batch", ", ".join(edit.stem for edit in left), account(rooms.checked)
+    yield "no edit is left out", ", ".join(edit.stem for edit in left), account(rooms.checked)
     for name, edit in jobs:
         if outputs.get(edit) is not None:
             line = f"refused in rt ci by {', '.join(claims_of(edit))}"

@@ -3,7 +3,7 @@ import pathlib
 
 from batches import batches, bodies, changed, merged
 
-# The code of a crate `toy`, and what a check says of it where kind/one and kind/Kind/two are changed.
+# The code of a crate `toy`, and the output of a check where kind/one and kind/Kind/two are changed.
 CODE = {"src/kind.rt": """\
 const SIZE: u8 = 6;
 
@@ -27,7 +27,7 @@ fn four() -> u8 {
     three() + 1
 }
 """}
-SAID = """\
+OUTPUT = """\
 proofs/kind/one/Proof.antt:7:5: error: `returns`: no proof of it
 note: src/kind.rt:10:5: it is not proved that what the function ensures holds when it returns
 fn toy::kind::one: not proved
@@ -58,7 +58,7 @@ def check(checks, shown):
     texts = merged(CODE, batch)
     checks.test("the texts of a batch", bodies(texts) == {**bodies(CODE), **one, **two})
     places = {first: "proofs/kind/one/Proof.antt:7:5", second: "src/kind.rt:10:5"}
-    checks.test("the places of errors", shown("toy", batch, texts, SAID, "refused") == places)
+    checks.test("the places of errors", shown("toy", batch, texts, OUTPUT, "refused") == places)
     for what, old, new, edits in [
         ("an error that follows from another", "no proof of it", "`close` was not admitted", [second]),
         ("a misfit", "no proof of it", "`tie` has no `Need-returns`", [second]),
@@ -67,5 +67,5 @@ def check(checks, shown):
         ("an error of no edit's function", "kind/one/Proof", "kind/three/Proof", []),
         ("an error outside of functions", "src/kind.rt:10", "src/kind.rt:1", []),
     ]:
-        checks.test(f"{what} is found", list(shown("toy", batch, texts, SAID.replace(old, new), "refused")) == edits)
-    checks.test("a check that stops is found", shown("toy", batch, texts, SAID, "stopped") == {})
+        checks.test(f"{what} is found", list(shown("toy", batch, texts, OUTPUT.replace(old, new), "refused")) == edits)
+    checks.test("a check that stops is found", shown("toy", batch, texts, OUTPUT, "stopped") == {})
