@@ -167,6 +167,19 @@ static void test_null(void)
          "null output: not PAYLOAD");
 }
 
+/* The header's bound for a payload of n bytes, where every byte but the length and the sum is FF. */
+static void test_bound(void)
+{
+    static uint8_t out[TROGONREED_MAX_FRAME];
+    size_t n;
+    int good = 1;
+
+    memset(ones, 0xFF, sizeof ones);
+    for (n = 0; good && n <= TROGONREED_MAX_PAYLOAD; n++)
+        good = !trogonreed_is_refused(trogonreed_write_frame(0xFF, 0xFF, 0xFFFF, ones, n, out, 2 + 2 * (n + 7)));
+    test(good, "2 + 2 * (n + 7) bytes are not enough for n bytes of payload");
+}
+
 /* The header's numbers are those of the rules. */
 static void test_header(void)
 {
@@ -189,6 +202,7 @@ int main(int argc, char **argv)
     test_too_long(memory, "1,020 bytes", 1020);
     test_too_long(memory, "65,536 bytes", MOST_PAYLOAD);
     test_null();
+    test_bound();
     test_header();
     printf("%lu passed, %lu failed\n", passed, failed);
     return failed == 0 ? 0 : 1;
