@@ -10,7 +10,7 @@ be a sign that proofs read more than this: then the check says nothing of any ed
 import pathlib
 import re
 
-MOST = 8  # edits in one check
+MAX_EDITS = 8  # in one check
 # From the head of a function to the line that ends it, as rt fmt sets them.
 FUNCTION = re.compile(
     r'^(?=( *)(?:pub(?:\(\w+\))? |const |unsafe |extern "C" )*fn (?P<name>\w+))'
@@ -73,7 +73,7 @@ def batches(edits, code):
         return one and two and reached[edit].isdisjoint(two) and reached[other].isdisjoint(one)
 
     for edit, new in edits.items():
-        fitting = (batch for batch in found if len(batch) < MOST and all(apart(edit, other) for other in batch))
+        fitting = (batch for batch in found if len(batch) < MAX_EDITS and all(apart(edit, other) for other in batch))
         batch = next(fitting, {})
         if not batch:
             found.append(batch)

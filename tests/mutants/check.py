@@ -6,16 +6,16 @@ that the prover must not admit.
 
 A check of a whole crate takes up to a minute and a half, so an edit is tried over an incremental folder: rt checks
 only what reads the text that changed. The folder holds the modules that rt proved of the crate without the edit. It is
-made anew for every edit, so that no edit sees what another one left. Before the first edit rt has to prove the crate
+made anew for every check, so that none sees what another one left. Before the first edit rt has to prove the crate
 over the same folder without one. The incremental check is not a verdict that something is proved. For a refusal it is
 enough: each error is one that the prover found now. One `rule_` edit of each crate stands in crates/NAME/must-fail all
 the same, where rt ci tries it from nothing; this test reads the output of that run.
 
-A batch is some `code_` edits of a crate that one check tries together. Each changes bodies of functions that no other
-one changes or calls, and a function is proved by itself, against contracts: so it is refused for its own edit. Which
-edits these are, and which error is about which of them, is in batches.py; the error is read as that of a check of the
-edit alone. An edit that a batch does not show to be refused is tried alone, and that decides. So no edit passes in a
-batch that does not pass alone.
+A batch is some `code_` edits of a crate that one check tries together. They change bodies of functions alone, and no
+function that another one of them changes or rests on. A function is proved by itself, against contracts, so it is
+refused for its own edit. batches.py says which edits these are, and which error is about which of them; the error is
+judged as that of a check of the edit alone. An edit that a batch does not show to be refused is tried alone, and that
+decides. So no edit passes in a batch that does not pass alone.
 
 Words of the command line, CRATE or CRATE/EDIT, ask for these alone.
 """

@@ -1,7 +1,7 @@
 """batches.py on a made-up crate: which edits make a batch, and which error is about which of them."""
 import pathlib
 
-from batches import batches, bodies, changed, merged
+from batches import MAX_EDITS, batches, bodies, changed, merged
 
 # The code of a crate `toy`, and the output of a check where kind/one and kind/Kind/two are changed.
 CODE = {"src/kind.rt": """\
@@ -52,6 +52,7 @@ def check(checks, shown):
     checks.test("two edits of one function are found", not is_batch(one, edit("    n + 1", "    n + 2")))
     checks.test("a call through another function is found", not is_batch(one, four) and not is_batch(four, one))
     checks.test("an edit of more than bodies is found", not is_batch(one, {}) and not is_batch({}, one))
+    checks.test("a full batch is found", not is_batch(*({str(n): ""} for n in range(MAX_EDITS + 1))))
 
     first, second = pathlib.PurePath("code_one.edit"), pathlib.PurePath("code_two.edit")
     batch = {first: one, second: two}
