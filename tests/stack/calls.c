@@ -57,18 +57,24 @@ static void try(struct call call, enum way last, uint32_t expected)
 
 static const uint8_t zeros[2000];
 
+/* The place of the command in a frame on the wire, where its length has no FF. */
+enum { COMMAND = 4 };
+
 static void messages(void)
 {
     begin_row("message::write, a report or a status");
     TRY(stack_status, FINE, 5, 3, 255, NOTHING, 2, OUT);
     TRY(stack_status, FINE, 5, 0xFFFF, 0xFFFFFFFF, NOTHING, 0xFF, OUT);
+    test(out[COMMAND] == 0x05, "another command than that of a report");
     TRY(stack_status, ROOM, 5, 3, 255, NOTHING, 2, NOTHING);
     TRY(stack_status, SIZE, 5, 3, 255, TEXT("x"), 2, OUT);
     TRY(stack_status, FINE, 4, 3, 255, NOTHING, 2, OUT);
+    test(out[COMMAND] == 0x04, "another command than that of a status");
     TRY(stack_status, ROOM, 4, 3, 255, NOTHING, 2, SLICE(out, 18));
     end_row();
     begin_row("message::write, device information");
     TRY(stack_information, FINE, 0, SLICE(zeros, 64), 2, OUT);
+    test(out[COMMAND] == 0x02, "another command than that of device information");
     TRY(stack_information, ROOM, 0, SLICE(zeros, 64), 2, NOTHING);
     TRY(stack_information, SIZE, 0, SLICE(zeros, 63), 2, OUT);
     end_row();

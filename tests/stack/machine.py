@@ -1,7 +1,8 @@
 """How deep the machine code of a function goes, whatever its input is: as objdump prints the code for x86-64.
 
 Counted are the pushes, what is subtracted from the stack pointer, and what is addressed below it. Everything else that
-moves the stack pointer down, a call, and any of these in a loop, is not understood, and said so.
+moves the stack pointer down, a call, a jump to a computed place, and any of these in a loop, is not understood, and
+said so.
 """
 import re
 import subprocess
@@ -11,7 +12,7 @@ LINE = re.compile(r"^ *([0-9a-f]+):\t(.*?)(?:\s*#.*)?$")
 ASIDE = re.compile(r"sub +\$0x([0-9a-f]+),%rsp$")
 BELOW = re.compile(r"-0x([0-9a-f]+)\(%rsp")
 JUMP = re.compile(r"j\w+ +([0-9a-f]+)\b")
-STRANGE = re.compile(r"(?:call|enter|leave|pushf|popf|syscall|int)\b|.*,%[re]?sp$")
+STRANGE = re.compile(r"(?:call|enter|leave|pushf|popf|syscall|int)\b|.*\bjmp +\*|.*,%[re]?sp$")
 HARMLESS = re.compile(r"(?:sub|add) +\$0x[0-9a-f]+,%rsp$")
 
 
@@ -47,7 +48,8 @@ def check_itself(checks):
     text = "\n".join(f"  {place:x}:\t{line:<20}# note" for place, line in code)
     checks.test("the depth of some code", depth_of(code) == (8 + 0x20 + 8, []), str(depth_of(code)))
     checks.test("code as objdump prints it", code_in(text) == code)
-    for more in ("call   40", "lea    -0x50(%rsp),%rsp", "and    $0xffffffffffffffe0,%rsp", "leave", "jmp    0"):
+    for more in ("call   40", "lea    -0x50(%rsp),%rsp", "and    $0xffffffffffffffe0,%rsp", "leave", "jmp    0",
+                 "jmp    *%rax"):
         checks.test(f"{more} is not understood", depth_of([*code, (80, more)])[1] != [])
 
 
