@@ -11,7 +11,9 @@ pub mod Keys
 pub mod Sums
 pub mod Numbers
 pub mod NumbersExact
+pub mod Asking
 pub mod OutcomesExact
+pub mod WritesExact
 pub mod RunsExact
 pub mod PartsExact
 pub mod KeysExact

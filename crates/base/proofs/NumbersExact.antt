@@ -1,5 +1,5 @@
 -- worked-numbers, numbers-spelled and read-back. Assumes nothing.
-use Prim.Native.Nat.{ℕ, _/_, _%_}
+use Prim.Native.Nat.{_/_, _%_}
 use mathlib.Core.Path.{_≡_, refl}
 use native.Mathlib.Nat.{add-assoc}
 use native.Mathlib.Omega.{arith}
@@ -15,7 +15,7 @@ worked-numbers =
 
 pub numbers-spelled : AllSpelled
 unfolding total
-numbers-spelled a b c d n k r v =
+numbers-spelled a b c d n r =
     record {
       two-at = refl;
       two-none = refl;
@@ -29,7 +29,6 @@ numbers-spelled a b c d n k r v =
       total-none = refl;
       total-of = refl;
       sum-of = refl;
-      written = refl;
     }
 
 pub read-back : ReadBackBetween

@@ -1,15 +1,26 @@
--- placed-whole-or-not. Assumes nothing.
+-- counts-read, placed-whole-or-not, placed-asked and rowed-exact. Assumes nothing.
 use Prim.Native.Nat.{ℕ, _+_, _-_, _≤_}
-use mathlib.Core.Path.{_≡_, _∙_}
+use mathlib.Core.Path.{_≡_, refl, _∙_}
 use mathlib.Core.List.{List}
 use native.Mathlib.Omega.{arith}
-use borrow.Author.Tests.{ltb-true, ltb-false}
+use borrow.Author.Tests.{ne-eqb, ltb-true, ltb-false}
 use lib.ListN.{length, getD, drop, length-append, length-drop}
 use lib.Seq.{getD-append-add, getD-drop, take-append-seam}
-use lib.Dec.{ltb}
+use lib.Dec.{eqb, ltb}
 use Rattle.base.specs.Outcomes.{onto}
-use Rattle.base.specs.OutcomesExact.{PlacedAlways}
-use Rattle.base.proofs.Tests.{either-way}
+use Rattle.base.specs.OutcomesExact.{CountsReadAlways, PlacedAlways, PlacedAsked, RowedAlways}
+use Rattle.base.proofs.Tests.{either-way, cond-same}
+use Rattle.base.proofs.Asking.{asks-placed}
+
+pub counts-read : CountsReadAlways
+counts-read k n v =
+    record {
+      written = refl;
+      needed = refl;
+      not-written = λ h. rw (ne-eqb k 0 h);
+      not-needed = λ h. rw (ne-eqb k 22 h);
+      no-values = (cond-same (eqb k 0) 0, cond-same (eqb k 22) 0);
+    }
 
 -- bytes at the front of a buffer that has room for them
 module _ (w out : List ℕ) where
@@ -31,7 +42,7 @@ placed-whole-or-not w out =
       front = λ h. absurd (omega (arith, ltb-true));
       stays = λ i h. rw s;
       same-length = rw s;
-      room-counts = λ h. rw s;
+      room-counts = λ h. (rw s, rw s);
       fits-counts = λ h. absurd (omega (arith, ltb-true));
     })
     (λ s. record {
@@ -42,5 +53,11 @@ placed-whole-or-not w out =
       stays = λ i h. rw s (after w out i h);
       same-length = rw s (as-long w out (omega (arith, ltb-false)));
       room-counts = λ h. absurd (omega (arith, ltb-false));
-      fits-counts = λ h. rw s;
+      fits-counts = λ h. (rw s, rw s);
     })
+
+pub placed-asked : PlacedAsked
+placed-asked w = asks-placed w
+
+pub rowed-exact : RowedAlways
+rowed-exact f values out = record { wrote = λ n. refl; refused = λ w h. rw (ne-eqb (w .row .number) 0 h) }

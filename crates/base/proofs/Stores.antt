@@ -79,8 +79,9 @@ module _ (out : List ℕ) (at : ℕ) where
 -- ---- bytes at the front of a buffer, or ROOM
 
 module _ (bytes out : List ℕ) where
-  pub not-placed : length out < length bytes → output (row 22 (0 ∷ [])) out ≡ placed bytes out
-  not-placed h = rw (lt-ltb (length out) (length bytes) h)
+  pub not-placed : {needed : ℕ} → needed ≡ length bytes → length out < needed
+      → output (row 22 (needed ∷ [])) out ≡ placed bytes out
+  not-placed e h = rw (lt-ltb (length out) (length bytes) (rw e at h), e)
 
   pub put-placed : length bytes ≤ length out → {next : ℕ} {after : List ℕ}
       → PutAt out 0 bytes next after → output (row 0 (next ∷ [])) after ≡ placed bytes out

@@ -3,6 +3,8 @@
 -- Statements: what must be believed
 pub mod Rows
 pub mod Outcomes
+pub mod Asking
+pub mod Writes
 pub mod Numbers
 pub mod Sums
 pub mod Parts
@@ -14,6 +16,7 @@ pub mod Runs
 -- Claims: what is proved
 pub mod NumbersExact
 pub mod OutcomesExact
+pub mod WritesExact
 pub mod RunsExact
 pub mod PartsExact
 pub mod KeysExact

@@ -3,8 +3,6 @@ use Prim.Native.Nat.{ℕ, _+_, _*_, _/_, _%_, _<_}
 use mathlib.Core.Path.{_≡_}
 use mathlib.Core.List.{List, [], _∷_, _++_}
 use lib.ListN.{length, getD}
-use Rattle.base.specs.Rows.{row}
-use Rattle.base.specs.Outcomes.{writtenIn}
 use Rattle.base.specs.Numbers.{twoAt, fourAt, two, four}
 use Rattle.base.specs.Sums.{total, checksum}
 
@@ -18,7 +16,7 @@ pub record WorkedNumbers : Type 0 where
   pub sum : checksum (200 ∷ 100 ∷ []) ≡ 44
 
 -- ---- numbers-spelled: any bytes
-pub record NumbersSpelled (a b c d n k : ℕ) (r v : List ℕ) : Type 0 where
+pub record NumbersSpelled (a b c d n : ℕ) (r : List ℕ) : Type 0 where
   pub two-at : twoAt (a ∷ b ∷ r) 0 ≡ a * 256 + b
   pub two-none : twoAt [] 0 ≡ 0
   pub four-at : fourAt (a ∷ b ∷ c ∷ d ∷ r) 0 ≡ ((a * 256 + b) * 256 + c) * 256 + d
@@ -28,12 +26,10 @@ pub record NumbersSpelled (a b c d n k : ℕ) (r v : List ℕ) : Type 0 where
   pub total-none : total [] ≡ 0
   pub total-of : total (a ∷ r) ≡ a + total r
   pub sum-of : checksum r ≡ total r % 256
-  -- the count written is the first value
-  pub written : writtenIn (row k (n ∷ v)) ≡ n
 
 -- of any numbers
 abbrev pub AllSpelled : Type 0
-AllSpelled = (a b c d n k : ℕ) (r v : List ℕ) → NumbersSpelled a b c d n k r v
+AllSpelled = (a b c d n : ℕ) (r : List ℕ) → NumbersSpelled a b c d n r
 
 -- ---- read-back: a number is read back from where it was written; each part of a number that fits is a byte
 pub record ReadBack (f r : List ℕ) : Type 0 where

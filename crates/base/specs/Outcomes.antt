@@ -3,7 +3,7 @@ use Prim.Native.Nat.{ℕ}
 use mathlib.Core.Bool.{cond}
 use mathlib.Core.List.{List, [], _∷_, _++_}
 use lib.ListN.{length, getD, drop}
-use lib.Dec.{ltb}
+use lib.Dec.{eqb, ltb}
 use Rattle.base.specs.Rows.{Row, row}
 
 -- the row of a call, and the state that it returns
@@ -28,12 +28,21 @@ output a o = record { row = a; out = o }
 abbrev pub onto : List ℕ → List ℕ → List ℕ
 onto w out = w ++ drop (length w) out
 
--- the count of an answer to a call that writes
+-- the bytes that a call wrote, by its answer: none where it is refused
 abbrev pub writtenIn : Row → ℕ
-writtenIn r = getD (r .values) 0 0
+writtenIn r = cond (eqb (r .number) 0) (getD (r .values) 0 0) 0
+
+-- the bytes of room that a call needs, by its answer: ROOM says them
+abbrev pub neededIn : Row → ℕ
+neededIn r = cond (eqb (r .number) 22) (getD (r .values) 0 0) 0
 
 -- bytes that fit go to the front of the buffer, and their count is under 0, which is not MORE: PROTOCOL 6.7.
--- Others are ROOM, and the buffer is unchanged: PROTOCOL 6.4
+-- Bytes that do not fit are ROOM with their count, and the buffer is unchanged: PROTOCOL 6.4, 6.12
 abbrev pub placed : List ℕ → List ℕ → Output
 placed w out =
-    cond (ltb (length out) (length w)) (output (row 22 (0 ∷ [])) out) (output (row 0 (length w ∷ [])) (onto w out))
+    cond (ltb (length out) (length w)) (output (row 22 (length w ∷ [])) out)
+    (output (row 0 (length w ∷ [])) (onto w out))
+
+-- an output that is not refused, with another row for its count
+abbrev pub rowed : (ℕ → Row) → Output → Output
+rowed f w = cond (eqb (w .row .number) 0) (output (f (writtenIn (w .row))) (w .out)) w

@@ -1,8 +1,9 @@
-// What the layers share: bytes at a place, big-endian numbers, and slices of the caller's data.
+// What the layers share: bytes at a place, big-endian numbers, slices of the caller's data, and the outcome of a write.
 mod bytes;
 mod puts;
 mod same;
 mod slices;
+mod writes;
 
 pub use bytes::byte_at;
 pub use bytes::four_at;
@@ -13,3 +14,6 @@ pub use puts::put_bytes;
 pub use same::same_bytes;
 pub use slices::min;
 pub use slices::part;
+pub use writes::Unwritten;
+pub use writes::WriteResult;
+pub use writes::write_both;
