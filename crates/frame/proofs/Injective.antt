@@ -4,10 +4,10 @@ use Prim.Native.Nat.{ℕ}
 use mathlib.Core.Path.{_≡_, refl, ap}
 use Rattle.base.specs.Rows.{Row}
 use Rattle.base.proofs.Rows.{injective-by, under, value}
-use Rattle.frame.specs.Table.{rowOf, finishRowOf, writeRowOf}
+use Rattle.frame.specs.Table.{rowOf, finishRowOf}
 use Rattle.frame.specs.State.{Phase, Idle, Half, Header, Open, Escape, State, phaseOf, stateOf}
 use Rattle.frame.specs.Injective.{RowsInjective, StatesInjective, ContractsComplete}
-use Rattle.base.specs.Outcomes.{Outcome, Output}
+use Rattle.base.specs.Outcomes.{Outcome}
 use Rattle.frame.specs.declared.place.WirePlace.{WirePlace}
 use Rattle.frame.specs.declared.scan.Phase.{Phase as CodePhase}
 use Rattle.frame.specs.declared.scan.Phase.the-variants as phase
@@ -18,8 +18,6 @@ use Rattle.frame.specs.declared.reader.FeedResult.{FeedResult}
 use Rattle.frame.specs.declared.reader.FeedResult.the-variants as answer
 use Rattle.frame.specs.declared.reader.FinishResult.{FinishResult}
 use Rattle.frame.specs.declared.reader.FinishResult.the-variants as ending
-use Rattle.frame.specs.declared.writer.WriteResult.{WriteResult}
-use Rattle.frame.specs.declared.writer.WriteResult.the-variants as written
 
 -- a place on the wire
 abbrev wirePlace : ℕ → WirePlace
@@ -57,20 +55,11 @@ ending-back (ending.Clean t) = refl
 ending-back (ending.Open t s) = refl
 ending-back ending.State = refl
 
-abbrev writtenFrom : Row → WriteResult
-writtenFrom r = under r 0 (written.Wrote (value r 0)) (under r 21 written.Payload written.Room)
-
-written-back : (a : WriteResult) → writtenFrom (writeRowOf a) ≡ a
-written-back (written.Wrote c) = refl
-written-back written.Payload = refl
-written-back written.Room = refl
-
 pub rows-injective : RowsInjective
 rows-injective =
     record {
       answers = injective-by rowOf answerFrom answer-back;
       finishes = injective-by finishRowOf endingFrom ending-back;
-      writings = injective-by writeRowOf writtenFrom written-back;
     }
 
 -- ---- a reader
@@ -116,5 +105,4 @@ contracts-complete =
     record {
       fed = λ f y e. (ap (λ (z : Outcome State). z .row) e, ap (λ (z : Outcome State). z .state) e);
       finished = λ f y e. (ap (λ (z : Outcome State). z .row) e, ap (λ (z : Outcome State). z .state) e);
-      written = λ r after w e. (ap (λ (z : Output). z .row) e, ap (λ (z : Output). z .out) e);
     }

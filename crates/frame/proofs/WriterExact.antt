@@ -1,4 +1,5 @@
--- writer-exact, payload-limit and worked-frame, from the definition of the writer. Assumes nothing.
+-- writer-exact, write-asked, payload-limit, worked-frame and worked-room, from the definition of the writer.
+-- Assumes nothing.
 use Prim.Native.Nat.{ℕ, _+_, _/_, _%_, _≤_}
 use mathlib.Core.Path.{_≡_, refl, sym, ap, subst, _∙_}
 use mathlib.Core.List.{List, [], _∷_, _++_}
@@ -6,13 +7,16 @@ use native.Mathlib.Omega.{arith}
 use borrow.Author.Tests.{ltb-true, ltb-false}
 use lib.ListN.{length, getD, take}
 use lib.Dec.{ltb}
+use Rattle.base.specs.Rows.{row}
 use Rattle.base.specs.Sums.{total}
-use Rattle.base.specs.Outcomes.{Output, placed}
+use Rattle.base.specs.Outcomes.{Output, output, placed}
 use Rattle.base.proofs.Tests.{by-test}
 use Rattle.base.proofs.OutcomesExact.{placed-whole-or-not}
+use Rattle.base.proofs.Asking.{asks-never, asks-either, asks-placed}
 use Rattle.frame.specs.Wire.{stuff, wire, bodyOf, frameLimit}
 use Rattle.frame.specs.Calls.{zeros, runOf}
-use Rattle.frame.specs.WriterExact.{formOf, WritesExactly, WriterExact, PayloadLimits, WorkedFrame}
+use Rattle.frame.specs.WriterExact.{formOf, WritesExactly, WriterExact, WriteAsked, PayloadLimits, WorkedFrame}
+use Rattle.frame.specs.WriterExact.{WorkedRoom}
 
 -- the two ways to write a frame down
 form-is : (command number flags : ℕ) (payload : List ℕ)
@@ -83,6 +87,13 @@ writer-exact limit command number flags payload out =
     (sym (form-is command number flags payload))
     (placed-writes limit l form out (ltb-false limit l t)))
 
+-- PAYLOAD does not depend on the output; the rest is placed
+pub write-asked : WriteAsked
+write-asked limit command number flags payload =
+    let form : List ℕ = wire (bodyOf command number flags payload) in
+    asks-either (λ (w : Output). w .row) (ltb limit (length payload + 5)) (λ out. output (row 21 (0 ∷ [])) out)
+    (λ out. placed form out) (asks-never (row 21 (0 ∷ [])) (λ e. omega arith)) (asks-placed form)
+
 pub payload-limit : PayloadLimits
 payload-limit command number flags payload out =
     let w = writer-exact frameLimit command number flags payload out in
@@ -97,4 +108,18 @@ worked-frame =
       too-long = refl;
       read-row = refl;
       read-body = (refl, refl, refl, refl, refl);
+    }
+
+pub worked-room : WorkedRoom
+unfolding bodyOf total stuff
+worked-room =
+    record {
+      shortest = refl;
+      sum-stuffed = refl;
+      number-stuffed = refl;
+      all-ff-short = refl;
+      all-ff-fits = refl;
+      longest-payload = refl;
+      longest = refl;
+      too-long = refl;
     }

@@ -11,11 +11,10 @@ use Rattle.base.specs.Rows.{Row, row}
 use Rattle.base.specs.Sums.{total}
 use Rattle.frame.specs.Rules.{inRangeOf, closedOf, advanceOf, decidesOf, putOf}
 use Rattle.frame.specs.State.{Phase, Idle, Half, Header, Open, Escape, Scan, State, stateOf}
-use Rattle.frame.specs.Table.{eventRow, rowOf, finishRowOf, writeRowOf}
+use Rattle.frame.specs.Table.{eventRow, rowOf, finishRowOf}
 use Rattle.frame.specs.Wire.{wire, frameOf}
 use Rattle.frame.specs.declared.reader.Fed.{Fed}
 use Rattle.frame.specs.declared.reader.Finished.{Finished}
-use Rattle.frame.specs.declared.writer.WriteResult.{WriteResult}
 
 -- what the code's feed returns: its row and its state
 abbrev pub fedOf : Fed → Outcome State
@@ -79,10 +78,6 @@ abbrev pub writeOf : ℕ → ℕ → ℕ → ℕ → List ℕ → List ℕ → O
 writeOf limit command number flags payload out =
     cond (ltb limit (length payload + 5)) (output (row 21 (0 ∷ [])) out)
     (placed (frameOf command number flags payload) out)
-
--- what the code's write returns, and the caller's buffer afterwards, is this output
-abbrev pub Writes : WriteResult → List ℕ → Output → Type 0
-Writes r after w = output (writeRowOf r) after ≡ w
 
 -- the frame on the wire of a body by its head, its payload and its sum
 abbrev pub framed : List ℕ → List ℕ → ℕ → List ℕ

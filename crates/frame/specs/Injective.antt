@@ -1,23 +1,19 @@
 -- Claims: the contracts' equations fix the answer and every byte that a call leaves. PROTOCOL 12.2, 12.4.
-use Prim.Native.Nat.{ℕ}
-use mathlib.Core.List.{List}
 use mathlib.Core.Path.{_≡_}
-use Rattle.base.specs.Outcomes.{Outcome, Output}
-use Rattle.frame.specs.Calls.{fedOf, finishedOf, Writes}
+use Rattle.base.specs.Outcomes.{Outcome}
+use Rattle.frame.specs.Calls.{fedOf, finishedOf}
 use Rattle.frame.specs.State.{State, stateOf}
-use Rattle.frame.specs.Table.{rowOf, finishRowOf, writeRowOf}
+use Rattle.frame.specs.Table.{rowOf, finishRowOf}
 use Rattle.frame.specs.declared.reader.Fed.{Fed}
 use Rattle.frame.specs.declared.reader.FeedResult.{FeedResult}
 use Rattle.frame.specs.declared.reader.FinishResult.{FinishResult}
 use Rattle.frame.specs.declared.reader.Finished.{Finished}
 use Rattle.frame.specs.declared.reader.Reader.{Reader}
-use Rattle.frame.specs.declared.writer.WriteResult.{WriteResult}
 
 -- ---- rows-injective: two answers of one enum never have the same number and values, so a row fixes the answer
 pub record RowsInjective : Type 0 where
   pub answers : (a b : FeedResult) → rowOf a ≡ rowOf b → a ≡ b
   pub finishes : (a b : FinishResult) → finishRowOf a ≡ finishRowOf b → a ≡ b
-  pub writings : (a b : WriteResult) → writeRowOf a ≡ writeRowOf b → a ≡ b
 
 -- ---- states-injective: two readers never have the same state, so a state fixes every field and byte of the reader
 abbrev pub StatesInjective : Type 0
@@ -29,5 +25,3 @@ pub record ContractsComplete : Type 0 where
       → fedOf f ≡ y → (rowOf (f .answer) ≡ y .row) × (stateOf (f .reader) ≡ y .state)
   pub finished : (f : Finished) (y : Outcome State)
       → finishedOf f ≡ y → (finishRowOf (f .answer) ≡ y .row) × (stateOf (f .reader) ≡ y .state)
-  pub written : (r : WriteResult) (after : List ℕ) (w : Output)
-      → Writes r after w → (writeRowOf r ≡ w .row) × (after ≡ w .out)

@@ -1,4 +1,4 @@
--- Statement: the number and the values of each answer. PROTOCOL 4.1 to 4.12, 4.19, 4.20, 6.3, 6.4, 6.7, 12.4.
+-- Statement: the number and the values of each answer. PROTOCOL 4.1 to 4.12, 4.19, 4.20, 12.4.
 use Prim.Native.Nat.{ℕ}
 use mathlib.Core.List.{List, [], _∷_}
 use lib.ListN.{getD, drop}
@@ -7,12 +7,10 @@ use Rattle.frame.specs.declared.reader.FeedResult.{FeedResult}
 use Rattle.frame.specs.declared.reader.FinishResult.{FinishResult}
 use Rattle.frame.specs.declared.scan.Event.{Event}
 use Rattle.frame.specs.declared.scan.Verdict.{Verdict}
-use Rattle.frame.specs.declared.writer.WriteResult.{WriteResult}
 use Rattle.frame.specs.declared.reader.FeedResult.the-variants as answer
 use Rattle.frame.specs.declared.reader.FinishResult.the-variants as ending
 use Rattle.frame.specs.declared.scan.Event.the-variants as event
 use Rattle.frame.specs.declared.scan.Verdict.the-variants as verdict
-use Rattle.frame.specs.declared.writer.WriteResult.the-variants as written
 
 -- the numbers of the verdicts: PROTOCOL 4.2, 4.4 to 4.8
 abbrev pub verdictNumber : Verdict → ℕ
@@ -55,12 +53,6 @@ abbrev pub finishRowOf : FinishResult → Row
 finishRowOf (ending.Clean consumed) = row 2 (consumed .0 ∷ [])
 finishRowOf (ending.Open consumed start) = row 16 (consumed .0 ∷ start .0 ∷ [])
 finishRowOf ending.State = row 17 (0 ∷ [])
-
--- the answers to a write. A count is under 0, which is not MORE: PROTOCOL 6.7
-abbrev pub writeRowOf : WriteResult → Row
-writeRowOf (written.Wrote count) = row 0 (count ∷ [])
-writeRowOf written.Payload = row 21 (0 ∷ [])
-writeRowOf written.Room = row 22 (0 ∷ [])
 
 -- the count of an answer to a feed
 abbrev pub countOf : Row → ℕ

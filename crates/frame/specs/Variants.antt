@@ -7,7 +7,7 @@ use mathlib.Core.Path.{_≡_}
 use Rattle.base.specs.Rows.{row}
 use Rattle.frame.specs.Rules.{decidesOf}
 use Rattle.frame.specs.State.{Idle, Half, Header, Open, Escape, phaseOf, stateOf}
-use Rattle.frame.specs.Table.{eventRow, rowOf, finishRowOf, writeRowOf, countOf, furtherOf}
+use Rattle.frame.specs.Table.{eventRow, rowOf, finishRowOf, countOf, furtherOf}
 use Rattle.frame.specs.declared.place.WirePlace.{WirePlace}
 use Rattle.frame.specs.declared.reader.Reader.{Reader}
 use Rattle.frame.specs.declared.scan.Verdict.{Verdict}
@@ -16,7 +16,6 @@ use Rattle.frame.specs.declared.reader.FinishResult.the-variants as endi
 use Rattle.frame.specs.declared.scan.Event.the-variants as event
 use Rattle.frame.specs.declared.scan.Phase.the-variants as phase
 use Rattle.frame.specs.declared.scan.Verdict.the-variants as verdict
-use Rattle.frame.specs.declared.writer.WriteResult.the-variants as written
 
 -- a place on the wire
 abbrev pub wirePlace : ℕ → WirePlace
@@ -41,9 +40,6 @@ pub record NamedRows : Type 0 where
   pub clean : (n : ℕ) → finishRowOf (ending.Clean (wirePlace n)) ≡ row 2 (n ∷ [])
   pub left-open : (n s : ℕ) → finishRowOf (ending.Open (wirePlace n) (wirePlace s)) ≡ row 16 (n ∷ s ∷ [])
   pub finish-state : finishRowOf ending.State ≡ row 17 (0 ∷ [])
-  pub wrote : (c : ℕ) → writeRowOf (written.Wrote c) ≡ row 0 (c ∷ [])
-  pub payload : writeRowOf written.Payload ≡ row 21 (0 ∷ [])
-  pub room : writeRowOf written.Room ≡ row 22 (0 ∷ [])
   -- a byte that decides nothing, and one that decides
   pub quiet : (c s e : ℕ) → eventRow event.Quiet c s e ≡ row 0 (c ∷ [])
   pub decides : (c s e : ℕ) → eventRow (event.Decided verdict.Short) c s e ≡ row 11 (c ∷ s ∷ e ∷ [])

@@ -1,11 +1,12 @@
--- Claims: exactly when the writer refuses, and each byte of the caller's buffer. PROTOCOL 6.1 to 6.5, 6.8.
+-- Claims: exactly when the writer refuses, and each byte of the caller's buffer. PROTOCOL 6.1 to 6.5, 6.8, 6.12.
 use Prim.Native.Nat.{ℕ, _+_, _/_, _%_, _≤_, _<_}
 use mathlib.Core.List.{List, [], _∷_, _++_}
 use mathlib.Core.Logic.{_≢_}
 use mathlib.Core.Path.{_≡_}
-use lib.ListN.{length, getD, take}
+use lib.ListN.{length, getD, take, replicate}
+use Rattle.base.specs.Asking.{AsksOnce}
 use Rattle.base.specs.Outcomes.{Output, output}
-use Rattle.base.specs.Rows.{row}
+use Rattle.base.specs.Rows.{Row, row}
 use Rattle.base.specs.Sums.{total}
 use Rattle.frame.specs.Calls.{freshOf, feedOf, writeOf}
 use Rattle.frame.specs.Wire.{stuff, commandOf, numberOf, flagsOf, payloadOf, frameLimit}
@@ -26,8 +27,8 @@ pub record WritesExactly (limit l : ℕ) (form out : List ℕ) (w : Output) : Ty
   -- PAYLOAD exactly when the length is above the limit; it is tested before ROOM
   pub too-long : limit < l → w .row ≡ row 21 (0 ∷ [])
   pub too-long-only : w .row .number ≡ 21 → limit < l
-  -- ROOM exactly when the length is within the limit and the buffer is smaller than the frame
-  pub no-room : l ≤ limit → length out < length form → w .row ≡ row 22 (0 ∷ [])
+  -- ROOM exactly when the length is within the limit and the buffer is smaller than the frame, whose size it says
+  pub no-room : l ≤ limit → length out < length form → w .row ≡ row 22 (length form ∷ [])
   pub no-room-only : w .row .number ≡ 22 → (l ≤ limit) × (length out < length form)
   -- written exactly when neither refuses; the answer is the count
   pub fits : l ≤ limit → length form ≤ length out → w .row ≡ row 0 (length form ∷ [])
@@ -45,6 +46,12 @@ WriterExact =
     (limit command number flags : ℕ) (payload out : List ℕ)
     → WritesExactly limit (length payload + 5) (formOf (length payload + 5) command number flags payload) out
     (writeOf limit command number flags payload out)
+
+-- ---- write-asked: what met ROOM once is written into every buffer of the size that it said
+abbrev pub WriteAsked : Type 0
+WriteAsked =
+    (limit command number flags : ℕ) (payload : List ℕ)
+    → AsksOnce (λ out. writeOf limit command number flags payload out .row)
 
 -- ---- payload-limit: at the code's limit, PAYLOAD exactly when the payload has more than 1,019 bytes: PROTOCOL 6.3
 pub record PayloadLimit (command number flags : ℕ) (payload out : List ℕ) : Type 0 where
@@ -73,7 +80,32 @@ pub record WorkedFrame : Type 0 where
       (1 ∷ 2 ∷ 3 ∷ 4 ∷ 5 ∷ 6 ∷ 7 ∷ 8 ∷ 9 ∷ 10 ∷ 11 ∷ 12 ∷ 13 ∷ 14 ∷ [])
       ≡ output (row 0 (12 ∷ [])) (workedBytes ++ 13 ∷ 14 ∷ [])
   pub no-room : writeOf 1024 0x12 0x34 0x5678 (0xFF ∷ 0x9A ∷ []) (1 ∷ 2 ∷ 3 ∷ 4 ∷ 5 ∷ 6 ∷ 7 ∷ 8 ∷ 9 ∷ 10 ∷ 11 ∷ [])
-      ≡ output (row 22 (0 ∷ [])) (1 ∷ 2 ∷ 3 ∷ 4 ∷ 5 ∷ 6 ∷ 7 ∷ 8 ∷ 9 ∷ 10 ∷ 11 ∷ [])
+      ≡ output (row 22 (12 ∷ [])) (1 ∷ 2 ∷ 3 ∷ 4 ∷ 5 ∷ 6 ∷ 7 ∷ 8 ∷ 9 ∷ 10 ∷ 11 ∷ [])
   pub too-long : writeOf 6 0x12 0x34 0x5678 (0xFF ∷ 0x9A ∷ []) [] ≡ output (row 21 (0 ∷ [])) []
   pub read-row : feedOf 1024 (freshOf 1024) workedBytes .row ≡ row 1 (12 ∷ 0 ∷ 12 ∷ [])
   pub read-body : WorkedBody (feedOf 1024 (freshOf 1024) workedBytes .state .body)
+
+-- ---- worked-room: the size that ROOM says, by computation
+
+-- how much room a frame needs, by what the writer answers to no room at all
+abbrev pub asked : ℕ → ℕ → ℕ → List ℕ → Row
+asked command number flags payload = writeOf 1024 command number flags payload [] .row
+
+-- the header, each body byte, and a 55 for each FF of these
+pub record WorkedRoom : Type 0 where
+  -- the shortest frame: no payload, and no FF
+  pub shortest : asked 0x07 0x01 0x0000 [] ≡ row 22 (9 ∷ [])
+  -- the shortest frame whose sum is FF, and whose number is
+  pub sum-stuffed : asked 0x07 0xF3 0x0000 [] ≡ row 22 (10 ∷ [])
+  pub number-stuffed : asked 0x07 0xFF 0x0000 [] ≡ row 22 (10 ∷ [])
+  -- a payload all FF, in room that is one byte short, and then in room that is enough
+  pub all-ff-short : writeOf 1024 0x90 0x01 0x0000 (replicate 5 255) (replicate 18 7)
+      ≡ output (row 22 (19 ∷ [])) (replicate 18 7)
+  pub all-ff-fits : writeOf 1024 0x90 0x01 0x0000 (replicate 5 255) (replicate 19 7)
+      ≡ output (row 0 (19 ∷ [])) (0xFF ∷ 0xFF ∷ 0x00 ∷ 0x0A ∷ 0x90 ∷ 0x01 ∷ 0x00 ∷ 0x00 ∷ 0xFF ∷ 0x55 ∷ 0xFF ∷ 0x55
+      ∷ 0xFF ∷ 0x55 ∷ 0xFF ∷ 0x55 ∷ 0xFF ∷ 0x55 ∷ 0x96 ∷ [])
+  -- the longest payload, all FF; and the longest frame, of which only the length and one byte more are not FF
+  pub longest-payload : asked 0x90 0x01 0x0000 (replicate 1019 255) ≡ row 22 (2047 ∷ [])
+  pub longest : asked 0xFF 0xFF 0xFFFF (0xF9 ∷ replicate 1018 255) ≡ row 22 (2051 ∷ [])
+  -- PAYLOAD comes before ROOM
+  pub too-long : asked 0x90 0x01 0x0000 (replicate 1020 255) ≡ row 21 (0 ∷ [])

@@ -24,6 +24,5 @@ pub use reader::finish;
 pub use scan::Phase;
 pub use scan::Scan;
 pub use scan::Verdict;
-pub use writer::WriteResult;
 pub use writer::write;
 pub use writer::write_chunks;

@@ -1,20 +1,16 @@
 // The writer: a frame goes into the caller's buffer byte by byte, without a copy of its body. PROTOCOL 6.1 to 6.7.
 use super::LIMIT;
+use base::Unwritten;
+use base::WriteResult;
 ghost use mathlib.Core.Path.{_≡_};
 ghost use mathlib.Core.List.{[], _∷_};
 ghost use Prim.Native.Nat.{_+_, _≤_, _<_, _/_, _%_, _^_};
 ghost use lib.ListN.{length};
 ghost use Rattle.base.specs.Stores.{PutAt};
+ghost use Rattle.base.specs.Writes.{Writes};
 ghost use Rattle.frame.specs.Wire.{stuff, headOf, joinedChunks, frameLimit};
-ghost use Rattle.frame.specs.Calls.{framed, writeOf, Writes, Measured};
+ghost use Rattle.frame.specs.Calls.{framed, writeOf, Measured};
 ghost use Rattle.base.specs.Sums.{total};
-
-// The answers to a write: PROTOCOL 6.3, 6.4, 6.7.
-pub enum WriteResult {
-    Wrote { count: usize },
-    Payload,
-    Room,
-}
 
 // The size on the wire of some body bytes, and their sum.
 struct Measure {
@@ -156,12 +152,18 @@ fn chunks_within(
     // The sum of two sizes fits a usize, that of three need not. Above the limit the exact size does not matter.
     let size = base::min(first.len() + second.len(), limit) + third.len();
     if limit < size + 5 {
-        return WriteResult::Payload;
+        return WriteResult::Unwritten {
+            why: Unwritten::Payload,
+        };
     }
     let head = head_of(size, command, number, flags);
     let measure = sized(head, first, second, third);
     if out.len() < measure.count {
-        return WriteResult::Room;
+        return WriteResult::Unwritten {
+            why: Unwritten::Room {
+                needed: measure.count,
+            },
+        };
     }
     WriteResult::Wrote {
         count: put_frame(out, head, first, second, third, measure.sum),

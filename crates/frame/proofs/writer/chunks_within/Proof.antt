@@ -15,7 +15,7 @@ use Rattle.base.specs.Rows.{row}
 use Rattle.base.specs.Outcomes.{Output, output}
 use Rattle.base.proofs.Sums.{total-append}
 use Rattle.frame.proofs.Writing.{chunks-length}
-use Rattle.base.proofs.Stores.{sets-front}
+use Rattle.base.proofs.Stores.{sets-front, not-placed}
 use borrow.Author.Needs.{needs}
 use Rattle.frame.proofs.writer.chunks_within.Statement.{statement}
 use Rattle.frame.proofs.writer.chunks_within.Tie as tie
@@ -45,8 +45,9 @@ module _ (c : tie.Start) where
   too-long : limit < length payload + 5 → output (row 21 (0 ∷ [])) out ≡ finished
   too-long h = rw (lt-ltb limit (length payload + 5) h)
 
-  no-room : length payload + 5 ≤ limit → length out < length form → output (row 22 (0 ∷ [])) out ≡ finished
-  no-room h g = rw (le-ltb limit (length payload + 5) h, lt-ltb (length out) (length form) g)
+  no-room : length payload + 5 ≤ limit → {needed : ℕ} → needed ≡ length form → length out < needed
+      → output (row 22 (needed ∷ [])) out ≡ finished
+  no-room h e g = rw (le-ltb limit (length payload + 5) h) (not-placed form out e g)
 
   done : length payload + 5 ≤ limit → length form ≤ length out
       → output (row 0 ((0 + length form) ∷ [])) (sets out 0 form) ≡ finished
@@ -103,7 +104,7 @@ sized-requires c κs = omega (arith, short (c .before))
 returns-2 : tie.Need-returns-2
 returns-2 c =
     let m = c .before .before in
-    no-room (start (within m)) (short (within m)) (omega (arith, count m))
+    no-room (start (within m)) (short (within m)) (count m) (c .if2 .taken)
 
 returns-3 : tie.Need-returns-3
 returns-3 c =
