@@ -7,7 +7,10 @@ use lib.ListN.{getD, drop}
 use lib.Dec.{eqb}
 use Rattle.base.specs.Rows.{Row}
 use Rattle.base.specs.Outcomes.{Output}
+use Rattle.base.specs.declared.writes.Unwritten.the-variants as unwritten
+use Rattle.base.specs.declared.writes.WriteResult.the-variants as written
 use Rattle.base.proofs.Rows.{injective-by}
+use Rattle.base.proofs.WritesExact.{unwrittenFrom, writtenFrom}
 use Rattle.message.specs.Numbers.{num}
 use Rattle.message.specs.Counter.{modeNumber, statusIn, controlIn}
 use Rattle.message.specs.Layouts.{wayNumber, codeNumber}
@@ -217,16 +220,13 @@ reading-back reading.Field = refl
 
 abbrev sentFrom : Row → SendResult
 sentFrom r =
-    under (r .number) 0 (sent.Wrote (value (r .values) 0))
-    (under (r .number) 21 sent.Payload
-    (under (r .number) 22 sent.Room
-    (under (r .number) 31 sent.Command
-    (under (r .number) 32 sent.Size sent.Field))))
+    under (r .number) 31 sent.Command
+    (under (r .number) 32 sent.Size (under (r .number) 33 sent.Field (sent.Written (writtenFrom r))))
 
 sent-back : (a : SendResult) → sentFrom (sendRowOf a) ≡ a
-sent-back (sent.Wrote count) = refl
-sent-back sent.Payload = refl
-sent-back sent.Room = refl
+sent-back (sent.Written (written.Wrote count)) = refl
+sent-back (sent.Written (written.Unwritten unwritten.Payload)) = refl
+sent-back (sent.Written (written.Unwritten (unwritten.Room needed))) = refl
 sent-back sent.Command = refl
 sent-back sent.Size = refl
 sent-back sent.Field = refl
@@ -245,7 +245,7 @@ doneFrom (count ∷ command ∷ value ∷ l) =
     (reply.Rejected count (codeFrom value) (causeFrom (getD l 0 0)))))))
 
 abbrev replyFrom : Row → ReplyResult
-replyFrom r = under (r .number) 22 reply.Room (doneFrom (r .values))
+replyFrom r = under (r .number) 0 (doneFrom (r .values)) (reply.Unwritten (unwrittenFrom r))
 
 reply-back : (a : ReplyResult) → replyFrom (replyRowOf a) ≡ a
 reply-back reply.Nothing = refl
@@ -256,7 +256,8 @@ reply-back (reply.StoreWanted number) = refl
 reply-back (reply.StopWanted number) = refl
 reply-back (reply.Acknowledged count) = refl
 reply-back (reply.Rejected count code cause) = simp (code-back code, cause-back cause)
-reply-back reply.Room = refl
+reply-back (reply.Unwritten unwritten.Payload) = refl
+reply-back (reply.Unwritten (unwritten.Room needed)) = refl
 
 pub rows-injective : RowsInjective
 rows-injective =

@@ -43,7 +43,7 @@ wrote limit command number flags payload out count e = go (ltb limit (length pay
 
     written : Bool → Bool → Output
     written large narrow = cond large (output (row 21 (0 ∷ [])) out)
-        (cond narrow (output (row 22 (0 ∷ [])) out) (output (row 0 (length w ∷ [])) (onto w out)))
+        (cond narrow (output (row 22 (length w ∷ [])) out) (output (row 0 (length w ∷ [])) (onto w out)))
 
     go : (large narrow : Bool) → ltb limit (length payload + 5) ≡ large → written large narrow .row ≡ row 0 (count ∷ [])
         → Wrote limit payload w count (written large narrow)

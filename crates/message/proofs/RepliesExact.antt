@@ -1,7 +1,8 @@
 -- The reply to each frame: its fault, its bytes from the frame writer, and that reading accepts it. Assumes nothing.
 use Prim.Native.Nat.{ℕ, _+_, _≤_}
 use mathlib.Core.Path.{_≡_, refl, ap, sym, _∙_}
-use mathlib.Core.Bool.{true, false, Bool, true≢false}
+use mathlib.Core.Logic.{_≢_}
+use mathlib.Core.Bool.{true, false, Bool, cond, true≢false}
 use mathlib.Core.List.{List, [], _∷_, map}
 use native.Mathlib.Omega.{arith}
 use borrow.Author.Tests.{le-ltb, eqb-false, lt-ltb, eqb-true, ne-eqb}
@@ -10,23 +11,27 @@ use lib.Dec.{eqb, ltb}
 use Rattle.base.specs.Rows.{Row, row}
 use Rattle.base.specs.Keys.{among}
 use Rattle.base.specs.Outcomes.{Output, output}
+use Rattle.base.specs.Asking.{AsksOnce}
 use Rattle.base.proofs.Tests.{by-test, either-way}
 use Rattle.base.proofs.Keys.{agree}
+use Rattle.base.proofs.Asking.{asks-never, asks-either, asks-rowed}
 use Rattle.frame.specs.Wire.{commandOf, numberOf, payloadOf}
 use Rattle.frame.specs.Calls.{writeOf}
 use Rattle.frame.proofs.RoundTrip.{round-trip}
+use Rattle.frame.proofs.WriterExact.{write-asked}
 use Rattle.message.specs.Commands.{table, profileIn, kindOf, fromBox, owedOf}
 use Rattle.message.specs.Layouts.{codeNumber, isListed, allowed, fits, sizeFits}
 use Rattle.message.specs.Table.{Read, causeNumber}
-use Rattle.message.specs.Owed.{owedFor, handed, codeFor}
+use Rattle.message.specs.Owed.{owedFor, handed, owedAfter, codeFor}
 use Rattle.message.specs.Reading.{decodeAs, readOf}
-use Rattle.message.specs.Replies.{owedTo, rejectOf, replyFrameOf}
+use Rattle.message.specs.Replies.{owedTo, rejectOf, repliedOf, replyFrameOf, replyOf}
 use Rattle.message.specs.CommandLists.{boxCommands, handedCommands}
 use Rattle.message.specs.RepliesExact.{FaultsRejected, replyWire, Replied, RejectedWith, ReplyExact, RepliesExact}
-use Rattle.message.specs.RepliesExact.{SilentElse}
+use Rattle.message.specs.RepliesExact.{SilentElse, RepliesNoPayload, RepliesAsked}
 use Rattle.message.specs.declared.kind.Cause.{Cause}
 use Rattle.message.specs.declared.kind.Cause.the-variants as cause
 use Rattle.message.specs.declared.kind.Kind.{Kind}
+use Rattle.message.specs.declared.kind.Owed.{Owed}
 use Rattle.message.specs.declared.kind.Owed.the-variants as owes
 use Rattle.message.proofs.CommandLists.{box-listed, command-lists, handed-listed, handed-inward}
 use Rattle.message.proofs.Numbers.{value}
@@ -227,3 +232,90 @@ replies-exact limit least out =
 
 pub silent-else : SilentElse
 silent-else limit answer body out f s = rw (ne-eqb (answer .number) 1 f, ne-eqb (answer .number) 15 s)
+
+-- ---- never PAYLOAD
+
+module _ (limit : ℕ) (least : 6 ≤ limit) (out : List ℕ) where
+  -- an output that is not PAYLOAD
+  abbrev Never : Output → Type 0
+  Never w = w .row .number ≢ 21
+
+  small-never : (command number : ℕ) (payload : List ℕ) → length payload ≤ 1
+      → Never (writeOf limit command number 0 payload out)
+  small-never command number payload short =
+      rw (small limit number out least command payload short)
+      (by-test Never (ltb (length out) (length (replyWire number command payload))) (λ _ e. omega arith)
+      (λ _ e. omega arith))
+
+  reject-never : (why : Cause) (number : ℕ) → Never (rejectOf limit why number out)
+  reject-never why number =
+      let w : Output = writeOf limit 0x12 number 0 (codeNumber (codeFor why) ∷ []) out in
+      by-test Never (eqb (w .row .number) 0) (λ _ e. omega arith)
+      (λ _. small-never 0x12 number (codeNumber (codeFor why) ∷ []) (omega arith))
+
+  owed-never : (d : Owed) (number : ℕ) → Never (repliedOf limit d number out)
+  owed-never owes.Nothing number = λ e. omega arith
+  owed-never owes.AskInformation number = λ e. omega arith
+  owed-never owes.AskStatus number = λ e. omega arith
+  owed-never owes.AskBegin number = λ e. omega arith
+  owed-never owes.AskStore number = λ e. omega arith
+  owed-never owes.AskStop number = λ e. omega arith
+  owed-never (owes.Acknowledge command) number = small-never command number [] (omega arith)
+  owed-never (owes.Reject why) number = reject-never why number
+
+pub no-payload : RepliesNoPayload
+no-payload limit least out =
+    record {
+      decisions = λ answer body.
+          by-test (Never limit least out) (eqb (answer .number) 1)
+          (λ _. owed-never limit least out (owedTo (commandOf body) (payloadOf body)) (numberOf body))
+          (λ _. by-test (Never limit least out) (eqb (answer .number) 15)
+          (λ _. reject-never limit least out cause.Sum (numberOf body)) (λ _ e. omega arith));
+      frames = λ command number p. owed-never limit least out (owedTo command p) number;
+      readings = λ command number reading. owed-never limit least out (owedAfter command reading) number;
+    }
+
+-- ---- asking for the room
+
+module _ (limit : ℕ) where
+  rejects-asked : (why : Cause) (number : ℕ) → AsksOnce (λ out. rejectOf limit why number out .row)
+  rejects-asked why number =
+      asks-rowed (λ count. row 0 (count ∷ 0x12 ∷ codeNumber (codeFor why) ∷ causeNumber why ∷ []))
+      (λ n e. omega arith) (λ n. refl)
+      (λ out. writeOf limit 0x12 number 0 (codeNumber (codeFor why) ∷ []) out)
+      (write-asked limit 0x12 number 0 (codeNumber (codeFor why) ∷ []))
+
+  -- a row under 0 does not ask
+  asked-none : (values : List ℕ) → AsksOnce (λ out. row 0 values)
+  asked-none values = asks-never (row 0 values) (λ e. omega arith)
+
+  owed-asked : (d : Owed) (number : ℕ) → AsksOnce (λ out. repliedOf limit d number out .row)
+  owed-asked owes.Nothing number = asked-none []
+  owed-asked owes.AskInformation number = asked-none (0 ∷ 0x02 ∷ number ∷ [])
+  owed-asked owes.AskStatus number = asked-none (0 ∷ 0x04 ∷ number ∷ [])
+  owed-asked owes.AskBegin number = asked-none (0 ∷ 0x1A ∷ number ∷ [])
+  owed-asked owes.AskStore number = asked-none (0 ∷ 0x1E ∷ number ∷ [])
+  owed-asked owes.AskStop number = asked-none (0 ∷ 0x20 ∷ number ∷ [])
+  owed-asked (owes.Acknowledge command) number = write-asked limit command number 0 []
+  owed-asked (owes.Reject why) number = rejects-asked why number
+
+  decided-asked : (answer : Row) (body : List ℕ) → AsksOnce (λ out. replyOf limit answer body out .row)
+  decided-asked answer body =
+      let row-of : Output → Row = λ w. w .row in
+      let to-frame : List ℕ → Output =
+      λ out. replyFrameOf limit (commandOf body) (numberOf body) (payloadOf body) out in
+      let to-sum : List ℕ → Output = λ out. rejectOf limit cause.Sum (numberOf body) out in
+      let silence : List ℕ → Output = λ out. output (row 0 []) out in
+      asks-either row-of (eqb (answer .number) 1) to-frame
+      (λ out. cond (eqb (answer .number) 15) (to-sum out) (silence out))
+      (owed-asked (owedTo (commandOf body) (payloadOf body)) (numberOf body))
+      (asks-either row-of (eqb (answer .number) 15) to-sum silence (rejects-asked cause.Sum (numberOf body))
+      (asked-none []))
+
+pub reply-asked : RepliesAsked
+reply-asked limit =
+    record {
+      decisions = decided-asked limit;
+      frames = λ command number p. owed-asked limit (owedTo command p) number;
+      readings = λ command number reading. owed-asked limit (owedAfter command reading) number;
+    }

@@ -1,20 +1,22 @@
 -- The replies of the box: the frame writer writes them, and reading accepts each as a message. Assumes nothing.
-use Prim.Native.Nat.{ℕ, _+_, _≤_}
+use Prim.Native.Nat.{ℕ, _+_}
 use mathlib.Core.Path.{_≡_, refl, sym, ap, subst, _∙_}
 use mathlib.Core.Bool.{cond, _&&_}
 use mathlib.Core.List.{List, [], _∷_}
-use borrow.Author.Tests.{le-ltb, eqb-false}
-use lib.ListN.{length, getD}
-use lib.Dec.{eqb, ltb}
-use Rattle.frame.specs.Wire.{wire, bodyOf, commandOf, numberOf, payloadOf}
+use lib.ListN.{getD}
+use lib.Dec.{eqb}
+use Rattle.frame.specs.Wire.{commandOf, numberOf, payloadOf}
 use Rattle.base.specs.Rows.{Row, row}
 use Rattle.base.specs.Outcomes.{Output, output}
+use Rattle.base.specs.Writes.{unwrittenRowOf}
+use Rattle.base.specs.declared.writes.Unwritten.{Unwritten}
+use Rattle.base.proofs.WritesExact.{unwritten-rowed}
 use Rattle.frame.specs.Calls.{writeOf}
 use Rattle.base.proofs.Tests.{by-test, either-way}
 use Rattle.base.specs.Keys.{among}
 use Rattle.message.specs.Commands.{table, profileIn, kindOf, fromBox, owedOf}
 use Rattle.message.specs.Layouts.{codeNumber, isListed, allowed, valuesOf, fits, sizeFits}
-use Rattle.message.specs.Table.{Read}
+use Rattle.message.specs.Table.{Read, causeNumber}
 use Rattle.message.specs.Owed.{handed, owedAfter, codeFor}
 use Rattle.message.specs.Reading.{decodeOf}
 use Rattle.message.specs.Replies.{withCause, rejectOf, replyFrameOf}
@@ -29,17 +31,7 @@ use Rattle.message.specs.declared.values.Message.the-variants as message
 use Rattle.base.proofs.Keys.{Each, among-holds}
 use Rattle.message.proofs.CommandLists.{command-lists}
 
--- so short a payload is not too long
-pub short-enough :
-    (limit command number : ℕ) (payload out after : List ℕ) → length payload + 5 ≤ limit
-    → output (row 21 (0 ∷ [])) after ≡ writeOf limit command number 0 payload out → ⊥
-short-enough limit command number payload out after h e =
-    by-test (λ (w : Output). w .row .number ≡ 21 → ⊥)
-    (ltb (length out) (length (wire (bodyOf command number 0 payload))))
-    (λ _. eqb-false 22 21 refl) (λ _. eqb-false 0 21 refl)
-    (rw (le-ltb limit (length payload + 5) h) at (ap (λ (w : Output). w .row .number) (sym e)))
-
--- a 12 that was written, or had no room, with the cause
+-- a 12, with the cause if it was written
 pub rejected :
     (limit number : ℕ) (why : Cause) (out : List ℕ) {code : Code} {byte : ℕ} {r : Row} {left : List ℕ}
     → code ≡ codeFor why → byte ≡ codeNumber code
@@ -47,6 +39,16 @@ pub rejected :
     → withCause why (output r left) ≡ rejectOf limit why number out
 rejected limit number why out p q e =
     ap (withCause why) (e ∙ ap (λ (b : ℕ). writeOf limit 0x12 number 0 (b ∷ []) out) (q ∙ ap codeNumber p))
+
+-- a refusal of the frame writer is the reply's
+pub not-rejected :
+    (limit number : ℕ) (why : Cause) (out : List ℕ) (reason : Unwritten) {code : Code} {byte : ℕ} {left : List ℕ}
+    → code ≡ codeFor why → byte ≡ codeNumber code
+    → output (unwrittenRowOf reason) left ≡ writeOf limit 0x12 number 0 (byte ∷ []) out
+    → output (unwrittenRowOf reason) left ≡ rejectOf limit why number out
+not-rejected limit number why out reason {left} p q e =
+    let shown : ℕ → Row = λ count. row 0 (count ∷ 0x12 ∷ codeNumber (codeFor why) ∷ causeNumber why ∷ []) in
+    unwritten-rowed shown reason left ∙ rejected limit number why out p q e
 
 -- ---- the reply to a frame goes by its body
 

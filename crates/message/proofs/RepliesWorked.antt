@@ -8,7 +8,7 @@ use Rattle.base.specs.Keys.{among}
 use Rattle.frame.specs.Wire.{stuff, bodyOf}
 use Rattle.message.specs.Commands.{table, profileIn}
 use Rattle.message.specs.Layouts.{fits, sizeFits}
-use Rattle.message.specs.RepliesWorked.{WorkedDecisions, WorkedReplies, RepliesTabled}
+use Rattle.message.specs.RepliesWorked.{WorkedDecisions, WorkedReplies, WorkedRooms, RepliesTabled}
 
 pub worked-decisions : WorkedDecisions
 unfolding among table profileIn sizeFits fits
@@ -33,6 +33,17 @@ worked-replies limit l v out h =
     record {
       acknowledged = rw (le-ltb limit 5 (omega (arith, l)), le-ltb (length out) 9 (omega (arith, h)));
       wrong-sum = rw (le-ltb limit 6 l, le-ltb (length out) 10 h);
+    }
+
+pub worked-rooms : WorkedRooms
+unfolding stuff total bodyOf among table profileIn sizeFits fits
+worked-rooms =
+    record {
+      acknowledged = refl;
+      acknowledged-ff = refl;
+      rejected = refl;
+      rejected-ff = refl;
+      nothing-lent = refl;
     }
 
 pub replies-tabled : RepliesTabled

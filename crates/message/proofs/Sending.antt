@@ -1,13 +1,13 @@
 -- Laws of writing a message: its tests, and its payload from the chunks that it is written in. Assumes nothing.
 use Prim.Native.Nat.{ℕ, _-_}
-use mathlib.Core.Path.{_≡_, refl, sym, ap, _∙_}
+use mathlib.Core.Path.{_≡_, sym, ap, _∙_}
 use mathlib.Core.Bool.{Bool, true, false, cond, _&&_}
 use mathlib.Core.List.{List, [], _∷_, _++_, cons≢nil}
 use native.Mathlib.Omega.{arith}
 use lib.ListN.{length, take, drop, length-drop}
 use lib.Seq.{take-all}
 use lib.Dec.{eqb}
-use Rattle.base.specs.Rows.{Row, row}
+use Rattle.base.specs.Rows.{row}
 use Rattle.base.specs.Outcomes.{Output, output}
 use Rattle.frame.specs.Wire.{frameLimit}
 use Rattle.frame.specs.Calls.{writeOf}
@@ -35,18 +35,14 @@ passed : {A : Type 0} {t u v : Bool} (x y z w : A) → t ≡ true → u ≡ true
     → x ≡ cond t (cond u (cond v x y) z) w
 passed x y z w p q r = rw (p, q, r)
 
--- an equal row
-pub onward : {a b : Row} {left : List ℕ} {w : Output} → a ≡ b → output b left ≡ w → output a left ≡ w
-onward p e = rw p e
-
--- what COMMAND, SIZE and FIELD do not refuse is a frame with the payload, and keeps the frame writer's row
+-- what COMMAND, SIZE and FIELD do not refuse is the frame writer's, with the payload
 pub sent : {listed sized allows : Bool} (limit command number flags : ℕ) {bytes payload : List ℕ} (out : List ℕ)
-    {a b : Row} {left : List ℕ}
-    → listed ≡ true → sized ≡ true → allows ≡ true → bytes ≡ payload → a ≡ b
-    → output b left ≡ writeOf limit command number flags bytes out
-    → output a left ≡ sendAs limit listed sized allows command number flags payload out
-sent limit command number flags out l s a p q e = onward q e ∙ ap
-    (λ (b : List ℕ). writeOf limit command number flags b out) p ∙ passed _ _ _ _ l s a
+    {w : Output}
+    → listed ≡ true → sized ≡ true → allows ≡ true → bytes ≡ payload
+    → w ≡ writeOf limit command number flags bytes out
+    → w ≡ sendAs limit listed sized allows command number flags payload out
+sent limit command number flags out l s a p e =
+    e ∙ ap (λ (b : List ℕ). writeOf limit command number flags b out) p ∙ passed _ _ _ _ l s a
 
 -- a message without the caller's data: its bytes are its payload, and its values are allowed as was tested
 pub bare :

@@ -2,19 +2,25 @@
 use Prim.Native.Nat.{ℕ, _+_}
 use mathlib.Core.Path.{_≡_, refl, ap, _∙_}
 use mathlib.Core.Bool.{Bool, true, false, cond}
-use mathlib.Core.List.{[], _∷_}
+use mathlib.Core.List.{List, [], _∷_}
+use native.Mathlib.Omega.{arith}
 use borrow.Author.Tests.{le-ltb, lt-ltb}
 use lib.Dec.{eqb}
 use lib.ListN.{length}
+use Rattle.base.specs.Rows.{Row, row}
 use Rattle.base.specs.Keys.{among}
+use Rattle.base.specs.Outcomes.{Output, output}
+use Rattle.base.proofs.Asking.{asks-never, asks-either}
 use Rattle.base.proofs.Keys.{agree}
 use Rattle.base.proofs.Tests.{cond-same}
+use Rattle.frame.specs.Calls.{writeOf}
+use Rattle.frame.proofs.WriterExact.{write-asked}
 use Rattle.message.specs.Commands.{table, profileIn, kindOf}
 use Rattle.message.specs.Layouts.{isListed, fits, sizeFits}
 use Rattle.message.specs.Messages.{commandIn, opaqueFits, allowedIn, payloadIn}
 use Rattle.message.specs.CommandLists.{emptyCommands}
-use Rattle.message.specs.SendingExact.{messageWire, SendsExactly, RefusesExactly, TakesOpaque, EmptyOpaque}
-use Rattle.message.specs.SendingExact.{OpaqueExactly}
+use Rattle.message.specs.SendingExact.{messageWire, SendsExactly, SendAsked, RefusesExactly}
+use Rattle.message.specs.SendingExact.{TakesOpaque, EmptyOpaque, OpaqueExactly}
 use Rattle.message.specs.declared.kind.Profile.{Profile}
 use Rattle.message.specs.declared.values.Extra.the-variants as extra
 use Rattle.message.specs.declared.values.Message.{Message}
@@ -31,6 +37,22 @@ send-exactly limit m number flags opaque out w =
       room = λ h r. rw (w .listed, w .sized, w .allows, le-ltb limit needed h, lt-ltb (length out) w-length r);
       written = λ h r. rw (w .listed, w .sized, w .allows, le-ltb limit needed h, le-ltb (length out) w-length r);
     }
+
+-- the tests before PAYLOAD and ROOM do not depend on the output
+pub send-asked : SendAsked
+send-asked limit m number flags opaque =
+    let answer : Output → Row = λ w. w .row in
+    let written : List ℕ → Output = λ out. writeOf limit (commandIn m) number flags (payloadIn m opaque) out in
+    let refusal : ℕ → List ℕ → Output = λ n out. output (row n []) out in
+    let allows : List ℕ → Output = λ out. cond (allowedIn m) (written out) (refusal 33 out) in
+    let sized : List ℕ → Output = λ out. cond (opaqueFits m (length opaque)) (allows out) (refusal 32 out) in
+    asks-either answer (isListed (kindOf (commandIn m))) sized (refusal 31)
+    (asks-either answer (opaqueFits m (length opaque)) allows (refusal 32)
+    (asks-either answer (allowedIn m) written (refusal 33)
+    (write-asked limit (commandIn m) number flags (payloadIn m opaque))
+    (asks-never (row 33 []) (λ e. omega arith)))
+    (asks-never (row 32 []) (λ e. omega arith)))
+    (asks-never (row 31 []) (λ e. omega arith))
 
 pub refused-exactly : RefusesExactly
 refused-exactly limit m number flags opaque out =

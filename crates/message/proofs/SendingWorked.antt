@@ -25,6 +25,8 @@ worked-refusals =
       size-before-field = refl;
       field-before-room = refl;
       room-last = refl;
+      report-short = refl;
+      report-stuffed = refl;
       too-many-texts = λ opaque h. rw h;
       too-long-code = λ opaque h. rw h;
     }

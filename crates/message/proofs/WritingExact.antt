@@ -19,7 +19,7 @@ use Rattle.message.proofs.Fields.{num-and}
 
 -- a number in four bytes
 fours : (n : ℕ) (r : List ℕ) → four n r ≡ inFour n r
-fours n r = numbers-spelled 0 0 0 0 n 0 r [] .four-of
+fours n r = numbers-spelled 0 0 0 0 n r .four-of
 
 eights : (n : ℕ) (r : List ℕ) → eight n r ≡ inFour (n / 4294967296) (inFour (n % 4294967296) r)
 eights n r = rw (fours (n % 4294967296) r) (fours (n / 4294967296) _)

@@ -4,6 +4,8 @@ use mathlib.Core.Path.{_≡_}
 use mathlib.Core.List.{List, [], _∷_, map}
 use Rattle.base.specs.Rows.{row}
 use Rattle.base.specs.Outcomes.{Output, output}
+use Rattle.base.specs.declared.writes.Unwritten.the-variants as unwritten
+use Rattle.base.specs.declared.writes.WriteResult.the-variants as written
 use Rattle.message.specs.Counter.{modeNumber}
 use Rattle.message.specs.Parts.{noParts}
 use Rattle.message.specs.Layouts.{wayNumber, codeNumber}
@@ -75,16 +77,19 @@ pub record WorkedNames : Type 0 where
       map readingOf (reading.Command ∷ reading.Size ∷ reading.Field ∷ [])
       ≡ map (λ n. record { row = row n []; parts = noParts }) (31 ∷ 32 ∷ 33 ∷ [])
   pub sendings :
-      (count : ℕ)
-      → map sendRowOf (sent.Wrote count ∷ sent.Payload ∷ sent.Room ∷ sent.Command ∷ sent.Size ∷ sent.Field ∷ [])
-      ≡ row 0 (count ∷ []) ∷ row 21 (0 ∷ []) ∷ row 22 (0 ∷ []) ∷ row 31 [] ∷ row 32 [] ∷ row 33 [] ∷ []
+      (n : ℕ)
+      → map sendRowOf
+      (sent.Written (written.Wrote n) ∷ sent.Written (written.Unwritten unwritten.Payload)
+      ∷ sent.Written (written.Unwritten (unwritten.Room n)) ∷ sent.Command ∷ sent.Size ∷ sent.Field ∷ [])
+      ≡ row 0 (n ∷ []) ∷ row 21 (0 ∷ []) ∷ row 22 (n ∷ []) ∷ row 31 [] ∷ row 32 [] ∷ row 33 [] ∷ []
   pub replies :
       (n : ℕ)
       → map replyRowOf
       (reply.Nothing ∷ reply.InformationWanted n ∷ reply.StatusWanted n ∷ reply.BeginWanted n ∷ reply.StoreWanted n
-      ∷ reply.StopWanted n ∷ reply.Acknowledged n ∷ reply.Room ∷ [])
+      ∷ reply.StopWanted n ∷ reply.Acknowledged n ∷ reply.Unwritten unwritten.Payload
+      ∷ reply.Unwritten (unwritten.Room n) ∷ [])
       ≡ row 0 [] ∷ row 0 (0 ∷ 2 ∷ n ∷ []) ∷ row 0 (0 ∷ 4 ∷ n ∷ []) ∷ row 0 (0 ∷ 26 ∷ n ∷ []) ∷ row 0 (0 ∷ 30 ∷ n ∷ [])
-      ∷ row 0 (0 ∷ 32 ∷ n ∷ []) ∷ row 0 (n ∷ []) ∷ row 22 (0 ∷ []) ∷ []
+      ∷ row 0 (0 ∷ 32 ∷ n ∷ []) ∷ row 0 (n ∷ []) ∷ row 21 (0 ∷ []) ∷ row 22 (n ∷ []) ∷ []
   -- a rejection, for each code with each cause
   pub rejected :
       (n : ℕ)

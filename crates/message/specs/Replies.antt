@@ -3,10 +3,9 @@
 use Prim.Native.Nat.{ℕ}
 use mathlib.Core.Bool.{cond}
 use mathlib.Core.List.{List, [], _∷_}
-use lib.ListN.{getD}
 use lib.Dec.{eqb}
 use Rattle.base.specs.Rows.{Row, row}
-use Rattle.base.specs.Outcomes.{Output, output}
+use Rattle.base.specs.Outcomes.{Output, output, rowed}
 use Rattle.frame.specs.Wire.{commandOf, numberOf, payloadOf}
 use Rattle.frame.specs.Calls.{writeOf}
 use Rattle.message.specs.Layouts.{codeNumber}
@@ -29,10 +28,7 @@ owedTo command p = owedAfter command (readOf command p)
 
 -- the row of a rejection that was written has its command, its code and its cause too
 abbrev pub withCause : Cause → Output → Output
-withCause cause w =
-    cond (eqb (w .row .number) 0)
-    (output (row 0 (getD (w .row .values) 0 0 ∷ 0x12 ∷ codeNumber (codeFor cause) ∷ causeNumber cause ∷ [])) (w .out))
-    w
+withCause cause w = rowed (λ count. row 0 (count ∷ 0x12 ∷ codeNumber (codeFor cause) ∷ causeNumber cause ∷ [])) w
 
 -- 12 with a code, under the received sequence number
 abbrev pub rejectOf : ℕ → Cause → ℕ → List ℕ → Output

@@ -1,4 +1,5 @@
--- Claims: which reply each frame gets, in literal numbers, and the caller's buffer after it. PROTOCOL 8.1 to 8.13.
+-- Claims: which reply each frame gets, in literal numbers, and the caller's buffer after it.
+-- PROTOCOL 6.12, 8.1 to 8.13.
 use Prim.Native.Nat.{ℕ, _+_, _<_, _≤_}
 use mathlib.Core.Path.{_≡_}
 use mathlib.Core.Bool.{true, false}
@@ -7,6 +8,7 @@ use mathlib.Core.Logic.{_≢_}
 use lib.ListN.{length, drop}
 use Rattle.base.specs.Rows.{Row, row}
 use Rattle.base.specs.Outcomes.{Output, output}
+use Rattle.base.specs.Asking.{AsksOnce}
 use Rattle.base.specs.Keys.{among}
 use Rattle.frame.specs.Wire.{widest, commandOf, numberOf, payloadOf, wire, bodyOf}
 use Rattle.frame.specs.Calls.{freshOf}
@@ -61,8 +63,10 @@ pub record Replied (limit number command : ℕ) (payload shown out : List ℕ) (
       length (replyWire number command payload) ≤ length out
       → w ≡ output (row 0 (length (replyWire number command payload) ∷ shown))
       (replyWire number command payload ++ drop (length (replyWire number command payload)) out)
-  -- where it does not fit: ROOM, and the buffer stays
-  pub room : length out < length (replyWire number command payload) → w ≡ output (row 22 (0 ∷ [])) out
+  -- where it does not fit: ROOM with its size, and the buffer stays
+  pub room :
+      length out < length (replyWire number command payload)
+      → w ≡ output (row 22 (length (replyWire number command payload) ∷ [])) out
   -- it is a message that reading accepts
   pub message : readOf command payload ≡ row 0 (command ∷ payload)
   -- after any calls of a fresh reader, the calls that consumed it end in FRAME with these fields
@@ -129,3 +133,24 @@ abbrev pub SilentElse : Type 0
 SilentElse =
     (limit : ℕ) (answer : Row) (body out : List ℕ) → answer .number ≢ 1 → answer .number ≢ 15
     → replyOf limit answer body out ≡ output (row 0 []) out
+
+-- ---- no-payload: no reply is PAYLOAD 21, under every limit that allows a payload of one byte
+pub record NoPayload (limit : ℕ) (out : List ℕ) : Type 0 where
+  pub decisions : (answer : Row) (body : List ℕ) → replyOf limit answer body out .row .number ≢ 21
+  pub frames : (command number : ℕ) (p : List ℕ) → replyFrameOf limit command number p out .row .number ≢ 21
+  pub readings : (command number : ℕ) (reading : Row) → replyReadOf limit command number reading out .row .number ≢ 21
+
+-- into every buffer
+abbrev pub RepliesNoPayload : Type 0
+RepliesNoPayload = (limit : ℕ) → 6 ≤ limit → (out : List ℕ) → NoPayload limit out
+
+-- ---- reply-asked: a reply that met ROOM once is written into every buffer of the size that it said
+pub record ReplyAsked (limit : ℕ) : Type 0 where
+  pub decisions : (answer : Row) (body : List ℕ) → AsksOnce (λ out. replyOf limit answer body out .row)
+  pub frames : (command number : ℕ) (p : List ℕ) → AsksOnce (λ out. replyFrameOf limit command number p out .row)
+  pub readings :
+      (command number : ℕ) (reading : Row) → AsksOnce (λ out. replyReadOf limit command number reading out .row)
+
+-- under every limit
+abbrev pub RepliesAsked : Type 0
+RepliesAsked = (limit : ℕ) → ReplyAsked limit

@@ -51,6 +51,24 @@ pub record WorkedReply (limit : ℕ) (v out : List ℕ) : Type 0 where
 abbrev pub WorkedReplies : Type 0
 WorkedReplies = (limit : ℕ) → 6 ≤ limit → (v out : List ℕ) → 10 ≤ length out → WorkedReply limit v out
 
+-- ---- worked-rooms: a reply in room that is one byte short of it; under number FF the reply has one more
+
+-- the reply to a heartbeat under a sequence number, into so many bytes
+abbrev pub heartbeat : ℕ → ℕ → Output
+heartbeat number room = replyOf 1024 (row 1 []) (0 ∷ 5 ∷ 0x07 ∷ number ∷ 0 ∷ 0 ∷ []) (replicate room 7)
+
+-- the same with a wrong sum
+abbrev pub wrongSum : ℕ → ℕ → Output
+wrongSum number room = replyOf 1024 (row 15 []) (0 ∷ 5 ∷ 0x07 ∷ number ∷ 0 ∷ 0 ∷ 0 ∷ []) (replicate room 7)
+
+-- an acknowledgement and a rejection, and no room at all
+pub record WorkedRooms : Type 0 where
+  pub acknowledged : heartbeat 9 8 ≡ output (row 22 (9 ∷ [])) (replicate 8 7)
+  pub acknowledged-ff : heartbeat 255 9 ≡ output (row 22 (10 ∷ [])) (replicate 9 7)
+  pub rejected : wrongSum 9 9 ≡ output (row 22 (10 ∷ [])) (replicate 9 7)
+  pub rejected-ff : wrongSum 255 10 ≡ output (row 22 (11 ∷ [])) (replicate 10 7)
+  pub nothing-lent : wrongSum 255 0 ≡ output (row 22 (11 ∷ [])) []
+
 -- ---- replies-tabled: literal replies, under sequence number 9, into twelve bytes that were 7
 
 -- no reply

@@ -1,4 +1,5 @@
--- Claims: a call that writes a message: its answer and the caller's buffer, for every message. PROTOCOL 7.22 to 7.25.
+-- Claims: a call that writes a message: its answer and the caller's buffer, for every message.
+-- PROTOCOL 6.12, 7.22 to 7.25.
 use Prim.Native.Nat.{ℕ, _+_, _<_, _≤_}
 use mathlib.Core.Path.{_≡_}
 use mathlib.Core.Bool.{Bool, true, false, _||_}
@@ -7,6 +8,7 @@ use lib.ListN.{length, drop}
 use lib.Dec.{eqb, ltb, leb}
 use Rattle.base.specs.Rows.{row}
 use Rattle.base.specs.Outcomes.{output}
+use Rattle.base.specs.Asking.{AsksOnce}
 use Rattle.base.specs.Keys.{among}
 use Rattle.frame.specs.Wire.{wire, bodyOf}
 use Rattle.message.specs.Commands.{kindOf}
@@ -26,7 +28,7 @@ use Rattle.message.specs.declared.values.Time.{Time}
 use Rattle.message.specs.declared.values.Way.{Way}
 
 -- ---- send-exactly: a message that COMMAND, SIZE and FIELD do not refuse is the frame writer's: PAYLOAD, then ROOM,
--- then the frame at the front of the buffer, whose rest stays
+-- which says its size, then the frame at the front of the buffer, whose rest stays
 
 -- a message's frame on the wire
 abbrev pub messageWire : Message → ℕ → ℕ → List ℕ → List ℕ
@@ -38,7 +40,8 @@ pub record SendExactly (limit : ℕ) (m : Message) (number flags : ℕ) (opaque 
       limit < length (payloadIn m opaque) + 5 → sendOf limit m number flags opaque out ≡ output (row 21 (0 ∷ [])) out
   pub room :
       length (payloadIn m opaque) + 5 ≤ limit → length out < length (messageWire m number flags opaque)
-      → sendOf limit m number flags opaque out ≡ output (row 22 (0 ∷ [])) out
+      → sendOf limit m number flags opaque out
+      ≡ output (row 22 (length (messageWire m number flags opaque) ∷ [])) out
   pub written :
       length (payloadIn m opaque) + 5 ≤ limit → length (messageWire m number flags opaque) ≤ length out
       → sendOf limit m number flags opaque out
@@ -50,6 +53,12 @@ abbrev pub SendsExactly : Type 0
 SendsExactly =
     (limit : ℕ) (m : Message) (number flags : ℕ) (opaque out : List ℕ) → Writable m opaque
     → SendExactly limit m number flags opaque out
+
+-- ---- send-asked: what met ROOM once is written into every buffer of the size that it said
+abbrev pub SendAsked : Type 0
+SendAsked =
+    (limit : ℕ) (m : Message) (number flags : ℕ) (opaque : List ℕ)
+    → AsksOnce (λ out. sendOf limit m number flags opaque out .row)
 
 -- ---- refused-exactly: COMMAND before SIZE, SIZE before FIELD, and these before PAYLOAD and ROOM, whatever the limit,
 -- the payload and the room are; nothing is written then

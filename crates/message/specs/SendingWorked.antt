@@ -45,6 +45,10 @@ bareMessages =
 abbrev pub withStrength : ℕ → Message
 withStrength n = networkWith false false false false false false n false false
 
+-- a report without an FF
+abbrev pub aReport : Message
+aReport = message.Report (statusWith true true mode.Sew true true true)
+
 -- the number of the answer, with so many bytes of the caller's data and so much room
 abbrev pub sentNumber : Message → ℕ → ℕ → ℕ
 sentNumber m opaque room = sendOf 1024 m 9 0 (replicate opaque 7) (replicate room 7) .row .number
@@ -67,7 +71,10 @@ pub record WorkedRefusals : Type 0 where
   pub unlisted-first : sentNumber (message.Empty 0x21) 1 0 ≡ 31
   pub size-before-field : sentNumber (withStrength 8) 1 0 ≡ 32
   pub field-before-room : sentNumber (withStrength 8) 0 0 ≡ 33
-  pub room-last : sentNumber (withStrength 7) 0 0 ≡ 22
+  pub room-last : sendOf 1024 (withStrength 7) 9 0 [] [] ≡ output (row 22 (11 ∷ [])) []
+  -- ROOM one byte short of a report, and of one under number FF, which is stuffed
+  pub report-short : sendOf 1024 aReport 9 0 [] (replicate 17 7) ≡ output (row 22 (18 ∷ [])) (replicate 17 7)
+  pub report-stuffed : sendOf 1024 aReport 255 0 [] (replicate 18 7) ≡ output (row 22 (19 ∷ [])) (replicate 18 7)
   -- more data than the message takes and than the limit allows: SIZE, not PAYLOAD or ROOM
   pub too-many-texts :
       (opaque : List ℕ) → length opaque ≡ 1100

@@ -2,6 +2,7 @@
 use Prim.Native.Nat.{ℕ}
 use mathlib.Core.List.{List, [], _∷_}
 use Rattle.base.specs.Rows.{Row, row}
+use Rattle.base.specs.Writes.{unwrittenRowOf, writeRowOf}
 use Rattle.message.specs.Parts.{noParts}
 use Rattle.message.specs.Layouts.{codeNumber}
 use Rattle.message.specs.Messages.{messageIn}
@@ -39,11 +40,9 @@ readingOf reading.Field = refusal 33
 
 -- ---- a message that is written
 
--- the count, or PAYLOAD 21, ROOM 22, COMMAND 31, SIZE 32, FIELD 33
+-- the frame writer's answer, or COMMAND 31, SIZE 32, FIELD 33
 abbrev pub sendRowOf : SendResult → Row
-sendRowOf (sent.Wrote count) = row 0 (count ∷ [])
-sendRowOf sent.Payload = row 21 (0 ∷ [])
-sendRowOf sent.Room = row 22 (0 ∷ [])
+sendRowOf (sent.Written written) = writeRowOf written
 sendRowOf sent.Command = row 31 []
 sendRowOf sent.Size = row 32 []
 sendRowOf sent.Field = row 33 []
@@ -60,8 +59,8 @@ causeNumber cause.Field = 33
 causeNumber cause.BoxCommand = 0
 
 -- nothing; 0 bytes, the command that the caller is asked to send, and the received sequence number; the count of an
--- acknowledgement; the count of a rejection, its command 12, the code and the cause; ROOM 22. Where 19, 1D or 1F is
--- handed over, the command is that of its reply without a fault
+-- acknowledgement; the count of a rejection, its command 12, the code and the cause; why nothing was written. Where 19,
+-- 1D or 1F is handed over, the command is that of its reply without a fault
 abbrev pub replyRowOf : ReplyResult → Row
 replyRowOf reply.Nothing = row 0 []
 replyRowOf (reply.InformationWanted number) = row 0 (0 ∷ 0x02 ∷ number ∷ [])
@@ -71,4 +70,4 @@ replyRowOf (reply.StoreWanted number) = row 0 (0 ∷ 0x1E ∷ number ∷ [])
 replyRowOf (reply.StopWanted number) = row 0 (0 ∷ 0x20 ∷ number ∷ [])
 replyRowOf (reply.Acknowledged count) = row 0 (count ∷ [])
 replyRowOf (reply.Rejected count code cause) = row 0 (count ∷ 0x12 ∷ codeNumber code ∷ causeNumber cause ∷ [])
-replyRowOf reply.Room = row 22 (0 ∷ [])
+replyRowOf (reply.Unwritten why) = unwrittenRowOf why

@@ -7,9 +7,10 @@ use super::reader::read;
 use super::values::Code;
 use super::values::Message;
 use super::values::code_number;
+use base::Unwritten;
+use base::WriteResult;
 use frame::FeedResult;
 use frame::Verdict;
-use frame::WriteResult;
 ghost use mathlib.Core.Path.{_≡_};
 ghost use mathlib.Core.List.{[]};
 ghost use Rattle.frame.specs.Table.{rowOf, decidedRow};
@@ -48,7 +49,10 @@ pub enum ReplyResult {
         code: Code,
         cause: Cause,
     },
-    Room,
+    // ROOM 22: the output is too small for the reply. It is never PAYLOAD.
+    Unwritten {
+        why: Unwritten,
+    },
 }
 
 // The reply owed to a command without fault.
@@ -123,7 +127,7 @@ fn owed_after(command: u8, reading: ReadResult) -> Owed
     }
 }
 
-// A command without payload, under the received sequence number; or the ROOM of the frame writer.
+// A command without payload, under the received sequence number; or the refusal of the frame writer.
 fn acknowledge(command: u8, number: u8, out: &mut [u8]) -> ReplyResult
     ensures { λ r. ⌜ output (replyRowOf r) (now (out .exit))
         ≡ writeOf frameLimit command number 0 [] (now (out .entry)) ⌝ }
@@ -132,9 +136,7 @@ fn acknowledge(command: u8, number: u8, out: &mut [u8]) -> ReplyResult
     let written = frame::write(command, number, 0, &none, out);
     match written {
         WriteResult::Wrote { count } => ReplyResult::Acknowledged { count },
-        // an empty payload is never too long
-        WriteResult::Payload => ReplyResult::Room,
-        WriteResult::Room => ReplyResult::Room,
+        WriteResult::Unwritten { why } => ReplyResult::Unwritten { why },
     }
 }
 
@@ -151,7 +153,7 @@ fn code_for(cause: Cause) -> Code
     }
 }
 
-// 12 with a code, under the received sequence number; or the ROOM of the frame writer.
+// 12 with a code, under the received sequence number; or the refusal of the frame writer.
 fn reject(cause: Cause, number: u8, out: &mut [u8]) -> ReplyResult
     ensures { λ r. ⌜ output (replyRowOf r) (now (out .exit))
         ≡ rejectOf frameLimit cause number (now (out .entry)) ⌝ }
@@ -161,9 +163,7 @@ fn reject(cause: Cause, number: u8, out: &mut [u8]) -> ReplyResult
     let written = frame::write(0x12, number, 0, &bytes, out);
     match written {
         WriteResult::Wrote { count } => ReplyResult::Rejected { count, code, cause },
-        // one byte is never too long
-        WriteResult::Payload => ReplyResult::Room,
-        WriteResult::Room => ReplyResult::Room,
+        WriteResult::Unwritten { why } => ReplyResult::Unwritten { why },
     }
 }
 

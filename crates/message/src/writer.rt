@@ -14,7 +14,7 @@ use super::values::Time;
 use super::values::Unix;
 use super::values::code_number;
 use super::values::way_number;
-use frame::WriteResult;
+use base::WriteResult;
 ghost use mathlib.Core.Path.{_≡_};
 ghost use mathlib.Core.Bool.{true};
 ghost use mathlib.Core.List.{[], _∷_};
@@ -23,7 +23,6 @@ ghost use lib.ListN.{length};
 ghost use lib.Dec.{eqb};
 ghost use Rattle.base.specs.Numbers.{two, four};
 ghost use Rattle.base.specs.Outcomes.{output};
-ghost use Rattle.frame.specs.Table.{writeRowOf};
 ghost use Rattle.frame.specs.Wire.{frameLimit};
 ghost use Rattle.message.specs.Numbers.{eight};
 ghost use Rattle.message.specs.Table.{sendRowOf};
@@ -33,25 +32,13 @@ ghost use Rattle.message.specs.Writing.{sendAs, sendBare, sendOf};
 ghost use Rattle.message.specs.declared.values.Message.the-variants as message;
 ghost use Rattle.message.specs.declared.values.Extra.the-variants as extra;
 
-// The answer: the count of bytes written, or a refusal, which leaves the caller's buffer unchanged.
+// The answer. A refusal leaves the caller's buffer unchanged.
 pub enum SendResult {
-    Wrote { count: usize },
-    Payload,
-    Room,
+    // The frame writer's answer.
+    Written { written: WriteResult },
     Command,
     Size,
     Field,
-}
-
-// The answer of the frame writer, as an answer of this crate.
-fn from_written(written: WriteResult) -> SendResult
-    ensures { λ r. ⌜ sendRowOf r ≡ writeRowOf written ⌝ }
-{
-    match written {
-        WriteResult::Wrote { count } => SendResult::Wrote { count },
-        WriteResult::Payload => SendResult::Payload,
-        WriteResult::Room => SendResult::Room,
-    }
 }
 
 // A message without the caller's data, if its values are allowed.
@@ -72,7 +59,9 @@ fn write_bare(
         return SendResult::Size;
     }
     if allowed {
-        return from_written(frame::write(command, number, flags, payload, out));
+        return SendResult::Written {
+            written: frame::write(command, number, flags, payload, out),
+        };
     }
     SendResult::Field
 }
@@ -129,15 +118,17 @@ fn write_between(
     if opaque.len() != size {
         return SendResult::Size;
     }
-    from_written(frame::write_chunks(
-        0x02,
-        number,
-        flags,
-        &opaque[..64],
-        numbers,
-        &opaque[64..],
-        out,
-    ))
+    SendResult::Written {
+        written: frame::write_chunks(
+            0x02,
+            number,
+            flags,
+            &opaque[..64],
+            numbers,
+            &opaque[64..],
+            out,
+        ),
+    }
 }
 
 // 02 in one of its three sizes: PROTOCOL 7.10.
@@ -315,7 +306,9 @@ fn write_announcement(size: u32, code: &[u8], number: u8, flags: u16, out: &mut 
     }
     let size_bytes = base::four_bytes(size);
     let count_bytes = base::two_bytes(count as u16);
-    from_written(frame::write_chunks(0x19, number, flags, &size_bytes, &count_bytes, code, out))
+    SendResult::Written {
+        written: frame::write_chunks(0x19, number, flags, &size_bytes, &count_bytes, code, out),
+    }
 }
 
 // 1B: the same.
@@ -329,7 +322,9 @@ fn write_ready(piece: u16, code: &[u8], number: u8, flags: u16, out: &mut [u8]) 
     }
     let count_bytes = base::two_bytes(count as u16);
     let size_bytes = base::two_bytes(piece);
-    from_written(frame::write_chunks(0x1B, number, flags, &count_bytes, code, &size_bytes, out))
+    SendResult::Written {
+        written: frame::write_chunks(0x1B, number, flags, &count_bytes, code, &size_bytes, out),
+    }
 }
 
 // 1D: PROTOCOL 7.16.
@@ -346,7 +341,9 @@ fn write_piece(
 {
     let index_bytes = base::two_bytes(index);
     let total_bytes = base::two_bytes(total);
-    from_written(frame::write_chunks(0x1D, number, flags, &index_bytes, &total_bytes, bytes, out))
+    SendResult::Written {
+        written: frame::write_chunks(0x1D, number, flags, &index_bytes, &total_bytes, bytes, out),
+    }
 }
 
 // A message as a frame at the front of the caller's buffer, or refused with the buffer unchanged.

@@ -15,10 +15,8 @@ write-announcement-spec =
     (tie.spec
     (λ c. search tests)
     (search needs) (search needs) (search needs) (search needs) (search needs) (search needs) (search needs)
-    (search needs)
     (λ c.
-    let count = c .before .before .before .before .before .before .before in
+    let count = c .before .before .before .before .before .before in
     let size = count .before in
     let bytes = joined (size .four-bytes .ensures) (joined (count .two-bytes .ensures) refl) in
-    sent _ _ _ _ _ refl (le-leb _ _ (size .before .if1 .left)) refl bytes (c .from-written .ensures)
-    (c .before .before .before .write-chunks .ensures)))
+    sent _ _ _ _ _ refl (le-leb _ _ (size .before .if1 .left)) refl bytes (c .before .before .write-chunks .ensures)))

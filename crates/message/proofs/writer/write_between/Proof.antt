@@ -15,10 +15,9 @@ write-between-spec =
     (tie.spec
     (λ c. search tests)
     (λ c. sym (length-take-le 64 (c .before .before .before .before .before .args .opaque .now) (omega arith)))
-    (search needs) (search needs) (search needs) (search needs) (search needs) (search needs)
+    (search needs) (search needs) (search needs) (search needs) (search needs)
     (λ c.
-    let t = c .before .before .before .before .before .before .before in
+    let t = c .before .before .before .before .before .before in
     let s = t .before .before .before .before .args in
     sent _ _ _ _ _ refl (eq-eqb _ _ (t .if1 .left)) refl (between (s .numbers .now) (s .opaque .now))
-    (c .from-written .ensures)
-    (c .before .before .before .write-chunks .ensures)))
+    (c .before .before .write-chunks .ensures)))

@@ -11,8 +11,8 @@ unfolding table profileIn
 write-piece-spec =
     tie.close
     (tie.spec
-    (search needs) (search needs) (search needs) (search needs) (search needs) (search needs) (search needs)
+    (search needs) (search needs) (search needs) (search needs) (search needs) (search needs)
     (λ c.
-    let total = c .before .before .before .before .before .before .before in
+    let total = c .before .before .before .before .before .before in
     let bytes = joined (total .before .two-bytes .ensures) (joined (total .two-bytes2 .ensures) refl) in
-    sent _ _ _ _ _ refl refl refl bytes (c .from-written .ensures) (c .before .before .before .write-chunks .ensures)))
+    sent _ _ _ _ _ refl refl refl bytes (c .before .before .write-chunks .ensures)))

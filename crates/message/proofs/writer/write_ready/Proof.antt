@@ -17,11 +17,9 @@ write-ready-spec =
     (tie.spec
     (λ c. search tests)
     (search needs) (search needs) (search needs) (search needs) (search needs) (search needs) (search needs)
-    (search needs)
     (λ c.
-    let size = c .before .before .before .before .before .before .before in
+    let size = c .before .before .before .before .before .before in
     let count = size .before in
     let code = count .before .before .before .before .args .code .now in
     let bytes = joined (count .two-bytes .ensures) (ap (λ (x : List ℕ). code ++ x) (size .two-bytes2 .ensures)) in
-    sent _ _ _ _ _ refl (le-leb _ _ (count .before .if1 .left)) refl bytes (c .from-written .ensures)
-    (c .before .before .before .write-chunks .ensures)))
+    sent _ _ _ _ _ refl (le-leb _ _ (count .before .if1 .left)) refl bytes (c .before .before .write-chunks .ensures)))
