@@ -6,6 +6,7 @@ use mathlib.Core.List.{List, [], _∷_}
 use lib.Dec.{eqb}
 use lib.ListN.{getD}
 use Rattle.base.specs.Rows.{Row}
+use Rattle.base.specs.declared.writes.Unwritten.the-variants as unwritten
 use Rattle.base.proofs.Rows.{injective-by, under, value}
 use Rattle.message.specs.Layouts.{codeNumber}
 use Rattle.message.specs.Table.{causeNumber}
@@ -72,8 +73,9 @@ answerFrom r =
     under r 0 (doneFrom (r .values))
     (under r 17 answer.State
     (under r 41 answer.Busy
-    (under r 21 answer.Payload
-    (under r 22 answer.Room (answer.Refused (value r 0) (refusalFrom (r .number)))))))
+    (under r 21 (answer.Unwritten unwritten.Payload)
+    (under r 22 (answer.Unwritten (unwritten.Room (value r 0)))
+    (answer.Refused (value r 0) (refusalFrom (r .number)))))))
 
 refused-back : (count : ℕ) (why : Refusal)
     → answerFrom (handleRowOf (answer.Refused count why)) ≡ answer.Refused count why
@@ -97,8 +99,8 @@ answer-back (answer.Stopped count) = refl
 answer-back (answer.Refused count why) = refused-back count why
 answer-back answer.State = refl
 answer-back answer.Busy = refl
-answer-back answer.Payload = refl
-answer-back answer.Room = refl
+answer-back (answer.Unwritten unwritten.Payload) = refl
+answer-back (answer.Unwritten (unwritten.Room needed)) = refl
 
 -- ---- the waits
 

@@ -1,10 +1,13 @@
 -- What a call leaves, by what the calls inside it returned. Assumes nothing.
 use Prim.Native.Nat.{ℕ}
-use mathlib.Core.Path.{_≡_, refl, ap, _∙_}
-use mathlib.Core.Bool.{true, false, true≢false}
+use mathlib.Core.Path.{_≡_, refl, sym, ap, _∙_}
+use mathlib.Core.Bool.{true, false, cond, true≢false}
 use mathlib.Core.List.{List, [], _∷_}
 use lib.Dec.{eqb, leb}
 use lib.ListN.{length}
+use Rattle.base.specs.Writes.{unwrittenRowOf}
+use Rattle.base.specs.declared.writes.Unwritten.{Unwritten}
+use Rattle.base.specs.declared.writes.Unwritten.the-variants as unwritten
 use Rattle.base.specs.Rows.{Row, row}
 use Rattle.base.specs.Outcomes.{Outcome, outcome, Output, output}
 use Rattle.base.specs.Keys.{among}
@@ -57,6 +60,29 @@ received-ranged first max l command number ranged =
     by-wait (Waiting waiting under sent repeats) =
         by-test (λ (y : Outcome Link). inRange first max (y .state) ≡ true) (fitsOf command number waiting under)
         (λ _. idle) λ _. ranged
+
+-- a frame that it received is a stray one the second time
+pub received-again : (first max : ℕ) (l : Link) (command number : ℕ) → inRange first max l ≡ true
+    → receiveOf first max (receiveOf first max l command number .state) command number
+    ≡ outcome (row 43 []) (receiveOf first max l command number .state)
+received-again first max l command number ranged =
+    ap (λ t. cond t (receiveIn (next .wait) next command number) (outcome (row 17 (0 ∷ [])) next))
+    (received-ranged first max l command number ranged)
+    ∙ by-test Stray (inRange first max l) (λ _. by-wait (l .wait) refl)
+    λ e. absurd (true≢false (sym ranged ∙ e))
+  where
+    next : Link
+    next = receiveOf first max l command number .state
+
+    -- after this, the frame is a stray one
+    Stray : Outcome Link → Type 0
+    Stray y = receiveIn (y .state .wait) (y .state) command number ≡ outcome (row 43 []) (y .state)
+
+    by-wait : (w : Wait) → l .wait ≡ w → Stray (receiveIn w l command number)
+    by-wait Idle is = ap (λ (v : Wait). receiveIn v l command number) is
+    by-wait (Waiting waiting under sent repeats) is =
+        by-test Stray (fitsOf command number waiting under) (λ _. refl)
+        λ e. ap (λ (v : Wait). receiveIn v l command number) is ∙ rw e
 
 -- ---- the transfer: `a` is the row that the code answers, and `b` the row of the transfer's answer
 
@@ -112,6 +138,12 @@ module _ (limit first max : ℕ) (out : List ℕ) (heard : Outcome Link) (body :
       (λ d. absurd (true≢false (rw (e, d) at h)))
       (λ d. by-test (λ (x : After). after (output r out) heard t buffer ≡ x) (eqb (wantedIn r) 0x20)
       (λ b. absurd (true≢false (rw (e, d, b) at h))) (λ _. refl)))
+
+-- a refusal to write hands nothing over
+pub unwanted : (why : Unwritten) → among (wantedIn (unwrittenRowOf why)) (0x1A ∷ 0x1E ∷ 0x20 ∷ []) ≡ false
+unfolding among
+unwanted unwritten.Payload = refl
+unwanted (unwritten.Room needed) = refl
 
 -- ---- the call
 

@@ -7,5 +7,6 @@ pub mod AnswerRows
 pub mod HandlingExact
 pub mod StateFirst
 pub mod RefusedKept
+pub mod Asking
 pub mod EndedExact
 pub mod WorkedFrames

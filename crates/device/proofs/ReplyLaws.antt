@@ -30,12 +30,12 @@ use Rattle.device.specs.Handling.{wantedIn}
 
 -- what holds of PAYLOAD, of ROOM and of a count holds of every write
 pub by-write : (P : Output → Type 0) (limit command number : ℕ) (payload out : List ℕ)
-    → P (output (row 21 (0 ∷ [])) out) → P (output (row 22 (0 ∷ [])) out)
+    → P (output (row 21 (0 ∷ [])) out) → ((needed : ℕ) → P (output (row 22 (needed ∷ [])) out))
     → ((count : ℕ) (o : List ℕ) → P (output (row 0 (count ∷ [])) o))
     → P (writeOf limit command number 0 payload out)
 by-write P limit command number payload out long short wrote =
     by-test P (ltb limit (length payload + 5)) (λ _. long)
-    λ _. by-test P (ltb (length out) (length (frameOf command number 0 payload))) (λ _. short) λ _. wrote _ _
+    λ _. by-test P (ltb (length out) (length (frameOf command number 0 payload))) (λ _. short _) λ _. wrote _ _
 
 -- ---- a reply that is not handed over
 
@@ -56,7 +56,7 @@ module _ (out : List ℕ) where
     plain-write command payload =
         by-write Plain limit command number payload out
         (record { stands = refl; not-state = eqb-false 21 17 refl; unwritten = λ _. refl })
-        (record { stands = refl; not-state = eqb-false 22 17 refl; unwritten = λ _. refl })
+        (λ needed. record { stands = refl; not-state = eqb-false 22 17 refl; unwritten = λ _. refl })
         λ count o. done (count ∷ []) o refl
 
     pub plain-reject : (why : Cause) → Plain (rejectOf limit why number out)
@@ -64,7 +64,7 @@ module _ (out : List ℕ) where
     plain-reject why =
         by-write (λ (w : Output). Plain (withCause why w)) limit 0x12 number (codeNumber (codeFor why) ∷ []) out
         (record { stands = refl; not-state = eqb-false 21 17 refl; unwritten = λ _. refl })
-        (record { stands = refl; not-state = eqb-false 22 17 refl; unwritten = λ _. refl })
+        (λ needed. record { stands = refl; not-state = eqb-false 22 17 refl; unwritten = λ _. refl })
         λ count o. done (count ∷ 0x12 ∷ _ ∷ _ ∷ []) o refl
 
     plain-owed : (d : Owed) → handed d ≡ false → Plain (repliedOf limit d number out)

@@ -1,21 +1,24 @@
--- A 19 that is accepted or refused, and the ranges of a transfer that passes its test. Assumes nothing.
+-- A 19 that is accepted or refused, at any clock, and the ranges of a transfer that passes its test. Assumes nothing.
 use Prim.Native.Nat.{ℕ, _+_, _*_}
 use mathlib.Core.Path.{_≡_, refl, sym, ap, _∙_}
 use mathlib.Core.Logic.{_≢_}
-use mathlib.Core.Bool.{Bool, true, false, not, true≢false}
+use mathlib.Core.Bool.{Bool, true, false, cond, not, true≢false}
 use mathlib.Core.List.{List, [], _∷_}
 use native.Mathlib.Omega.{arith}
 use borrow.Author.Tests.{eqb-true, eqb-false, leb-true, leb-false, ltb-true, ltb-false, eq-eqb}
 use lib.Dec.{eqb, leb, ltb}
-use Rattle.base.specs.Rows.{row}
-use Rattle.base.specs.Outcomes.{Outcome, Output}
+use Rattle.base.specs.Rows.{Row, row}
+use Rattle.base.specs.Outcomes.{Outcome, outcome, Output, rowed}
 use Rattle.base.proofs.Tests.{by-test, either-way}
-use Rattle.link.specs.Calls.{inRange, offerOf}
+use Rattle.link.specs.Sending.{mayWait}
+use Rattle.link.specs.Calls.{inRange, offerIn, offerOf}
 use Rattle.link.specs.declared.state.Link.{Link}
+use Rattle.link.specs.declared.state.Wait.{Wait}
+use Rattle.link.specs.declared.state.Wait.the-variants.{Idle, Waiting}
 use Rattle.transfer.specs.Payloads.{faulty, sizeIn}
 use Rattle.transfer.specs.Checks.{Test, firstRefusal, inRangeOf, beginTests}
-use Rattle.transfer.specs.Writing.{rowed, refusedOf}
-use Rattle.transfer.specs.Calls.{Left, Both, beginOf}
+use Rattle.transfer.specs.Writing.{refusedOf}
+use Rattle.transfer.specs.Calls.{Left, Both, beginBy, beginOf}
 use Rattle.transfer.specs.Ranges.{InRange}
 use Rattle.transfer.specs.declared.state.Transfer.{Transfer}
 use Rattle.transfer.specs.declared.state.Transfer.the-variants.{Absent, Open}
@@ -28,7 +31,7 @@ not-done limit n number out z =
     by-test Done (eqb n 17) (λ _. eqb-false 17 0 refl)
     λ _. by-test Done (eqb n 41) (λ _. eqb-false 41 0 refl)
     λ _. by-write (λ (w : Output). Done (rowed (λ count. row n (count ∷ [])) w)) limit 0x12 number (3 ∷ []) out
-    (eqb-false 21 0 refl) (eqb-false 22 0 refl) λ _ _. eqb-false n 0 z
+    (eqb-false 21 0 refl) (λ _. eqb-false 22 0 refl) λ _ _. eqb-false n 0 z
   where
     Done : Output → Type 0
     Done w = w .row .number ≢ 0
@@ -69,6 +72,33 @@ module _ (limit first max : ℕ) (t : Transfer) (l : Link) (clock number : ℕ) 
           by-test (λ k. eqb k 0 ≡ false) (not (inRangeOf t)) (λ _. refl)
           λ _. by-test (λ k. eqb k 0 ≡ false) (not (inRange first max l)) (λ _. refl)
           λ _. by-test (λ k. eqb k 0 ≡ false) (faulty 0x19 payload) (λ _. refl) λ _. rw e
+
+  -- the clock decides no row
+  pub begin-clock : (later : ℕ)
+      → begun .row ≡ beginOf limit first max t l later number payload piece room out .row
+  begin-clock later =
+      row-by refusal (offered .state) (offerOf first max l 0x1B later .state)
+      ∙ ap (λ (r : Row). beginBy limit (firstRefusal (tests (eqb (r .number) 41))) t l
+      (offerOf first max l 0x1B later .state) number payload piece out .row) same-offer
+    where
+      -- nor does the link after the 1B
+      row-by : (n : ℕ) (next other : Link) → beginBy limit n t l next number payload piece out .row
+          ≡ beginBy limit n t l other number payload piece out .row
+      row-by n next other = either-way (eqb n 0) (λ e. rw e) λ e. rw e
+
+      -- an offer by its tests and by what waits
+      offer-by : ℕ → Bool → Bool → Wait → Outcome Link
+      offer-by at a b w =
+          cond a (cond b (offerIn w first l 0x1B at) (outcome (row 42 []) l)) (outcome (row 17 (0 ∷ [])) l)
+
+      same-row : (a b : Bool) (w : Wait) → offer-by clock a b w .row ≡ offer-by later a b w .row
+      same-row true true Idle = refl
+      same-row true true (Waiting waiting under sent repeats) = refl
+      same-row true false w = refl
+      same-row false b w = refl
+
+      same-offer : offered .row ≡ offerOf first max l 0x1B later .row
+      same-offer = same-row (inRange first max l) (mayWait 0x1B) (l .wait)
 
 -- ---- ranges
 

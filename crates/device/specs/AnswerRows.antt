@@ -4,6 +4,7 @@ use Prim.Native.Nat.{ℕ}
 use mathlib.Core.Path.{_≡_}
 use mathlib.Core.List.{List, [], _∷_, map}
 use Rattle.base.specs.Rows.{row}
+use Rattle.base.specs.declared.writes.Unwritten.the-variants as unwritten
 use Rattle.message.specs.AnswerRows.{causes, codes}
 use Rattle.message.specs.declared.kind.Cause.{Cause}
 use Rattle.message.specs.declared.values.Code.{Code}
@@ -36,9 +37,10 @@ pub record NamedRows (n m : ℕ) : Type 0 where
   pub replies :
       map handleRowOf
       (answer.Nothing ∷ answer.InformationWanted n ∷ answer.StatusWanted n ∷ answer.Acknowledged n ∷ answer.Began n m
-      ∷ answer.Stored n ∷ answer.Stopped n ∷ answer.State ∷ answer.Busy ∷ answer.Payload ∷ answer.Room ∷ [])
+      ∷ answer.Stored n ∷ answer.Stopped n ∷ answer.State ∷ answer.Busy ∷ answer.Unwritten unwritten.Payload
+      ∷ answer.Unwritten (unwritten.Room n) ∷ [])
       ≡ row 0 [] ∷ row 0 (0 ∷ 2 ∷ n ∷ []) ∷ row 0 (0 ∷ 4 ∷ n ∷ []) ∷ row 0 (n ∷ []) ∷ row 0 (n ∷ 26 ∷ m ∷ [])
-      ∷ row 0 (n ∷ 30 ∷ []) ∷ row 0 (n ∷ 32 ∷ []) ∷ row 17 (0 ∷ []) ∷ row 41 [] ∷ row 21 (0 ∷ []) ∷ row 22 (0 ∷ [])
+      ∷ row 0 (n ∷ 30 ∷ []) ∷ row 0 (n ∷ 32 ∷ []) ∷ row 17 (0 ∷ []) ∷ row 41 [] ∷ row 21 (0 ∷ []) ∷ row 22 (n ∷ [])
       ∷ []
   -- a rejection, for each code with each cause
   pub rejected :

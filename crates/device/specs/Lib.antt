@@ -10,4 +10,5 @@ pub mod HandlingExact
 pub mod EndedExact
 pub mod StateFirst
 pub mod RefusedKept
+pub mod Asking
 pub mod WorkedFrames

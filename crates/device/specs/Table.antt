@@ -1,6 +1,7 @@
 -- Statement: the number and the values of each answer, and of the wait that the frame ended. PROTOCOL 16.6.
 use mathlib.Core.List.{[], _∷_}
 use Rattle.base.specs.Rows.{Row, row}
+use Rattle.base.specs.Writes.{unwrittenRowOf}
 use Rattle.message.specs.Layouts.{codeNumber}
 use Rattle.message.specs.Table.{causeNumber}
 use Rattle.transfer.specs.Table.{refusalNumber}
@@ -24,8 +25,7 @@ handleRowOf (answer.Stopped count) = row 0 (count ∷ 0x20 ∷ [])
 handleRowOf (answer.Refused count why) = row (refusalNumber why) (count ∷ [])
 handleRowOf answer.State = row 17 (0 ∷ [])
 handleRowOf answer.Busy = row 41 []
-handleRowOf answer.Payload = row 21 (0 ∷ [])
-handleRowOf answer.Room = row 22 (0 ∷ [])
+handleRowOf (answer.Unwritten why) = unwrittenRowOf why
 
 -- the command that waited, and its number
 abbrev pub endedRowOf : Ended → Row

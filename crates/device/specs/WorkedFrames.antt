@@ -126,6 +126,10 @@ reply06 number = 0 ∷ 5 ∷ 0x06 ∷ number ∷ 0 ∷ 0 ∷ []
 abbrev pub faulty06 : List ℕ
 faulty06 = 0 ∷ 6 ∷ 0x06 ∷ 7 ∷ 0 ∷ 0 ∷ 0 ∷ 0x13 ∷ []
 
+-- a 19 of five bytes with a check code of two
+abbrev pub announced : List ℕ
+announced = 0 ∷ 13 ∷ 0x19 ∷ 10 ∷ 0 ∷ 0 ∷ 0 ∷ 0 ∷ 0 ∷ 5 ∷ 0 ∷ 2 ∷ 0x41 ∷ 0x42 ∷ []
+
 -- whatever the values of the reader's answer are
 pub record WorkedFrames (v : List ℕ) : Type 0 where
   pub whole-table : play Absent (freshOf firstNumber) noPiece table ≡ tableLeft
@@ -141,11 +145,17 @@ pub record WorkedFrames (v : List ℕ) : Type 0 where
   -- also where the output has no room for the 12
   pub no-room :
       leavesInto 9 reporting (row 1 v) faulty06
-      ≡ shows (row 22 (0 ∷ [])) (row 0 (0x05 ∷ 7 ∷ [])) Absent (linkOf 8 Idle) noPiece (replicate 9 7)
+      ≡ shows (row 22 (10 ∷ [])) (row 0 (0x05 ∷ 7 ∷ [])) Absent (linkOf 8 Idle) noPiece (replicate 9 7)
   -- the same frame again, with more room: no wait ends, and it gets its 12
   pub again :
       leavesInto 24 (linkOf 8 Idle) (row 1 v) faulty06
       ≡ shows (row 0 (10 ∷ 18 ∷ 3 ∷ 32 ∷ [])) (row 0 []) Absent (linkOf 8 Idle) noPiece (rejection 7 3 0x22)
+  -- one byte short of 1A and 1B, ROOM has the size of both, and nothing begins; that room is enough
+  pub pair-short :
+      leavesInto 23 (linkOf 0 Idle) (row 1 v) announced
+      ≡ shows (row 22 (24 ∷ [])) (row 0 []) Absent (linkOf 0 Idle) noPiece (replicate 23 7)
+  pub pair-fits :
+      leavesInto 24 (linkOf 0 Idle) (row 1 v) announced .row ≡ row 0 (24 ∷ 26 ∷ 9 ∷ [])
   -- a 06 under another number is stray: the report waits on
   pub stray :
       leavesInto 24 reporting (row 1 v) (reply06 6)

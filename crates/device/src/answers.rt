@@ -1,4 +1,5 @@
 // The answer of the box to a frame, and the wait that the frame ended. PROTOCOL 16.6.
+use base::Unwritten;
 use link::Link;
 use message::Cause;
 use message::Code;
@@ -59,10 +60,11 @@ pub enum HandleResult {
     State,
     // BUSY 41: a 19, and a command waits already.
     Busy,
-    // PAYLOAD 21: the 1B would have a payload longer than any frame's.
-    Payload,
-    // ROOM 22: the output is too small for what would be written.
-    Room,
+    // PAYLOAD 21: the 1B would have a payload longer than any frame's. ROOM 22: the output is too small for what would
+    // be written, both frames of a pair together.
+    Unwritten {
+        why: Unwritten,
+    },
 }
 
 pub struct Handled {
@@ -83,7 +85,6 @@ pub(crate) fn from_arrived(answer: ArriveResult) -> HandleResult
         ArriveResult::Refused { count, refusal } => HandleResult::Refused { count, refusal },
         ArriveResult::State => HandleResult::State,
         ArriveResult::Busy => HandleResult::Busy,
-        ArriveResult::Payload => HandleResult::Payload,
-        ArriveResult::Room => HandleResult::Room,
+        ArriveResult::Unwritten { why } => HandleResult::Unwritten { why },
     }
 }

@@ -159,7 +159,11 @@ fn answer_by(
             transfer,
             heard,
         ),
-        ReplyResult::Room => as_heard(HandleResult::Room, transfer, heard),
+        ReplyResult::Unwritten { why } => as_heard(
+            HandleResult::Unwritten { why },
+            transfer,
+            heard,
+        ),
     }
 }
 

@@ -5,7 +5,9 @@ use mathlib.Core.Bool.{cond}
 use mathlib.Core.List.{List, [], _∷_}
 use lib.Dec.{eqb}
 use Rattle.base.specs.Rows.{Row}
+use Rattle.base.specs.declared.writes.Unwritten.the-variants as unwritten
 use Rattle.base.proofs.Rows.{injective-by, under, value}
+use Rattle.base.proofs.WritesExact.{unwrittenFrom}
 use Rattle.transfer.specs.Table.{refusalNumber, arriveRowOf, cancelRowOf, progressRowOf}
 use Rattle.transfer.specs.Calls.{Left, Both, Held}
 use Rattle.transfer.specs.AnswerRows.{RowsInjective, RowsNamed, ContractsComplete}
@@ -43,8 +45,9 @@ arriveFrom r =
     (cond (eqb (value r 1) 30) (arrived.Stored (value r 0)) (arrived.Stopped (value r 0))))
     (under r 17 arrived.State
     (under r 41 arrived.Busy
-    (under r 21 arrived.Payload
-    (under r 22 arrived.Room (arrived.Refused (value r 0) (refusalFrom (r .number)))))))
+    (under r 21 (arrived.Unwritten unwritten.Payload)
+    (under r 22 (arrived.Unwritten (unwritten.Room (value r 0)))
+    (arrived.Refused (value r 0) (refusalFrom (r .number)))))))
 
 refused-back : (n : ℕ) (why : Refusal) → arriveFrom (arriveRowOf (arrived.Refused n why)) ≡ arrived.Refused n why
 refused-back n refusal.Size = refl
@@ -62,18 +65,20 @@ arrive-back (arrived.Stopped count) = refl
 arrive-back (arrived.Refused count why) = refused-back count why
 arrive-back arrived.State = refl
 arrive-back arrived.Busy = refl
-arrive-back arrived.Payload = refl
-arrive-back arrived.Room = refl
+arrive-back (arrived.Unwritten unwritten.Payload) = refl
+arrive-back (arrived.Unwritten (unwritten.Room needed)) = refl
 
 abbrev cancelFrom : Row → CancelResult
 cancelFrom r =
-    under r 0 (cancelled.Sent (value r 0)) (under r 17 cancelled.State (under r 41 cancelled.Busy cancelled.Room))
+    under r 0 (cancelled.Sent (value r 0)) (under r 17 cancelled.State
+    (under r 41 cancelled.Busy (cancelled.Unwritten (unwrittenFrom r))))
 
 cancel-back : (a : CancelResult) → cancelFrom (cancelRowOf a) ≡ a
 cancel-back (cancelled.Sent count) = refl
 cancel-back cancelled.State = refl
 cancel-back cancelled.Busy = refl
-cancel-back cancelled.Room = refl
+cancel-back (cancelled.Unwritten unwritten.Payload) = refl
+cancel-back (cancelled.Unwritten (unwritten.Room needed)) = refl
 
 abbrev someValue : List ℕ → ProgressResult → ProgressResult → ProgressResult
 someValue [] x y = x

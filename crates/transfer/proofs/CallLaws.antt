@@ -10,13 +10,13 @@ use Rattle.base.specs.Rows.{Row, row}
 use Rattle.base.proofs.Lists.{drop-min}
 use Rattle.message.specs.Parts.{bytesOf}
 use Rattle.message.specs.declared.parts.Place.{Place}
-use Rattle.base.specs.Outcomes.{Outcome, outcome, Output, output}
+use Rattle.base.specs.Outcomes.{Outcome, outcome, Output, output, rowed}
 use Rattle.transfer.specs.Table.{refusalNumber, checkNumber, busyRow, wroteRow, beganRow}
 use Rattle.link.specs.Calls.{inRange, offerOf}
 use Rattle.link.specs.declared.state.Link.{Link}
 use Rattle.transfer.specs.Payloads.{faulty, sizeIn, codeIn, indexIn, totalIn, bytesIn}
 use Rattle.transfer.specs.Checks.{firstRefusal, inRangeOf, beginTests, storeTests, stopTests}
-use Rattle.transfer.specs.Writing.{rowed, acknowledged, refusedOf, pairOf}
+use Rattle.transfer.specs.Writing.{acknowledged, refusedOf, pairOf}
 use Rattle.transfer.specs.Calls.{left, settled, Both, both, beginWith, beginOf, held, putIn, Fits, storeOf}
 use Rattle.transfer.specs.Calls.{stopOf, cancelWith, cancelOf}
 use Rattle.transfer.specs.declared.state.Transfer.{Transfer}

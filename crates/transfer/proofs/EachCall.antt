@@ -48,7 +48,7 @@ module _ {S : Type 0} (limit : ℕ) (enough : 6 ≤ limit) (before next : S) (nu
   twelve-fits k a b c l = rw (a, b, c, le-ltb limit 6 enough, le-ltb (length out) (length (twelve number)) l)
 
   twelve-room : (k : ℕ) → eqb k 0 ≡ false → eqb k 17 ≡ false → eqb k 41 ≡ false → length out < length (twelve number)
-      → By k ≡ left (output (row 22 (0 ∷ [])) out) before
+      → By k ≡ left (output (row 22 (length (twelve number) ∷ [])) out) before
   twelve-room k a b c l = rw (a, b, c, le-ltb limit 6 enough, lt-ltb (length out) (length (twelve number)) l)
 
   rejected : (k n : ℕ) → n ≡ k → eqb k 0 ≡ false → eqb k 17 ≡ false → eqb k 41 ≡ false

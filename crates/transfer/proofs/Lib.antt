@@ -22,5 +22,6 @@ pub mod Ranges
 pub mod Refusals
 pub mod PayloadNever
 pub mod EachCall
+pub mod Asking
 pub mod WorkedTransfers
 pub mod WorkedRefusals

@@ -10,7 +10,7 @@ use lib.ListN.{length, take, drop}
 use lib.Seq.{take-at}
 use Rattle.base.specs.Keys.{among}
 use Rattle.base.specs.Rows.{Row, row}
-use Rattle.base.specs.Outcomes.{Outcome, Output, output, onto, writtenIn, placed}
+use Rattle.base.specs.Outcomes.{Outcome, Output, output, onto, writtenIn, placed, rowed}
 use Rattle.base.proofs.Tests.{by-test, either-way}
 use Rattle.frame.specs.Wire.{frameOf}
 use Rattle.frame.specs.Calls.{writeOf}
@@ -20,10 +20,10 @@ use Rattle.link.specs.Table.{acceptedRow}
 use Rattle.link.specs.declared.state.Link.{Link}
 use Rattle.link.specs.declared.state.Wait.{Wait}
 use Rattle.link.specs.declared.state.Wait.the-variants.{Idle, Waiting}
-use Rattle.transfer.specs.Table.{payloadRow, roomRow, busyRow, wroteRow, beganRow}
+use Rattle.transfer.specs.Table.{payloadRow, busyRow, wroteRow, beganRow}
 use Rattle.transfer.specs.Payloads.{faulty, sizeIn, codeIn}
 use Rattle.transfer.specs.Checks.{Test, test, firstRefusal, inRangeOf, sizeTests, beginTests, cancelTests}
-use Rattle.transfer.specs.Writing.{rowed, acknowledged, refusedOf, readyPayload, pairWire, pairOf}
+use Rattle.transfer.specs.Writing.{acknowledged, refusedOf, readyPayload, pairWire, pairOf}
 use Rattle.transfer.specs.Calls.{Left, left, settled, Both, both, beginOf, cancelOf}
 use Rattle.transfer.specs.declared.state.Transfer.{Transfer}
 use Rattle.transfer.specs.declared.state.Transfer.the-variants.{Absent, Open}
@@ -94,7 +94,7 @@ module _ (large : Bool) (w out : List ℕ) where
       made : Bool → Bool → Output
       made a b =
           rowed f (cond a (output payloadRow out)
-          (cond b (output roomRow out) (output (row 0 (length w ∷ [])) (onto w out))))
+          (cond b (output (row 22 (length w ∷ [])) out) (output (row 0 (length w ∷ [])) (onto w out))))
 
       go : (a b : Bool) → made a b .row .number ≡ 0 → take (writtenIn (made a b .row)) (made a b .out) ≡ w
       go true b q = absurd (true≢false (sym (eq-eqb 21 0 q)))

@@ -7,13 +7,13 @@ use borrow.Author.Tests.{eqb-true}
 use lib.Dec.{eqb, ltb}
 use lib.ListN.{length}
 use Rattle.base.specs.Rows.{Row, row}
-use Rattle.base.specs.Outcomes.{Output, output, placed}
+use Rattle.base.specs.Outcomes.{Output, output, placed, rowed}
 use Rattle.base.proofs.Tests.{by-test, either-way}
 use Rattle.frame.specs.Wire.{frameOf}
 use Rattle.frame.specs.Calls.{writeOf}
 use Rattle.transfer.specs.Table.{payloadRow, wroteRow, beganRow}
 use Rattle.transfer.specs.Checks.{Test, firstRefusal}
-use Rattle.transfer.specs.Writing.{rowed, acknowledged, refusedOf, readyPayload, pairWire, pairOf}
+use Rattle.transfer.specs.Writing.{acknowledged, refusedOf, readyPayload, pairWire, pairOf}
 use Rattle.transfer.specs.Calls.{Left, left, settled}
 
 -- ---- the first refusal

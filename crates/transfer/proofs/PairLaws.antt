@@ -1,5 +1,5 @@
--- The 1A and the 1B, written one behind the other. Assumes nothing.
-use Prim.Native.Nat.{ℕ, _+_, _-_, _≤_, _<_, min}
+-- The 1A and the 1B, written one after the other. Assumes nothing.
+use Prim.Native.Nat.{ℕ, _+_, _-_, _≤_, _<_, _^_, min}
 use mathlib.Core.Path.{_≡_, refl, sym, ap, subst, _∙_}
 use mathlib.Core.Bool.{true, false, cond, true≢false}
 use mathlib.Core.Logic.{_≢_}
@@ -10,12 +10,19 @@ use lib.Dec.{eqb, ltb}
 use lib.ListN.{length, take, drop, length-append, length-drop, drop-of-length-le, take-append-drop}
 use lib.Seq.{drop-drop, length-take-le, drop-at}
 use Rattle.base.specs.Rows.{Row, row}
-use Rattle.base.specs.Outcomes.{Output, output, onto, writtenIn, placed}
+use Rattle.base.specs.Outcomes.{Output, output, onto, writtenIn, neededIn, placed}
+use Rattle.base.specs.Writes.{unwrittenRowOf, writeRowOf}
+use Rattle.base.specs.declared.writes.Unwritten.{Unwritten}
+use Rattle.base.specs.declared.writes.Unwritten.the-variants as unwritten
+use Rattle.base.specs.declared.writes.WriteResult.{WriteResult}
+use Rattle.base.specs.declared.writes.WriteResult.the-variants as written
 use Rattle.base.specs.Numbers.{two}
 use Rattle.base.proofs.Stores.{part-left}
-use Rattle.base.proofs.Tests.{either-way}
-use Rattle.frame.specs.Wire.{frameOf}
+use Rattle.base.proofs.Tests.{by-test, either-way}
+use Rattle.base.proofs.WritesExact.{unwritten-refuses}
+use Rattle.frame.specs.Wire.{bodyOf, frameOf}
 use Rattle.frame.specs.Calls.{writeOf}
+use Rattle.frame.proofs.Stuffing.{stuffed-form}
 use Rattle.message.specs.Commands.{table, profileIn}
 use Rattle.message.specs.Messages.{countable}
 use Rattle.message.specs.Table.{sendRowOf}
@@ -23,8 +30,9 @@ use Rattle.message.specs.Writing.{sendOf}
 use Rattle.message.specs.declared.writer.SendResult.{SendResult}
 use Rattle.message.specs.declared.writer.SendResult.the-variants as sending
 use Rattle.message.specs.declared.values.Message.the-variants.{Ready}
-use Rattle.transfer.specs.Table.{payloadRow, roomRow, beganRow}
-use Rattle.transfer.specs.Writing.{after, readyPayload, pairOf}
+use Rattle.transfer.specs.Table.{payloadRow, beganRow}
+use Rattle.transfer.specs.Writing.{after, withFirst, readyPayload, pairOf}
+use Rattle.transfer.proofs.WriteLaws.{at-most-16}
 
 -- a call that is lent the rest of an output, from a place on
 pub rest-written : (out : List ℕ) (from : ℕ) (f : List ℕ → Output) (a : Row) (o : List ℕ)
@@ -36,12 +44,71 @@ rest-written out from f a o e =
     rw (drop-of-length-le (drop from out) none, append-nil)
     (ap (λ (w : Output). after (take from out) w) (rw (part-left out from) at e))
 
--- the 1B that `message` writes
+-- ---- the 1B
+
+-- as `message` writes it
 pub ready-sent : (limit piece number : ℕ) (code out : List ℕ) → sendOf limit (Ready piece) number 0 code out
     ≡ cond (countable (length code)) (writeOf limit 0x1B number 0 (readyPayload piece code) out)
     (output (row 32 []) out)
 unfolding table profileIn
 ready-sent limit piece number code out = refl
+
+-- no answer of the frame writer is under a number above 22
+low-number : (limit number : ℕ) (payload out : List ℕ) → writeOf limit 0x1B number 0 payload out .row .number ≤ 22
+low-number limit number payload out =
+    by-test (λ (w : Output). w .row .number ≤ 22) (ltb limit (length payload + 5)) (λ _. omega arith)
+    (λ _. by-test (λ (w : Output). w .row .number ≤ 22) (ltb (length out) (length (frameOf 0x1B number 0 payload)))
+    (λ _. omega arith) (λ _. omega arith))
+
+low-row : (w : WriteResult) → writeRowOf w .number ≤ 22
+low-row (written.Wrote count) = omega arith
+low-row (written.Unwritten unwritten.Payload) = omega arith
+low-row (written.Unwritten (unwritten.Room needed)) = omega arith
+
+-- and every other answer of `message` is
+high-row : (r : SendResult) → ((w : WriteResult) → r ≢ sending.Written w) → 31 ≤ sendRowOf r .number
+high-row (sending.Written w) h = absurd (h w refl)
+high-row sending.Command h = omega arith
+high-row sending.Size h = omega arith
+high-row sending.Field h = omega arith
+
+module _ (limit piece number : ℕ) (code rest : List ℕ) (small : limit ≤ 65535) where
+  -- a check code that no count can name makes the payload too long
+  uncounted : countable (length code) ≡ false → limit < length (readyPayload piece code) + 5
+  uncounted e = let h = leb-false (length code) 65535 e in omega (arith, h, small, length-append code (two piece []))
+
+  -- the frame writer's answer, and any other
+  module _ (o : List ℕ) where
+    pub ready-written : (w : WriteResult)
+        → output (writeRowOf w) o ≡ sendOf limit (Ready piece) number 0 code rest
+        → output (writeRowOf w) o ≡ writeOf limit 0x1B number 0 (readyPayload piece code) rest
+    ready-written w e =
+        either-way (countable (length code)) (λ c. e ∙ ready-sent limit piece number code rest ∙ rw c)
+        (λ c. let z : writeRowOf w .number ≡ 32 =
+        ap (λ (v : Output). v .row .number) e
+        ∙ ap (λ (v : Output). v .row .number) (ready-sent limit piece number code rest) ∙ rw c in
+        absurd (omega (arith, z, low-row w)))
+
+    pub ready-other : (r : SendResult) → ((w : WriteResult) → r ≢ sending.Written w)
+        → output (sendRowOf r) o ≡ sendOf limit (Ready piece) number 0 code rest
+        → output payloadRow o ≡ writeOf limit 0x1B number 0 (readyPayload piece code) rest
+    ready-other r h e =
+        either-way (countable (length code))
+        (λ c. let z : sendRowOf r .number ≡ writeOf limit 0x1B number 0 (readyPayload piece code) rest .row .number =
+        ap (λ (v : Output). v .row .number) e
+        ∙ ap (λ (v : Output). v .row .number) (ready-sent limit piece number code rest) ∙ rw c in
+        absurd (omega (arith, z, high-row r h, low-number limit number (readyPayload piece code) rest)))
+        (λ c. let q : o ≡ rest =
+        ap (λ (v : Output). v .out) e
+        ∙ ap (λ (v : Output). v .out) (ready-sent limit piece number code rest) ∙ rw c in
+        rw (q, lt-ltb limit (length (readyPayload piece code) + 5) (uncounted c)))
+
+-- the size of a body: length, command, number, flags and sum beside the payload
+body-size : (command number : ℕ) (payload : List ℕ) → length (bodyOf command number 0 payload) ≡ length payload + 7
+unfolding bodyOf
+body-size command number payload = simp length-append (omega arith)
+
+-- ---- both
 
 module _ (limit number next piece : ℕ) (code out : List ℕ) where
   -- the two frames, and the place of the second
@@ -56,16 +123,16 @@ module _ (limit number next piece : ℕ) (code out : List ℕ) where
 
   -- what is written of the second, and what of both
   abbrev sent : Output
-  sent = sendOf limit (Ready piece) next 0 code (drop from out)
+  sent = writeOf limit 0x1B next 0 (readyPayload piece code) (drop from out)
 
   abbrev both : Output
   both = pairOf limit number next piece code out
 
   -- too long; no room; written
   pub data Sent : Type 0 where
-    long : (n : ℕ) (v : List ℕ) → eqb n 0 ≡ false → eqb n 22 ≡ false → sent ≡ output (row n v) (drop from out)
-        → both ≡ output payloadRow out → Sent
-    no-room : sent ≡ output roomRow (drop from out) → both ≡ output roomRow out → Sent
+    long : sent ≡ output payloadRow (drop from out) → both ≡ output payloadRow out → Sent
+    no-room : length (readyPayload piece code) + 5 ≤ limit → sent ≡ output (row 22 (length second ∷ [])) (drop from out)
+        → both ≡ output (row 22 ((length first + length second) ∷ [])) out → Sent
     wrote : sent ≡ output (row 0 (length second ∷ [])) (onto second (drop from out)) → from ≡ length first
         → length first + length second ≤ length out
         → both ≡ output (beganRow (length first + length second) (length first)) (onto (first ++ second) out) → Sent
@@ -81,25 +148,21 @@ module _ (limit number next piece : ℕ) (code out : List ℕ) where
       f (min-cases (length first) (length out) _ (λ h q. q) (λ h q. omega (arith, l, h, q))) l)
 
   module _ (small : limit ≤ 65535) where
-    -- a check code that no count can name makes the payload too long
-    uncounted : countable (length code) ≡ false → limit < length (readyPayload piece code) + 5
-    uncounted e = let h = leb-false (length code) 65535 e in omega (arith, h, small, length-append code (two piece []))
-
     too-long : limit < length (readyPayload piece code) + 5 → both ≡ output payloadRow out
     too-long h = rw (lt-ltb limit (length (readyPayload piece code) + 5) h)
 
     -- where it is not, the room decides
-    module _ (c : countable (length code) ≡ true) (h : length (readyPayload piece code) + 5 ≤ limit) where
+    module _ (h : length (readyPayload piece code) + 5 ≤ limit) where
       sent-placed : sent ≡ placed second (drop from out)
-      sent-placed =
-          ready-sent limit piece next code (drop from out)
-          ∙ rw (c, le-ltb limit (length (readyPayload piece code) + 5) h)
+      sent-placed = rw (le-ltb limit (length (readyPayload piece code) + 5) h)
 
-      roomless : length out < length first + length second → both ≡ output roomRow out
+      roomless : length out < length first + length second
+          → both ≡ output (row 22 ((length first + length second) ∷ [])) out
       roomless q =
           rw (
             le-ltb limit (length (readyPayload piece code) + 5) h,
             lt-ltb (length out) (length (first ++ second)) (rw length-append q),
+            length-append first second,
           )
 
       roomy : length first + length second ≤ length out
@@ -113,7 +176,7 @@ module _ (limit number next piece : ℕ) (code out : List ℕ) where
 
       not-sent : length (drop from out) < length second → Sent
       not-sent q =
-          no-room (sent-placed ∙ rw (lt-ltb (length (drop from out)) (length second) q))
+          no-room h (sent-placed ∙ rw (lt-ltb (length (drop from out)) (length second) q))
           (roomless (from-cases (λ e l. omega (arith, q, e, l, length-drop from out)) (λ e l. omega (arith, l))))
 
       is-sent : length second ≤ length (drop from out) → Sent
@@ -125,24 +188,20 @@ module _ (limit number next piece : ℕ) (code out : List ℕ) where
 
     pub sent-cases : Sent
     sent-cases =
-        either-way (countable (length code))
-        (λ c. either-way (ltb limit (length (readyPayload piece code) + 5))
-        (λ e. long 21 (0 ∷ []) refl refl
-        (ready-sent limit piece next code (drop from out) ∙ rw (c, e))
-        (too-long (ltb-true limit (length (readyPayload piece code) + 5) e)))
+        either-way (ltb limit (length (readyPayload piece code) + 5))
+        (λ e. long (rw e) (too-long (ltb-true limit (length (readyPayload piece code) + 5) e)))
         (λ e. let h = ltb-false limit (length (readyPayload piece code) + 5) e in
         either-way (ltb (length (drop from out)) (length second))
-        (λ r. not-sent c h (ltb-true (length (drop from out)) (length second) r))
-        (λ r. is-sent c h (ltb-false (length (drop from out)) (length second) r))))
-        (λ c. long 32 [] refl refl (ready-sent limit piece next code (drop from out) ∙ rw c) (too-long (uncounted c)))
+        (λ r. not-sent h (ltb-true (length (drop from out)) (length second) r))
+        (λ r. is-sent h (ltb-false (length (drop from out)) (length second) r)))
 
     -- ---- what the call answers, by the row of the second; `at` and `ready` are the places that the code found
 
     pub at-from : (ready at : ℕ) → ready ≡ length first → at ≡ min ready (length out) → (v : Output)
-        → v ≡ after (take at out) (sendOf limit (Ready piece) next 0 code (drop at out)) → v
-        ≡ after (take from out) sent
+        → v ≡ after (take at out) (writeOf limit 0x1B next 0 (readyPayload piece code) (drop at out))
+        → v ≡ after (take from out) sent
     at-from ready at r q v e =
-        subst (λ k. v ≡ after (take k out) (sendOf limit (Ready piece) next 0 code (drop k out)))
+        subst (λ k. v ≡ after (take k out) (writeOf limit 0x1B next 0 (readyPayload piece code) (drop k out)))
         (q ∙ ap (λ k. min k (length out)) r) e
 
     -- the rest of the output, where it was not written
@@ -151,47 +210,65 @@ module _ (limit number next piece : ℕ) (code out : List ℕ) where
     rejoined a e q =
         ap (λ (v : Output). v .out) e ∙ ap (λ (l : List ℕ). take from out ++ l) q ∙ take-append-drop from out
 
-    pub pair-long : (a : Row) (o : List ℕ) → eqb (a .number) 0 ≡ false → eqb (a .number) 22 ≡ false
-        → output a o ≡ after (take from out) sent → output payloadRow o ≡ both
-    pair-long a o z t e = go sent-cases
-      where
-        numbers : (n : ℕ) (v l : List ℕ) → sent ≡ output (row n v) l → a .number ≡ n
-        numbers n v l q = ap (λ (w : Output). w .row .number) (e ∙ ap (λ (w : Output). after (take from out) w) q)
+    -- a refusal of the second is one of both
+    module _ (why : Unwritten) (o : List ℕ) (e : output (unwrittenRowOf why) o ≡ after (take from out) sent) where
+      shown : {w : Output} → sent ≡ w → unwrittenRowOf why ≡ w .row
+      shown q = ap (λ (v : Output). v .row) (e ∙ ap (λ (w : Output). after (take from out) w) q)
 
-        go : Sent → output payloadRow o ≡ both
-        go (long n v h k s b) = ap (λ (l : List ℕ). output payloadRow l) (rejoined a e (ap (λ (w : Output). w .out) s))
-            ∙ sym b
-        go (no-room s b) = absurd (true≢false (sym (eq-eqb (a .number) 22 (numbers 22 _ _ s)) ∙ t))
-        go (wrote s f l b) = absurd (true≢false (sym (eq-eqb (a .number) 0 (numbers 0 _ _ s)) ∙ z))
+      -- it is none that was written
+      not-written : {A : Type 0} → unwrittenRowOf why .number ≡ 0 → A
+      not-written z =
+          absurd (true≢false (sym (eq-eqb (unwrittenRowOf why .number) 0 z) ∙ unwritten-refuses why))
 
-    pub pair-room : (o : List ℕ) → output roomRow o ≡ after (take from out) sent → output roomRow o ≡ both
-    pair-room o e = go sent-cases
-      where
-        numbers : (n : ℕ) (v l : List ℕ) → sent ≡ output (row n v) l → 22 ≡ n
-        numbers n v l q = ap (λ (w : Output). w .row .number) (e ∙ ap (λ (w : Output). after (take from out) w) q)
+      pub pair-needed : length first + neededIn (unwrittenRowOf why) ≤ 2 ^ 20
+      pair-needed = go sent-cases
+        where
+          least : length first ≤ 16
+          least = at-most-16 0x1A number
 
-        go : Sent → output roomRow o ≡ both
-        go (long n v h k s b) = absurd (true≢false (sym (eq-eqb n 22 (sym (numbers n v _ s))) ∙ k))
-        go (no-room s b) = ap (λ (l : List ℕ). output roomRow l) (rejoined roomRow e (ap (λ (w : Output). w .out) s))
-            ∙ sym b
-        go (wrote s f l b) = let z = numbers 0 _ _ s in absurd (omega (arith, z))
+          go : Sent → length first + neededIn (unwrittenRowOf why) ≤ 2 ^ 20
+          go (long s b) = rw (ap neededIn (shown s)) (omega (arith, least))
+          go (no-room h s b) =
+              let most = stuffed-form (bodyOf 0x1B next 0 (readyPayload piece code)) .at-most-twice in
+              rw (ap neededIn (shown s))
+              (omega (arith, least, most, body-size 0x1B next (readyPayload piece code), h, small))
+          go (wrote s f l b) = not-written (ap (λ (r : Row). r .number) (shown s))
+
+      pub pair-refused : (r : Row) → r ≡ withFirst (length first) (unwrittenRowOf why) → output r o ≡ both
+      pair-refused r q = go sent-cases
+        where
+          as-row : {w : Output} → sent ≡ w → r ≡ withFirst (length first) (w .row)
+          as-row s = q ∙ ap (withFirst (length first)) (shown s)
+
+          go : Sent → output r o ≡ both
+          go (long s b) =
+              ap (λ (a : Row). output a o) (as-row s)
+              ∙ ap (λ (l : List ℕ). output payloadRow l)
+              (rejoined (unwrittenRowOf why) e (ap (λ (w : Output). w .out) s))
+              ∙ sym b
+          go (no-room h s b) =
+              ap (λ (a : Row). output a o) (as-row s)
+              ∙ ap (λ (l : List ℕ). output (row 22 ((length first + length second) ∷ [])) l)
+              (rejoined (unwrittenRowOf why) e (ap (λ (w : Output). w .out) s))
+              ∙ sym b
+          go (wrote s f l b) = not-written (ap (λ (r : Row). r .number) (shown s))
 
     -- the first goes before the second
     module _ (l : length first + length second ≤ length out) (enough : 5 ≤ limit) where
-      abbrev behind : List ℕ
-      behind = take (length first) out ++ onto second (drop (length first) out)
+      abbrev second-put : List ℕ
+      second-put = take (length first) out ++ onto second (drop (length first) out)
 
       front-size : length (take (length first) out) ≡ length first
       front-size = length-take-le (length first) out (omega (arith, l))
 
-      front-room : length first ≤ length behind
+      front-room : length first ≤ length second-put
       front-room = rw length-append (omega (arith, front-size))
 
-      put-first : writeOf limit 0x1A number 0 [] behind .out ≡ onto (first ++ second) out
+      put-first : writeOf limit 0x1A number 0 [] second-put .out ≡ onto (first ++ second) out
       put-first =
           rw (
             le-ltb limit 5 enough,
-            le-ltb (length behind) (length first) front-room,
+            le-ltb (length second-put) (length first) front-room,
             drop-at (take (length first) out) (onto second (drop (length first) out)) (length first) front-size,
             drop-drop (length second) (length first) out,
           )
@@ -206,8 +283,8 @@ module _ (limit number next piece : ℕ) (code out : List ℕ) where
         numbers n v l q = ap (λ (w : Output). w .row .number) (e ∙ ap (λ (w : Output). after (take from out) w) q)
 
         go : Sent → length first + count ≤ length out
-        go (long n v h k s b) = absurd (true≢false (sym (eq-eqb n 0 (sym (numbers n v _ s))) ∙ h))
-        go (no-room s b) = let z = numbers 22 _ _ s in absurd (omega (arith, z))
+        go (long s b) = let z = numbers 21 _ _ s in absurd (omega (arith, z))
+        go (no-room h s b) = let z = numbers 22 _ _ s in absurd (omega (arith, z))
         go (wrote s f l b) =
             let c : count ≡ length second =
             ap (λ (w : Output). writtenIn (w .row)) (e ∙ ap (λ (w : Output). after (take from out) w) s) in
@@ -222,24 +299,14 @@ module _ (limit number next piece : ℕ) (code out : List ℕ) where
         numbers n v l q = ap (λ (w : Output). w .row .number) (e ∙ ap (λ (w : Output). after (take from out) w) q)
 
         go : Sent → output (beganRow (length first + count) (length first)) made ≡ both
-        go (long n v h k s b) = absurd (true≢false (sym (eq-eqb n 0 (sym (numbers n v _ s))) ∙ h))
-        go (no-room s b) = let z = numbers 22 _ _ s in absurd (omega (arith, z))
+        go (long s b) = let z = numbers 21 _ _ s in absurd (omega (arith, z))
+        go (no-room h s b) = let z = numbers 22 _ _ s in absurd (omega (arith, z))
         go (wrote s f l b) =
             let all = e ∙ ap (λ (w : Output). after (take from out) w) s in
             let counted : count ≡ length second = ap (λ (w : Output). writtenIn (w .row)) all in
-            let held : o ≡ behind l enough =
+            let held : o ≡ second-put l enough =
             ap (λ (w : Output). w .out) all ∙ ap (λ k. take k out ++ onto second (drop k out)) f in
             let put : made ≡ onto (first ++ second) out =
             ap (λ (w : Output). w .out) m ∙ ap (λ (x : List ℕ). writeOf limit 0x1A number 0 [] x .out) held
             ∙ put-first l enough in
             rw (counted, put) (sym b)
-
--- an answer of `message` that is neither the count nor ROOM
-pub sent-other : (r : SendResult) → ((count : ℕ) → r ≢ sending.Wrote count) → r ≢ sending.Room
-    → (eqb (sendRowOf r .number) 0 ≡ false) × (eqb (sendRowOf r .number) 22 ≡ false)
-sent-other (sending.Wrote count) h k = absurd (h count refl)
-sent-other sending.Payload h k = (refl, refl)
-sent-other sending.Room h k = absurd (k refl)
-sent-other sending.Command h k = (refl, refl)
-sent-other sending.Size h k = (refl, refl)
-sent-other sending.Field h k = (refl, refl)

@@ -11,7 +11,7 @@ use lib.Dec.{eqb, ltb}
 use lib.ListN.{length, getD, take, drop, length-append}
 use lib.Seq.{take-at}
 use Rattle.base.specs.Rows.{Row, row}
-use Rattle.base.specs.Outcomes.{Output, output, onto}
+use Rattle.base.specs.Outcomes.{Output, output, onto, rowed}
 use Rattle.base.proofs.Lists.{append-cancel}
 use Rattle.base.proofs.Rows.{refused}
 use Rattle.base.specs.Numbers.{two}
@@ -36,7 +36,7 @@ use Rattle.message.proofs.WrittenRead.{written-read}
 use Rattle.transfer.specs.Payloads.{faulty, sizeIn, codeIn}
 use Rattle.transfer.specs.Checks.{firstRefusal, beginTests}
 use Rattle.transfer.specs.Table.{payloadRow, beganRow}
-use Rattle.transfer.specs.Writing.{rowed, readyPayload, pairWire, pairOf}
+use Rattle.transfer.specs.Writing.{readyPayload, pairWire, pairOf}
 use Rattle.transfer.specs.Calls.{Left, Both, both, beginBy}
 use Rattle.transfer.specs.PairRead.{IsAccept, IsReady, Pair, Begins, PairBack, PairRead, PairAmong, PairAnywhere}
 use Rattle.transfer.specs.declared.state.Transfer.the-variants.{Open}
@@ -67,7 +67,7 @@ module _ (limit number next piece : ℕ) (code out : List ℕ) (at count : ℕ) 
       written large narrow =
           rowed (λ n. beganRow n (length (frameOf 0x1A number 0 [])))
           (cond large (output payloadRow out)
-          (cond narrow (output (row 22 (0 ∷ [])) out) (output (row 0 (length w ∷ [])) (onto w out))))
+          (cond narrow (output (row 22 (length w ∷ [])) out) (output (row 0 (length w ∷ [])) (onto w out))))
 
       go : (large narrow : Bool) → ltb limit (length (readyPayload piece code) + 5) ≡ large
           → written large narrow .row ≡ accepted

@@ -9,7 +9,7 @@ use lib.Dec.{eqb, ltb}
 use lib.ListN.{length}
 use Rattle.base.specs.Keys.{among}
 use Rattle.base.specs.Rows.{Row, row}
-use Rattle.base.specs.Outcomes.{Output, output, onto, placed}
+use Rattle.base.specs.Outcomes.{Output, output, onto, placed, rowed}
 use Rattle.base.proofs.Tests.{by-test, either-way}
 use Rattle.frame.specs.Wire.{frameOf}
 use Rattle.frame.specs.Calls.{writeOf}
@@ -19,7 +19,7 @@ use Rattle.transfer.specs.Payloads.{faulty, sizeIn, codeIn, indexIn, tot
 use Rattle.transfer.specs.Table.{payloadRow, wroteRow, beganRow}
 use Rattle.transfer.specs.Checks.{Test, firstRefusal, inRangeOf, pieceTests, beginTests, storeTests, stopTests}
 use Rattle.transfer.specs.Checks.{cancelTests}
-use Rattle.transfer.specs.Writing.{rowed, acknowledged, rejectionOf, refusedOf, readyPayload, pairWire, pairOf}
+use Rattle.transfer.specs.Writing.{acknowledged, rejectionOf, refusedOf, readyPayload, pairWire, pairOf}
 use Rattle.transfer.specs.Calls.{Left, left, settled, Both, both, held, putIn, cancelOf}
 use Rattle.transfer.specs.Refusals.{silent, twelve, Kept, RefusedAlways}
 use Rattle.transfer.specs.declared.state.Transfer.{Transfer}

@@ -27,6 +27,9 @@ worked-transfers =
       again = record { rows-are = refl; progress-is = refl; transfer-is = refl; buffer-is = refl };
       cancelled = record { rows-are = refl; progress-is = refl; transfer-is = refl; buffer-is = refl };
       pair = refl;
+      pair-short = refl;
+      rejection-short = refl;
+      pair-asked = refl;
       one-piece = refl;
       a-rejection = refl;
       a-stop = refl;

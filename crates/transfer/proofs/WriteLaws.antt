@@ -1,20 +1,19 @@
 -- What is written, and its row. Assumes nothing.
-use Prim.Native.Nat.{ℕ, _≤_}
-use mathlib.Core.Path.{_≡_, refl, ap, subst, _∙_}
+use Prim.Native.Nat.{ℕ, _≤_, _<_}
+use mathlib.Core.Path.{_≡_, refl, ap, subst}
 use mathlib.Core.Bool.{false}
 use mathlib.Core.List.{List, [], _∷_}
 use native.Mathlib.Omega.{arith}
-use borrow.Author.Tests.{le-ltb, ltb-true}
+use borrow.Author.Tests.{lt-ltb, le-ltb}
 use lib.Dec.{eqb, ltb}
 use lib.ListN.{length}
 use Rattle.base.specs.Rows.{Row, row}
-use Rattle.base.specs.Outcomes.{Output, output, writtenIn, placed}
-use Rattle.base.proofs.Tests.{by-test}
+use Rattle.base.specs.Outcomes.{Output, output, neededIn, rowed}
 use Rattle.frame.specs.Wire.{bodyOf, frameOf}
 use Rattle.frame.specs.Calls.{writeOf}
 use Rattle.frame.proofs.Stuffing.{stuffed-form}
-use Rattle.transfer.specs.Table.{refusalNumber, payloadRow, roomRow}
-use Rattle.transfer.specs.Writing.{rowed, rejectionOf, refusedOf}
+use Rattle.transfer.specs.Table.{refusalNumber}
+use Rattle.transfer.specs.Writing.{rejectionOf, refusedOf}
 use Rattle.transfer.specs.declared.answers.Refusal.{Refusal}
 use Rattle.transfer.specs.declared.answers.Refusal.the-variants as refusal
 
@@ -53,44 +52,18 @@ refused-with limit refusal.Pieces number out = refl
 refused-with limit refusal.Turn number out = refl
 refused-with limit refusal.Piece number out = refl
 
--- an empty payload is not too long
-pub not-long : (limit command number : ℕ) (out o : List ℕ) → 5 ≤ limit
-    → output payloadRow o ≡ writeOf limit command number 0 [] out → ⊥
-not-long limit command number out o h e =
-    let n : 21 ≡ writeOf limit command number 0 [] out .row .number = ap (λ (w : Output). w .row .number) e in
-    room-or-written (rw (le-ltb limit 5 h) at n)
-  where
-    room-or-written : 21 ≡ placed (frameOf command number 0 []) out .row .number → ⊥
-    room-or-written n =
-        by-test (λ (w : Output). 21 ≡ w .row .number → ⊥) (ltb (length out) (length (frameOf command number 0 [])))
-        (λ _ q. let z : _≡_ {A = ℕ} 21 22 = q in absurd (omega arith))
-        (λ _ q. let z : _≡_ {A = ℕ} 21 0 = q in absurd (omega arith)) n
-
 -- ---- a frame without payload
 
-module _ (limit command number : ℕ) (enough : 5 ≤ limit) where
-  placed-as : (out : List ℕ) → writeOf limit command number 0 [] out ≡ placed (frameOf command number 0 []) out
-  placed-as out = rw (le-ltb limit 5 enough)
-
-  -- the count that is returned is its size
-  pub counted : (count : ℕ) (o out : List ℕ) → output (row 0 (count ∷ [])) o ≡ writeOf limit command number 0 [] out
-      → count ≡ length (frameOf command number 0 [])
-  counted count o out e =
-      by-test (λ (w : Output). output (row 0 (count ∷ [])) o ≡ w → count ≡ length (frameOf command number 0 []))
-      (ltb (length out) (length (frameOf command number 0 [])))
-      (λ _ q. let z : _≡_ {A = ℕ} 0 22 = ap (λ (w : Output). w .row .number) q in absurd (omega (arith, z)))
-      (λ _ q. ap (λ (w : Output). writtenIn (w .row)) q)
-      (e ∙ placed-as out)
+module _ (command number : ℕ) where
+  -- asked with no room, the writer says its size
+  pub asked : (limit : ℕ) → 5 ≤ limit → (o : List ℕ) {r : Row} → output r o ≡ writeOf limit command number 0 [] []
+      → neededIn r ≡ length (frameOf command number 0 [])
+  asked limit enough o e =
+      let size : ℕ = length (frameOf command number 0 []) in
+      let some : 0 < size = omega arith in
+      ap (λ (w : Output). neededIn (w .row)) (rw (le-ltb limit 5 enough, lt-ltb 0 size some) at e)
 
   -- it has at most 16 bytes: two, and each of seven perhaps twice
   pub at-most-16 : length (frameOf command number 0 []) ≤ 16
   unfolding bodyOf
   at-most-16 = let h = stuffed-form (bodyOf command number 0 []) .at-most-twice in omega (arith, h)
-
-  pub has-room : (o out : List ℕ) → length out ≡ 16 → output roomRow o ≡ writeOf limit command number 0 [] out → ⊥
-  has-room o out l e =
-      by-test (λ (w : Output). output roomRow o ≡ w → ⊥) (ltb (length out) (length (frameOf command number 0 [])))
-      (λ h _. let t = ltb-true (length out) (length (frameOf command number 0 [])) h in
-      absurd (omega (arith, t, l, at-most-16)))
-      (λ _ q. let z : _≡_ {A = ℕ} 22 0 = ap (λ (w : Output). w .row .number) q in absurd (omega (arith, z)))
-      (e ∙ placed-as out)

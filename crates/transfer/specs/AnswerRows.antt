@@ -4,6 +4,7 @@ use Prim.Native.Nat.{ℕ}
 use mathlib.Core.Path.{_≡_}
 use mathlib.Core.List.{List, [], _∷_, map}
 use Rattle.base.specs.Rows.{row}
+use Rattle.base.specs.declared.writes.Unwritten.the-variants as unwritten
 use Rattle.transfer.specs.Table.{refusalNumber, checkNumber, arriveRowOf, cancelRowOf, progressRowOf, pairRowOf}
 use Rattle.transfer.specs.Calls.{Left, Both, Held, begunOf, storedOf, arrivedOf, cancelledOf}
 use Rattle.transfer.specs.declared.state.Transfer.{Transfer}
@@ -42,13 +43,15 @@ pub record NamedRows (n r : ℕ) : Type 0 where
       ≡ map (λ k. row k (n ∷ [])) (32 ∷ 61 ∷ 62 ∷ 64 ∷ 63 ∷ 65 ∷ 66 ∷ [])
   pub arrivals :
       map arriveRowOf
-      (arrived.Began n r ∷ arrived.Stored n ∷ arrived.Stopped n ∷ arrived.State ∷ arrived.Busy ∷ arrived.Payload
-      ∷ arrived.Room ∷ [])
+      (arrived.Began n r ∷ arrived.Stored n ∷ arrived.Stopped n ∷ arrived.State ∷ arrived.Busy
+      ∷ arrived.Unwritten unwritten.Payload ∷ arrived.Unwritten (unwritten.Room n) ∷ [])
       ≡ row 0 (n ∷ 26 ∷ r ∷ []) ∷ row 0 (n ∷ 30 ∷ []) ∷ row 0 (n ∷ 32 ∷ []) ∷ row 17 (0 ∷ []) ∷ row 41 []
-      ∷ row 21 (0 ∷ []) ∷ row 22 (0 ∷ []) ∷ []
+      ∷ row 21 (0 ∷ []) ∷ row 22 (n ∷ []) ∷ []
   pub cancels :
-      map cancelRowOf (cancelled.Sent n ∷ cancelled.State ∷ cancelled.Busy ∷ cancelled.Room ∷ [])
-      ≡ row 0 (n ∷ 39 ∷ []) ∷ row 17 (0 ∷ []) ∷ row 41 [] ∷ row 22 (0 ∷ []) ∷ []
+      map cancelRowOf
+      (cancelled.Sent n ∷ cancelled.State ∷ cancelled.Busy ∷ cancelled.Unwritten unwritten.Payload
+      ∷ cancelled.Unwritten (unwritten.Room n) ∷ [])
+      ≡ row 0 (n ∷ 39 ∷ []) ∷ row 17 (0 ∷ []) ∷ row 41 [] ∷ row 21 (0 ∷ []) ∷ row 22 (n ∷ []) ∷ []
   pub progresses :
       map progressRowOf (progress.Absent ∷ progress.Open n r ∷ progress.State ∷ [])
       ≡ row 0 [] ∷ row 0 (n ∷ r ∷ []) ∷ row 17 (0 ∷ []) ∷ []
@@ -57,8 +60,8 @@ pub record NamedRows (n r : ℕ) : Type 0 where
       map checkNumber (check.Accepted ∷ check.State ∷ check.Busy ∷ check.Refused refusal.Turn ∷ []) ≡ 0 ∷ 17 ∷ 41 ∷ 65
       ∷ []
   pub pairs :
-      map pairRowOf (pair.Wrote n r ∷ pair.Payload ∷ pair.Room ∷ [])
-      ≡ row 0 (n ∷ 26 ∷ r ∷ []) ∷ row 21 (0 ∷ []) ∷ row 22 (0 ∷ []) ∷ []
+      map pairRowOf (pair.Wrote n r ∷ pair.Unwritten unwritten.Payload ∷ pair.Unwritten (unwritten.Room n) ∷ [])
+      ≡ row 0 (n ∷ 26 ∷ r ∷ []) ∷ row 21 (0 ∷ []) ∷ row 22 (n ∷ []) ∷ []
 
 -- of all counts
 abbrev pub RowsNamed : Type 0

@@ -26,12 +26,13 @@ use Rattle.transfer.specs.declared.state.Transfer.the-variants.{Absent, 
 pub record Rejected (S : Type 0) (n number : ℕ) (out : List ℕ) (before : S) (y : Left S) : Type 0 where
   pub fits : length (twelve number) ≤ length out
       → y ≡ left (output (row n (length (twelve number) ∷ [])) (onto (twelve number) out)) before
-  pub room : length out < length (twelve number) → y ≡ left (output (row 22 (0 ∷ [])) out) before
+  pub room : length out < length (twelve number)
+      → y ≡ left (output (row 22 (length (twelve number) ∷ [])) out) before
 
 -- some bytes, and a row of their count; or ROOM, and all is as it was
 pub record Written (S : Type 0) (bytes values out : List ℕ) (before next : S) (y : Left S) : Type 0 where
   pub fits : length bytes ≤ length out → y ≡ left (output (row 0 (length bytes ∷ values)) (onto bytes out)) next
-  pub room : length out < length bytes → y ≡ left (output (row 22 (0 ∷ [])) out) before
+  pub room : length out < length bytes → y ≡ left (output (row 22 (length bytes ∷ [])) out) before
 
 -- a command without payload
 abbrev pub Sent : (S : Type 0) → ℕ → ℕ → List ℕ → S → S → Left S → Type 0

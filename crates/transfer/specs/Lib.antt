@@ -16,6 +16,7 @@ pub mod Ranges
 pub mod Refusals
 pub mod PayloadNever
 pub mod EachCall
+pub mod Asking
 pub mod PiecesExact
 pub mod PayloadsExact
 pub mod AnswerRows

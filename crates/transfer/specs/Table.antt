@@ -2,6 +2,7 @@
 use Prim.Native.Nat.{ℕ}
 use mathlib.Core.List.{[], _∷_}
 use Rattle.base.specs.Rows.{Row, row}
+use Rattle.base.specs.Writes.{unwrittenRowOf}
 use Rattle.transfer.specs.declared.answers.Refusal.{Refusal}
 use Rattle.transfer.specs.declared.answers.Refusal.the-variants as refusal
 use Rattle.transfer.specs.declared.answers.ArriveResult.{ArriveResult}
@@ -28,10 +29,6 @@ busyRow = row 41 []
 -- PAYLOAD: PROTOCOL 6.3
 abbrev pub payloadRow : Row
 payloadRow = row 21 (0 ∷ [])
-
--- ROOM: PROTOCOL 6.4
-abbrev pub roomRow : Row
-roomRow = row 22 (0 ∷ [])
 
 -- a command was written: how many bytes, and which command
 abbrev pub wroteRow : ℕ → ℕ → Row
@@ -70,15 +67,14 @@ arriveRowOf (arrived.Stopped count) = wroteRow 0x20 count
 arriveRowOf (arrived.Refused count why) = row (refusalNumber why) (count ∷ [])
 arriveRowOf arrived.State = stateRow
 arriveRowOf arrived.Busy = busyRow
-arriveRowOf arrived.Payload = payloadRow
-arriveRowOf arrived.Room = roomRow
+arriveRowOf (arrived.Unwritten why) = unwrittenRowOf why
 
 -- to a cancel
 abbrev pub cancelRowOf : CancelResult → Row
 cancelRowOf (cancelled.Sent count) = wroteRow 0x27 count
 cancelRowOf cancelled.State = stateRow
 cancelRowOf cancelled.Busy = busyRow
-cancelRowOf cancelled.Room = roomRow
+cancelRowOf (cancelled.Unwritten why) = unwrittenRowOf why
 
 -- to a question for the progress: the bytes stored, and the bytes announced
 abbrev pub progressRowOf : ProgressResult → Row
@@ -89,5 +85,4 @@ progressRowOf progress.State = stateRow
 -- of the inner call that writes a pair
 abbrev pub pairRowOf : PairResult → Row
 pairRowOf (pair.Wrote count ready) = beganRow count ready
-pairRowOf pair.Payload = payloadRow
-pairRowOf pair.Room = roomRow
+pairRowOf (pair.Unwritten why) = unwrittenRowOf why

@@ -133,12 +133,12 @@ pub record WorkedTransfers : Type 0 where
       (row 0 (10 ∷ 10 ∷ [])) (Open 10 4 3) (1 ∷ 2 ∷ 3 ∷ 4 ∷ 5 ∷ 6 ∷ 7 ∷ 8 ∷ 9 ∷ 10 ∷ 7 ∷ 7 ∷ [])
   pub again :
       Leaves againCalls
-      (began ∷ stored ∷ row 41 [] ∷ refused 61 ∷ row 22 (0 ∷ []) ∷ stored ∷ began ∷ refused 65 ∷ stored ∷ [])
+      (began ∷ stored ∷ row 41 [] ∷ refused 61 ∷ row 22 (24 ∷ []) ∷ stored ∷ began ∷ refused 65 ∷ stored ∷ [])
       (row 0 (4 ∷ 10 ∷ [])) (Open 10 4 1) (11 ∷ 12 ∷ 13 ∷ 14 ∷ 5 ∷ 6 ∷ 7 ∷ 8 ∷ 7 ∷ 7 ∷ 7 ∷ 7 ∷ [])
   pub cancelled :
       Leaves cancelCalls
-      (began ∷ stored ∷ row 41 [] ∷ row 22 (0 ∷ []) ∷ row 0 (9 ∷ 39 ∷ []) ∷ refused 65 ∷ began ∷ refused 32
-      ∷ row 22 (0 ∷ []) ∷ row 0 (9 ∷ 32 ∷ []) ∷ row 0 (9 ∷ 32 ∷ []) ∷ row 0 (9 ∷ 39 ∷ []) ∷ [])
+      (began ∷ stored ∷ row 41 [] ∷ row 22 (9 ∷ []) ∷ row 0 (9 ∷ 39 ∷ []) ∷ refused 65 ∷ began ∷ refused 32
+      ∷ row 22 (9 ∷ []) ∷ row 0 (9 ∷ 32 ∷ []) ∷ row 0 (9 ∷ 32 ∷ []) ∷ row 0 (9 ∷ 39 ∷ []) ∷ [])
       (row 0 []) Absent (1 ∷ 2 ∷ 3 ∷ 4 ∷ 7 ∷ 7 ∷ 7 ∷ 7 ∷ 7 ∷ 7 ∷ 7 ∷ 7 ∷ [])
   -- 1A under 5, and 1B under 3 with the code and the piece size; the link waits for the 1B
   pub pair :
@@ -146,6 +146,13 @@ pub record WorkedTransfers : Type 0 where
       ≡ left (output began (0xFF ∷ 0xFF ∷ 0 ∷ 5 ∷ 0x1A ∷ 5 ∷ 0 ∷ 0 ∷ 0x24
       ∷ 0xFF ∷ 0xFF ∷ 0 ∷ 11 ∷ 0x1B ∷ 3 ∷ 0 ∷ 0 ∷ 0 ∷ 2 ∷ 0xAB ∷ 0xCD ∷ 0 ∷ 4 ∷ 0xA7 ∷ replicate 6 9))
       (both (Open 10 4 0) (linkOf 4 (Waiting 0x1B 3 1000 0)))
+  -- one byte short of both, or of a 12, ROOM has the size, and all is as it was; no room at all, under numbers FF
+  pub pair-short :
+      beginOf 1024 0 2 Absent idle 1000 5 tenBytes 4 12 (replicate 23 9)
+      ≡ left (output (row 22 (24 ∷ [])) (replicate 23 9)) (both Absent idle)
+  pub rejection-short :
+      stopOf 1024 Absent 4 (1 ∷ []) (replicate 9 9) ≡ left (output (row 22 (10 ∷ [])) (replicate 9 9)) Absent
+  pub pair-asked : beginOf 1024 0 2 Absent (linkOf 255 Idle) 1000 255 tenBytes 4 12 [] .row ≡ row 22 (26 ∷ [])
   pub one-piece :
       storeOf 1024 (Open 10 4 1) 6 0 (0 ∷ 2 ∷ 0 ∷ 3 ∷ 5 ∷ 6 ∷ 7 ∷ 8 ∷ []) buffer output30
       ≡ left (output stored (0xFF ∷ 0xFF ∷ 0 ∷ 5 ∷ 0x1E ∷ 6 ∷ 0 ∷ 0 ∷ 0x29 ∷ replicate 21 9))

@@ -5,16 +5,12 @@ use mathlib.Core.List.{List, [], _∷_, _++_}
 use lib.Dec.{eqb, ltb}
 use lib.ListN.{length}
 use Rattle.base.specs.Rows.{Row, row}
-use Rattle.base.specs.Outcomes.{Output, output, writtenIn, placed}
+use Rattle.base.specs.Outcomes.{Output, output, neededIn, placed, rowed}
 use Rattle.frame.specs.Wire.{frameOf}
 use Rattle.frame.specs.Calls.{writeOf}
 use Rattle.message.specs.Messages.{payloadIn}
 use Rattle.message.specs.declared.values.Message.the-variants.{Ready}
 use Rattle.transfer.specs.Table.{stateRow, busyRow, payloadRow, wroteRow, beganRow}
-
--- a write that is not refused, with another row for its count
-abbrev pub rowed : (ℕ → Row) → Output → Output
-rowed f w = cond (eqb (w .row .number) 0) (output (f (writtenIn (w .row))) (w .out)) w
 
 -- an output after a front that stays
 abbrev pub after : List ℕ → Output → Output
@@ -47,7 +43,11 @@ readyPayload piece code = payloadIn (Ready piece) code
 abbrev pub pairWire : ℕ → ℕ → ℕ → List ℕ → List ℕ
 pairWire number next piece code = frameOf 0x1A number 0 [] ++ frameOf 0x1B next 0 (readyPayload piece code)
 
--- both or neither; PAYLOAD before ROOM
+-- the refusal of a second frame, as one of both: ROOM needs the first too
+abbrev pub withFirst : ℕ → Row → Row
+withFirst first r = cond (eqb (r .number) 22) (row 22 ((first + neededIn r) ∷ [])) r
+
+-- both or neither; PAYLOAD before ROOM, which has the size of both: PROTOCOL 6.12
 abbrev pub pairOf : ℕ → ℕ → ℕ → ℕ → List ℕ → List ℕ → Output
 pairOf limit number next piece code out =
     rowed (λ count. beganRow count (length (frameOf 0x1A number 0 [])))

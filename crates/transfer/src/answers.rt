@@ -1,5 +1,6 @@
 // The answers to a received 19, 1D or 1F. PROTOCOL 15.10 to 15.12.
 use super::state::Transfer;
+use base::Unwritten;
 ghost use mathlib.Core.Path.{_≡_};
 ghost use Rattle.transfer.specs.Table.{refusalNumber, checkNumber};
 
@@ -28,10 +29,9 @@ pub enum ArriveResult {
     State,
     // BUSY 41: a command waits already.
     Busy,
-    // PAYLOAD 21: the 1B would have a payload longer than any frame's.
-    Payload,
-    // ROOM 22: the output is too small for what would be written.
-    Room,
+    // PAYLOAD 21: the 1B would have a payload longer than any frame's. ROOM 22: the output is too small for what would
+    // be written, both frames of a pair together.
+    Unwritten { why: Unwritten },
 }
 
 // The answer to a received 1D or 1F, with the transfer after it.

@@ -116,13 +116,8 @@ fn accept(
             },
             link: next,
         },
-        PairResult::Payload => Begun {
-            answer: ArriveResult::Payload,
-            transfer,
-            link,
-        },
-        PairResult::Room => Begun {
-            answer: ArriveResult::Room,
+        PairResult::Unwritten { why } => Begun {
+            answer: ArriveResult::Unwritten { why },
             transfer,
             link,
         },

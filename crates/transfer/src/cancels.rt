@@ -3,7 +3,8 @@ use super::begins::is_busy;
 use super::state::Transfer;
 use super::state::in_range;
 use super::writes::write_empty;
-use frame::WriteResult;
+use base::Unwritten;
+use base::WriteResult;
 use link::Link;
 ghost use mathlib.Core.Path.{_≡_};
 ghost use Rattle.frame.specs.Wire.{frameLimit};
@@ -19,8 +20,8 @@ pub enum CancelResult {
     State,
     // BUSY 41: a command waits already.
     Busy,
-    // ROOM 22: the output is too small for the 27.
-    Room,
+    // ROOM 22: the output is too small for the 27. It is never PAYLOAD.
+    Unwritten { why: Unwritten },
 }
 
 pub struct Cancelled {
@@ -42,14 +43,8 @@ fn accept(transfer: Transfer, link: Link, next: Link, out: &mut [u8]) -> Cancell
             transfer: Transfer::Absent,
             link: next,
         },
-        // an empty payload is never too long
-        WriteResult::Payload => Cancelled {
-            answer: CancelResult::Room,
-            transfer,
-            link,
-        },
-        WriteResult::Room => Cancelled {
-            answer: CancelResult::Room,
+        WriteResult::Unwritten { why } => Cancelled {
+            answer: CancelResult::Unwritten { why },
             transfer,
             link,
         },

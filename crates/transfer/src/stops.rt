@@ -9,7 +9,7 @@ use super::state::Transfer;
 use super::state::in_range;
 use super::writes::refuse;
 use super::writes::write_empty;
-use frame::WriteResult;
+use base::WriteResult;
 ghost use mathlib.Core.Path.{_≡_};
 ghost use Rattle.frame.specs.Wire.{frameLimit};
 ghost use Rattle.transfer.specs.Table.{checkNumber};
@@ -42,12 +42,8 @@ fn accept(transfer: Transfer, number: u8, out: &mut [u8]) -> Arrived
             answer: ArriveResult::Stopped { count },
             transfer: Transfer::Absent,
         },
-        WriteResult::Payload => Arrived {
-            answer: ArriveResult::Payload,
-            transfer,
-        },
-        WriteResult::Room => Arrived {
-            answer: ArriveResult::Room,
+        WriteResult::Unwritten { why } => Arrived {
+            answer: ArriveResult::Unwritten { why },
             transfer,
         },
     }

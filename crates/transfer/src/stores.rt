@@ -14,7 +14,7 @@ use super::state::Transfer;
 use super::state::in_range;
 use super::writes::refuse;
 use super::writes::write_empty;
-use frame::WriteResult;
+use base::WriteResult;
 ghost use mathlib.Core.Path.{_≡_};
 ghost use Prim.Native.Nat.{_≤_};
 ghost use Rattle.frame.specs.Wire.{frameLimit};
@@ -167,12 +167,8 @@ fn accept(
             answer: ArriveResult::Stored { count },
             transfer: put(transfer, index, bytes, buffer),
         },
-        WriteResult::Payload => Arrived {
-            answer: ArriveResult::Payload,
-            transfer,
-        },
-        WriteResult::Room => Arrived {
-            answer: ArriveResult::Room,
+        WriteResult::Unwritten { why } => Arrived {
+            answer: ArriveResult::Unwritten { why },
             transfer,
         },
     }

@@ -3,30 +3,28 @@
 use super::answers::ArriveResult;
 use super::answers::Check;
 use super::answers::Refusal;
-use frame::WriteResult;
+use base::Unwritten;
+use base::WriteResult;
 use message::Code;
 use message::Message;
 use message::SendResult;
 ghost use mathlib.Core.Path.{_≡_};
 ghost use mathlib.Core.Bool.{false};
 ghost use mathlib.Core.List.{[]};
-ghost use Prim.Native.Nat.{_≤_};
+ghost use Prim.Native.Nat.{_+_, _≤_, _^_};
 ghost use lib.Dec.{eqb};
 ghost use lib.ListN.{length, take, drop};
-ghost use Rattle.base.specs.Outcomes.{output};
+ghost use Rattle.base.specs.Outcomes.{output, neededIn};
+ghost use Rattle.base.specs.Writes.{unwrittenRowOf, Writes};
 ghost use Rattle.frame.specs.Wire.{frameLimit, frameOf};
-ghost use Rattle.frame.specs.Calls.{Writes, writeOf};
-ghost use Rattle.message.specs.Table.{sendRowOf};
-ghost use Rattle.message.specs.Writing.{sendOf};
-ghost use Rattle.message.specs.declared.values.Message.the-variants.{Ready};
+ghost use Rattle.frame.specs.Calls.{writeOf};
 ghost use Rattle.transfer.specs.Table.{refusalNumber, checkNumber, arriveRowOf, pairRowOf};
-ghost use Rattle.transfer.specs.Writing.{rejectionOf, refusedOf, after, pairOf};
+ghost use Rattle.transfer.specs.Writing.{rejectionOf, refusedOf, after, withFirst, readyPayload, pairOf};
 
 // The answer to a write of two frames, of which the second begins at the place `ready`.
 pub(crate) enum PairResult {
     Wrote { count: usize, ready: usize },
-    Payload,
-    Room,
+    Unwritten { why: Unwritten },
 }
 
 // A command without payload, with flags 0.
@@ -46,9 +44,7 @@ pub(crate) fn reject(refusal: Refusal, number: u8, out: &mut [u8]) -> ArriveResu
     let written = frame::write(0x12, number, 0, &code, out);
     match written {
         WriteResult::Wrote { count } => ArriveResult::Refused { count, refusal },
-        // one byte is never too long
-        WriteResult::Payload => ArriveResult::Payload,
-        WriteResult::Room => ArriveResult::Room,
+        WriteResult::Unwritten { why } => ArriveResult::Unwritten { why },
     }
 }
 
@@ -63,35 +59,48 @@ pub(crate) fn refuse(checked: Check, number: u8, out: &mut [u8]) -> ArriveResult
         Check::State => ArriveResult::State,
         Check::Busy => ArriveResult::Busy,
         // excluded
-        Check::Accepted => ArriveResult::Room,
+        Check::Accepted => ArriveResult::State,
     }
 }
 
-// The 1B under a number of the link, in what is left of an output from a place on.
-fn write_ready(piece: u16, code: &[u8], number: u8, out: &mut [u8], from: usize) -> SendResult
-    requires { ⌜ from ≤ length (now out) ⌝ }
-    ensures { λ r. ⌜ output (sendRowOf r) (now (out .exit))
-        ≡ after (take from (now (out .entry)))
-        (sendOf frameLimit (Ready piece) number 0 (now (code .entry)) (drop from (now (out .entry)))) ⌝ }
-{
-    message::write(Message::Ready { piece }, code, number, 0, &mut out[from..])
-}
-
-// The size of a 1A on the wire: written aside, into room for the longest one.
+// The size of a 1A on the wire: the writer is asked, with no room at all.
 fn accept_size(number: u8) -> usize
     ensures { λ r. ⌜ r ≡ length (frameOf 0x1A number 0 []) ⌝ }
 {
-    let mut aside = [0u8; 16];
-    let written = write_empty(0x1A, number, &mut aside);
-    match written {
-        WriteResult::Wrote { count } => count,
-        // neither can be
-        WriteResult::Payload => 0,
-        WriteResult::Room => 0,
+    let mut none = [0u8; 0];
+    write_empty(0x1A, number, &mut none).needed()
+}
+
+// The 1B under a number of the link, in what is left of an output from a place on. A check code that no count can name
+// makes a payload that is too long.
+fn write_ready(piece: u16, code: &[u8], number: u8, out: &mut [u8], from: usize) -> WriteResult
+    requires { ⌜ from ≤ length (now out) ⌝ }
+    ensures { λ r. ⌜ Writes r (now (out .exit)) (after (take from (now (out .entry)))
+        (writeOf frameLimit 0x1B number 0 (readyPayload piece (now (code .entry))) (drop from (now (out .entry))))) ⌝ }
+{
+    let sent = message::write(Message::Ready { piece }, code, number, 0, &mut out[from..]);
+    match sent {
+        SendResult::Written { written } => written,
+        _ => WriteResult::Unwritten {
+            why: Unwritten::Payload,
+        },
     }
 }
 
-// 1A under the number received, and then 1B under the link's next number. The 1B is written first, behind the room for
+// Why neither of two frames is written, where the second was refused: ROOM says what both need.
+fn with_first(why: Unwritten, first: usize) -> Unwritten
+    requires { ⌜ first + neededIn (unwrittenRowOf why) ≤ 2 ^ 20 ⌝ }
+    ensures { λ r. ⌜ unwrittenRowOf r ≡ withFirst first (unwrittenRowOf why) ⌝ }
+{
+    match why {
+        Unwritten::Payload => Unwritten::Payload,
+        Unwritten::Room { needed } => Unwritten::Room {
+            needed: first + needed,
+        },
+    }
+}
+
+// 1A under the number received, and then 1B under the link's next number. The 1B is written first, after the room for
 // the 1A: where it is refused, nothing is written.
 pub(crate) fn write_pair(
     number: u8,
@@ -105,17 +114,17 @@ pub(crate) fn write_pair(
 {
     let ready = accept_size(number);
     let from = base::min(ready, out.len());
-    let sent = write_ready(piece, code, next, out, from);
-    match sent {
-        SendResult::Wrote { count } => {
+    let written = write_ready(piece, code, next, out, from);
+    match written {
+        WriteResult::Wrote { count } => {
             write_empty(0x1A, number, out);
             PairResult::Wrote {
                 count: ready + count,
                 ready,
             }
         }
-        SendResult::Room => PairResult::Room,
-        // a check code that no count can name makes a payload that is too long; the other two cannot be
-        _ => PairResult::Payload,
+        WriteResult::Unwritten { why } => PairResult::Unwritten {
+            why: with_first(why, ready),
+        },
     }
 }

@@ -8,12 +8,10 @@ from-arrived-spec =
     tie.close
     (tie.spec
     (search needs) (search needs) (search needs) (search needs) (search needs) (search needs) (search needs)
-    (search needs)
     (λ c. simp (c .before .answer .given .1))
     (λ c. simp (c .before .answer2 .given .1))
     (λ c. simp (c .before .answer3 .given .1))
     (λ c. simp (c .before .answer4 .given .1))
     (λ c. simp (c .enum-told .given .1))
     (λ c. simp (c .enum-told2 .given .1))
-    (λ c. simp (c .enum-told3 .given .1))
-    λ c. simp (c .enum-told4 .given .1))
+    λ c. simp (c .before .answer5 .given .1))

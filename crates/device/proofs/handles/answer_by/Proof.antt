@@ -2,7 +2,7 @@
 use mathlib.Core.Path.{refl, _∙_}
 use borrow.Author.Needs.{needs}
 use Rattle.base.specs.Keys.{among}
-use Rattle.device.proofs.HandleLaws.{to-begin, to-store, to-stop, as-replied}
+use Rattle.device.proofs.HandleLaws.{to-begin, to-store, to-stop, as-replied, unwanted}
 use Rattle.device.proofs.handles.answer_by.Statement.{statement}
 use Rattle.device.proofs.handles.answer_by.Tie as tie
 
@@ -27,4 +27,5 @@ answer-by-spec =
     (λ c. rw (c .before .before .reply5 .given .1, c .as-heard3 .ensures) (as-replied _ _ _ _ _ _ _ _ _ _ _ refl))
     (λ c. rw (c .before .before .reply6 .given .1, c .as-heard4 .ensures) (as-replied _ _ _ _ _ _ _ _ _ _ _ refl))
     (λ c. rw (c .before .before .reply7 .given .1, c .as-heard5 .ensures) (as-replied _ _ _ _ _ _ _ _ _ _ _ refl))
-    λ c. rw (c .before .enum-told2 .given .1, c .as-heard6 .ensures) (as-replied _ _ _ _ _ _ _ _ _ _ _ refl))
+    λ c. rw (c .before .before .reply8 .given .1, c .as-heard6 .ensures)
+    (as-replied _ _ _ _ _ _ _ _ _ _ _ (unwanted (c .before .before .reply8 .given .0 .0))))

@@ -1,11 +1,8 @@
--- `writes::write_pair` writes the 1B behind the room for the 1A, and then the 1A.
-use mathlib.Core.Path.{refl}
-use mathlib.Core.List.{[], _∷_}
+-- `writes::write_pair` writes the 1B after the room for the 1A, and then the 1A.
 use native.Mathlib.Omega.{arith}
 use borrow.Author.Needs.{needs}
 use Rattle.frame.specs.Wire.{frameLimit}
-use Rattle.transfer.proofs.ReadLaws.{none-of}
-use Rattle.transfer.proofs.PairLaws.{at-from, pair-long, pair-room, pair-fits, pair-wrote, sent-other}
+use Rattle.transfer.proofs.PairLaws.{at-from, pair-needed, pair-refused, pair-fits, pair-wrote}
 use Rattle.transfer.proofs.writes.write_pair.Statement.{statement}
 use Rattle.transfer.proofs.writes.write_pair.Tie as tie
 
@@ -22,9 +19,20 @@ write-pair-spec =
     (omega arith) _ _
     (at-from frameLimit (args .number) (args .next) (args .piece) (args .code .now) (args .out .now) (omega arith) _ _
     (sized .accept-size .ensures) (written .before .before .min .ensures) _
-    (simp (c .before .before .before .before .before .sent .given .1) at (written .write-ready .ensures))) in
+    (simp (c .before .before .before .before .before .written .given .1) at (written .write-ready .ensures))) in
     record { fits = omega (arith, small, sized .accept-size .ensures) })
-    (search needs) (search needs)
+    (search needs)
+    (λ c κs.
+    let written = c .before .before .before .before .before in
+    let sized = written .before .before .before in
+    let args = sized .before .before .before .args in
+    rw (sized .accept-size .ensures)
+    (pair-needed frameLimit (args .number) (args .next) (args .piece) (args .code .now) (args .out .now) (omega arith)
+    (c .before .written2 .given .0 .0) _
+    (at-from frameLimit (args .number) (args .next) (args .piece) (args .code .now) (args .out .now) (omega arith) _ _
+    (sized .accept-size .ensures) (written .before .before .min .ensures) _
+    (simp (c .before .written2 .given .1) at (written .write-ready .ensures)))))
+    (search needs)
     (λ c.
     let sized = c .before .before .before .before .before .before .before .before .before .before .before .before in
     let written = c .before .before .before .before .before .before .before .before .before in
@@ -34,26 +42,17 @@ write-pair-spec =
     (omega arith) _ _
     (at-from frameLimit (args .number) (args .next) (args .piece) (args .code .now) (args .out .now) (omega arith) _ _
     (sized .accept-size .ensures) (written .before .before .min .ensures) _
-    (simp (c .before .before .before .before .before .sent .given .1) at (written .write-ready .ensures)))
+    (simp (c .before .before .before .before .before .written .given .1) at (written .write-ready .ensures)))
     _ _ (c .before .before .write-empty .ensures)))
     (search needs)
-    (λ c.
-    let written = c .before .before .before .before in
+    λ c.
+    let told = c .before in
+    let written = told .before .before .before .before .before in
     let sized = written .before .before .before in
     let args = sized .before .before .before .args in
-    pair-room frameLimit (args .number) (args .next) (args .piece) (args .code .now) (args .out .now) (omega arith) _
+    pair-refused frameLimit (args .number) (args .next) (args .piece) (args .code .now) (args .out .now) (omega arith)
+    (told .before .written2 .given .0 .0) _
     (at-from frameLimit (args .number) (args .next) (args .piece) (args .code .now) (args .out .now) (omega arith) _ _
     (sized .accept-size .ensures) (written .before .before .min .ensures) _
-    (simp (c .enum-told .given .1) at (written .write-ready .ensures))))
-    (search needs)
-    λ c.
-    let written = c .before .before .before in
-    let sized = written .before .before .before in
-    let args = sized .before .before .before .args in
-    let other = sent-other (written .write-ready .result)
-    (λ n q. none-of (1 ∷ 3 ∷ 4 ∷ 5 ∷ []) 0 refl (rw q at (c .match .keys3)))
-    (λ q. none-of (1 ∷ 3 ∷ 4 ∷ 5 ∷ []) 2 refl (rw q at (c .match .keys3))) in
-    pair-long frameLimit (args .number) (args .next) (args .piece) (args .code .now) (args .out .now) (omega arith) _ _
-    (other .0) (other .1)
-    (at-from frameLimit (args .number) (args .next) (args .piece) (args .code .now) (args .out .now) (omega arith) _ _
-    (sized .accept-size .ensures) (written .before .before .min .ensures) _ (written .write-ready .ensures)))
+    (simp (told .before .written2 .given .1) at (written .write-ready .ensures)))
+    _ (rw (sized .accept-size .ensures) at (c .with-first .ensures)))
