@@ -6,10 +6,11 @@ use mathlib.Core.List.{List, [], _∷_, _++_}
 use native.Mathlib.Omega.{arith}
 use borrow.Author.Tests.{lt-ltb, le-ltb, lt-leb, ne-eqb, eq-eqb}
 use lib.ListN.{length, getD, length-append, List·getD-append, List·getD-eq-default}
-use lib.Dec.{eqb}
+use lib.Dec.{eqb, ltb}
 use Rattle.base.specs.Rows.{Row, row}
-use Rattle.base.specs.Outcomes.{Outcome, outcome}
+use Rattle.base.specs.Outcomes.{Outcome, outcome, Output, output, placed}
 use Rattle.base.proofs.Tests.{either-way}
+use Rattle.base.proofs.Asking.{asks-never, asks-either, asks-placed}
 use Rattle.base.proofs.Rows.{injective-by, under, value}
 use Rattle.capture.specs.Format.{mark, head, directionOf, millisecondsOf, sizeOf, IsRecord, recordBytes}
 use Rattle.capture.specs.Captures.{Begins}
@@ -18,7 +19,7 @@ use Rattle.capture.specs.Windows.{countOf}
 use Rattle.capture.specs.Table.{nextRowOf, endRowOf}
 use Rattle.capture.specs.EachCall.{RowsInjective, OutOfRange, CursorRanges, CountsWithin, EachNextAlways}
 use Rattle.capture.specs.EachCall.{EachFinishAlways, MoreLater, WritesExactly, AllAnswerRows, WindowEnough}
-use Rattle.capture.specs.EachCall.{CursorKept}
+use Rattle.capture.specs.EachCall.{CursorKept, HeadAsked, RecordAsked}
 use Rattle.capture.specs.declared.reading.EndResult.{EndResult}
 use Rattle.capture.specs.declared.reading.EndResult.the-variants as end
 use Rattle.capture.specs.declared.reading.NextResult.{NextResult}
@@ -239,9 +240,20 @@ write-exactly d t p out =
       head-fits = λ h. rw (le-ltb (length out) 5 h);
       head-room = λ h. rw (lt-ltb (length out) 5 h);
       payload = λ h. rw (lt-ltb 65535 (length p) h);
-      room = λ h k. rw (le-ltb 65535 (length p) h, lt-ltb (length out) (length r) (omega arith));
+      room = λ h k. rw (size, le-ltb 65535 (length p) h, lt-ltb (length out) (length r) (omega arith));
       fits = λ h k. rw (size, le-ltb 65535 (length p) h, le-ltb (length out) (length r) (omega arith));
     }
+
+-- ---- head-asked and record-asked: PAYLOAD does not depend on the output; the rest is placed
+
+pub head-asked : HeadAsked
+head-asked = asks-placed head
+
+pub record-asked : RecordAsked
+record-asked d t p =
+    let bytes : List ℕ = recordBytes d t p in
+    asks-either (λ (w : Output). w .row) (ltb 65535 (length p)) (λ out. output (row 21 (0 ∷ [])) out)
+    (λ out. placed bytes out) (asks-never (row 21 (0 ∷ [])) (λ e. omega arith)) (asks-placed bytes)
 
 -- ---- answer-rows
 

@@ -7,7 +7,8 @@ use native.Mathlib.Omega.{arith}
 use lib.ListN.{length, getD, drop}
 use Rattle.capture.specs.Reading.{agrees, nextOf}
 use Rattle.capture.specs.Windows.{recordsBy, placeBy, leftBy, AreWindows}
-use Rattle.capture.specs.WorkedCaptures.{WorkedRefusals, WorkedCapture, WorkedWindows, boxRecord, workedBytes}
+use Rattle.capture.specs.WorkedCaptures.{WorkedRefusals, WorkedCapture, WorkedRoom, WorkedWindows}
+use Rattle.capture.specs.WorkedCaptures.{boxRecord, workedBytes}
 
 pub worked-refusals : WorkedRefusals
 unfolding agrees
@@ -44,6 +45,17 @@ worked-capture =
       place = refl;
       end = refl;
       written = refl;
+    }
+
+pub worked-room : WorkedRoom
+worked-room =
+    record {
+      head-short = refl;
+      head-fits = refl;
+      record-short = refl;
+      record-fits = refl;
+      longest = refl;
+      too-long = refl;
     }
 
 -- a front that decides nothing is not all that is left

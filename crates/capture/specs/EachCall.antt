@@ -1,9 +1,10 @@
--- Claims: what each call answers, and exactly when. PROTOCOL 13.4 to 13.12.
+-- Claims: what each call answers, and exactly when. PROTOCOL 13.4 to 13.12, 6.12.
 use Prim.Native.Nat.{ℕ, _+_, _≤_, _<_}
 use mathlib.Core.Path.{_≡_}
 use mathlib.Core.Logic.{_≢_, _⊎_}
 use mathlib.Core.List.{List, [], _∷_, _++_}
 use lib.ListN.{length, getD, take, drop}
+use Rattle.base.specs.Asking.{AsksOnce}
 use Rattle.base.specs.Rows.{row}
 use Rattle.base.specs.Outcomes.{outcome, output}
 use Rattle.capture.specs.Format.{head, directionOf, millisecondsOf, sizeOf, IsRecord, recordBytes}
@@ -159,17 +160,26 @@ WindowEnough =
 abbrev pub CursorKept : Type 0
 CursorKept = (place : ℕ) (b : List ℕ) → (OutOfRange place → ⊥) → OutOfRange (nextOf place b .state) → ⊥
 
--- ---- write-exactly: what the writing calls answer, and the buffer after them; PAYLOAD comes before ROOM:
--- PROTOCOL 13.11, 13.12
+-- ---- write-exactly: what the writing calls answer, and the buffer after them; PAYLOAD comes before ROOM, which says
+-- the length of the head or of the record: PROTOCOL 13.11, 13.12
 pub record WriteExactly (d t : ℕ) (p out : List ℕ) : Type 0 where
   pub head-fits : 5 ≤ length out
       → headWriteOf out ≡ output (row 0 (5 ∷ [])) (0x4C ∷ 0x46 ∷ 0x54 ∷ 0x00 ∷ 0x01 ∷ drop 5 out)
-  pub head-room : length out < 5 → headWriteOf out ≡ output (row 22 (0 ∷ [])) out
+  pub head-room : length out < 5 → headWriteOf out ≡ output (row 22 (5 ∷ [])) out
   pub payload : 65535 < length p → recordWriteOf d t p out ≡ output (row 21 (0 ∷ [])) out
-  pub room : length p ≤ 65535 → length out < 7 + length p → recordWriteOf d t p out ≡ output (row 22 (0 ∷ [])) out
+  pub room : length p ≤ 65535 → length out < 7 + length p
+      → recordWriteOf d t p out ≡ output (row 22 ((7 + length p) ∷ [])) out
   pub fits : length p ≤ 65535 → 7 + length p ≤ length out
       → recordWriteOf d t p out ≡ output (row 0 ((7 + length p) ∷ [])) (recordBytes d t p ++ drop (7 + length p) out)
 
 -- of all values and buffers
 abbrev pub WritesExactly : Type 0
 WritesExactly = (d t : ℕ) (p out : List ℕ) → WriteExactly d t p out
+
+-- ---- head-asked: a head that met ROOM once is written into every output of the size that it said
+abbrev pub HeadAsked : Type 0
+HeadAsked = AsksOnce (λ out. headWriteOf out .row)
+
+-- ---- record-asked: so is a record
+abbrev pub RecordAsked : Type 0
+RecordAsked = (d t : ℕ) (p : List ℕ) → AsksOnce (λ out. recordWriteOf d t p out .row)

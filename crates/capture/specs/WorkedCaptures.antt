@@ -3,9 +3,9 @@ use Prim.Native.Nat.{ℕ, _^_}
 use mathlib.Core.Path.{_≡_}
 use mathlib.Core.List.{List, [], _∷_, _++_}
 use lib.ListN.{replicate}
-use Rattle.base.specs.Rows.{Row, row}
-use Rattle.base.specs.Outcomes.{outcome}
-use Rattle.capture.specs.Format.{recordBytes}
+use Rattle.base.specs.Rows.{row}
+use Rattle.base.specs.Outcomes.{outcome, output}
+use Rattle.capture.specs.Format.{recordBytes, headWriteOf, recordWriteOf}
 use Rattle.capture.specs.Reading.{nextOf, endOf}
 use Rattle.capture.specs.Windows.{recordsBy, placeBy, leftBy, AreWindows, Closes}
 
@@ -57,6 +57,19 @@ pub record WorkedCapture : Type 0 where
   pub place : placeBy 0 (workedHead ∷ [] ∷ (boxRecord ++ 0x00 ∷ []) ∷ (0x00 ∷ []) ∷ emptyRecord ∷ [] ∷ []) ≡ 21
   pub end : endOf 21 [] ≡ row 2 (21 ∷ [])
   pub written : recordBytes 1 16909060 (0xAA ∷ 0xBB ∷ []) ≡ boxRecord
+
+-- ---- worked-room: the length that ROOM says, one byte short, and the same where it fits
+
+-- of the head, and of the worked record
+pub record WorkedRoom : Type 0 where
+  pub head-short : headWriteOf (replicate 4 7) ≡ output (row 22 (5 ∷ [])) (replicate 4 7)
+  pub head-fits : headWriteOf (replicate 5 7) ≡ output (row 0 (5 ∷ [])) workedHead
+  pub record-short : recordWriteOf 1 16909060 (0xAA ∷ 0xBB ∷ []) (replicate 8 7)
+      ≡ output (row 22 (9 ∷ [])) (replicate 8 7)
+  pub record-fits : recordWriteOf 1 16909060 (0xAA ∷ 0xBB ∷ []) (replicate 9 7) ≡ output (row 0 (9 ∷ [])) boxRecord
+  -- the longest record, and one that no count can say
+  pub longest : recordWriteOf 0 0 (replicate 65535 7) [] ≡ output (row 22 (65542 ∷ [])) []
+  pub too-long : recordWriteOf 0 0 (replicate 65536 7) [] ≡ output (row 21 (0 ∷ [])) []
 
 -- ---- worked-windows: windows on the worked capture, which are fronts of what is left; what they leave, and what
 -- closes it. A byte that comes again, one that is left out, and an early end are refused

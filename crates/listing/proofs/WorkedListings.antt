@@ -11,8 +11,8 @@ use Rattle.listing.specs.Lines.{columnsOf}
 use Rattle.listing.specs.CallTexts.{textsOf}
 use Rattle.listing.specs.Feeding.{listIn}
 use Rattle.listing.specs.Turns.{turnsOf, OfferedFront}
-use Rattle.listing.specs.WorkedListings.{ExampleListing, EachKind, WorkedColumns, WorkedPrefix, WorkedLoop}
-use Rattle.listing.specs.WorkedListings.{WorkedTurns, exampleStream}
+use Rattle.listing.specs.WorkedListings.{ExampleListing, EachKind, WorkedColumns, WorkedPrefix, WorkedRoom}
+use Rattle.listing.specs.WorkedListings.{WorkedLoop, WorkedTurns, exampleStream}
 
 pub example-listing : ExampleListing
 unfolding logOf offer runOf zeros textsOf columnsOf decimalOf digitsIn
@@ -29,6 +29,19 @@ worked-columns = record { columns = refl }
 pub worked-prefix : WorkedPrefix
 unfolding logOf offer runOf zeros textsOf columnsOf decimalOf digitsIn
 worked-prefix = record { example = refl; quiet = refl }
+
+pub worked-room : WorkedRoom
+unfolding columnsOf decimalOf digitsIn
+worked-room =
+    record {
+      heading-short = refl;
+      prefix-short = refl;
+      line-short = refl;
+      last-short = refl;
+      refusal-short = refl;
+      heading-fits = refl;
+      no-line = refl;
+    }
 
 pub worked-loop : WorkedLoop
 unfolding listIn runOf zeros columnsOf decimalOf digitsIn

@@ -2,14 +2,16 @@
 use Prim.Native.Nat.{ℕ}
 use mathlib.Core.Path.{_≡_}
 use mathlib.Core.List.{List, [], _∷_, _++_}
-use lib.ListN.{drop}
+use lib.ListN.{drop, replicate}
+use Rattle.base.specs.Rows.{row}
+use Rattle.base.specs.Outcomes.{output, placed}
 use Rattle.base.specs.Runs.{Run}
 use Rattle.frame.specs.Wire.{frameLimit}
 use Rattle.frame.specs.State.{State}
 use Rattle.frame.specs.Calls.{freshOf}
 use Rattle.frame.specs.Logs.{feed, finish}
 use Rattle.frame.specs.LogsComputed.{offer}
-use Rattle.listing.specs.Lines.{ascii, headingText}
+use Rattle.listing.specs.Lines.{ascii, headingText, answerText, lastOf, refusalText}
 use Rattle.listing.specs.CallTexts.{listingOf}
 use Rattle.listing.specs.Feeding.{listOf}
 use Rattle.listing.specs.Turns.{Turn, turnsOf, writtenBy, OfferedFront}
@@ -61,6 +63,18 @@ pub record WorkedPrefix : Type 0 where
       ++ ascii "in frame 15 25 7 243 0 0\nin clean 25\n"
   pub quiet : listingOf (ascii "in ") frameLimit (feed (0x00 ∷ []) ∷ finish ∷ [])
       ≡ ascii "in kind start end cmd sn flags payload\nin clean 1\n"
+
+-- ---- worked-room: the length that ROOM says, by computation: PROTOCOL 10.8
+-- each text one byte short; then the heading where it fits, and an answer without a line
+pub record WorkedRoom : Type 0 where
+  pub heading-short : placed (headingText []) (replicate 35 7) ≡ output (row 22 (36 ∷ [])) (replicate 35 7)
+  pub prefix-short : placed (headingText (ascii "in ")) (replicate 38 7) ≡ output (row 22 (39 ∷ [])) (replicate 38 7)
+  pub line-short : placed (answerText (ascii "in ") (row 15 (9 ∷ 0 ∷ 9 ∷ [])) []) (replicate 18 7)
+      ≡ output (row 22 (19 ∷ [])) (replicate 18 7)
+  pub last-short : placed (lastOf [] (row 2 (25 ∷ []))) (replicate 8 7) ≡ output (row 22 (9 ∷ [])) (replicate 8 7)
+  pub refusal-short : placed (refusalText 51 0) (replicate 12 7) ≡ output (row 22 (13 ∷ [])) (replicate 12 7)
+  pub heading-fits : placed (headingText []) (replicate 37 7) ≡ output (row 0 (36 ∷ [])) (headingText [] ++ 7 ∷ [])
+  pub no-line : placed (answerText [] (row 0 (9 ∷ [])) []) [] ≡ output (row 0 (0 ∷ [])) []
 
 -- ---- worked-loop: the example's stream with buffers of several sizes
 pub record Worked (run : Run State) (used number : ℕ) (text : List ℕ) : Type 0 where

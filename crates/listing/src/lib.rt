@@ -11,4 +11,3 @@ pub use lines::heading;
 pub use lines::last;
 pub use lines::line;
 pub use lines::refusal;
-pub use text::LineResult;

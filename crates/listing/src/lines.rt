@@ -1,7 +1,7 @@
 // The heading, the line of each answer, and the last line: PROTOCOL 10.1 to 10.6.
 // The caller's `prefix` precedes the word of each (PROTOCOL 10.8); an answer without a line puts nothing.
-use super::text::LineResult;
 use super::text::put_line;
+use base::WriteResult;
 use frame::FeedResult;
 use frame::FinishResult;
 use frame::Verdict;
@@ -9,14 +9,15 @@ use frame::WirePlace;
 ghost use mathlib.Core.List.{_++_};
 ghost use Prim.Native.Nat.{_+_, _≤_};
 ghost use lib.ListN.{length};
+ghost use Rattle.base.specs.Outcomes.{placed};
+ghost use Rattle.base.specs.Writes.{Writes};
 ghost use Rattle.frame.specs.Table.{rowOf, finishRowOf, decidedRow};
 ghost use Rattle.listing.specs.Lines.{ascii, textOf, headingText, placesAt, bodyColumns, dashes, answerText};
 ghost use Rattle.listing.specs.Lines.{lineRoom, lastOf, refusalText};
-ghost use Rattle.listing.specs.Table.{Puts};
 
 // The heading.
-pub fn heading(prefix: &[u8], out: &mut [u8]) -> LineResult
-    ensures { λ r. ⌜ Puts r (now (out .exit)) (headingText (now (prefix .entry))) (now (out .entry)) ⌝ }
+pub fn heading(prefix: &[u8], out: &mut [u8]) -> WriteResult
+    ensures { λ r. ⌜ Writes r (now (out .exit)) (placed (headingText (now (prefix .entry))) (now (out .entry))) ⌝ }
 {
     put_line(
         prefix,
@@ -34,9 +35,9 @@ fn frame_line(
     prefix: &[u8],
     body: &[u8],
     out: &mut [u8],
-) -> LineResult
-    ensures { λ r. ⌜ Puts r (now (out .exit)) (textOf (now (prefix .entry)) (ascii "frame")
-        (placesAt (start .0) (end .0) ++ bodyColumns (now (body .entry))) (ascii "\n")) (now (out .entry)) ⌝ }
+) -> WriteResult
+    ensures { λ r. ⌜ Writes r (now (out .exit)) (placed (textOf (now (prefix .entry)) (ascii "frame")
+        (placesAt (start .0) (end .0) ++ bodyColumns (now (body .entry))) (ascii "\n")) (now (out .entry))) ⌝ }
     ensures { λ r. ⌜ length (textOf (now (prefix .entry)) (ascii "frame")
         (placesAt (start .0) (end .0) ++ bodyColumns (now (body .entry))) (ascii "\n"))
         ≤ length (now (prefix .entry)) + lineRoom ⌝ }
@@ -56,10 +57,10 @@ fn refused_line(
     end: WirePlace,
     prefix: &[u8],
     out: &mut [u8],
-) -> LineResult
+) -> WriteResult
     requires { ⌜ length (now name) ≤ 64 ⌝ }
-    ensures { λ r. ⌜ Puts r (now (out .exit)) (textOf (now (prefix .entry))
-        (now (name .entry)) (placesAt (start .0) (end .0)) dashes) (now (out .entry)) ⌝ }
+    ensures { λ r. ⌜ Writes r (now (out .exit)) (placed (textOf (now (prefix .entry))
+        (now (name .entry)) (placesAt (start .0) (end .0)) dashes) (now (out .entry))) ⌝ }
     ensures { λ r. ⌜ length (textOf (now (prefix .entry)) (now (name .entry)) (placesAt (start .0) (end .0)) dashes)
         ≤ length (now (prefix .entry)) + lineRoom ⌝ }
 {
@@ -74,9 +75,9 @@ fn decided_line(
     prefix: &[u8],
     body: &[u8],
     out: &mut [u8],
-) -> LineResult
-    ensures { λ r. ⌜ Puts r (now (out .exit)) (answerText (now (prefix .entry))
-        (decidedRow verdict 0 (start .0) (end .0)) (now (body .entry))) (now (out .entry)) ⌝ }
+) -> WriteResult
+    ensures { λ r. ⌜ Writes r (now (out .exit)) (placed (answerText (now (prefix .entry))
+        (decidedRow verdict 0 (start .0) (end .0)) (now (body .entry))) (now (out .entry))) ⌝ }
     ensures { λ r. ⌜ length (answerText (now (prefix .entry)) (decidedRow verdict 0 (start .0) (end .0))
         (now (body .entry))) ≤ length (now (prefix .entry)) + lineRoom ⌝ }
 {
@@ -97,9 +98,9 @@ pub(crate) fn answer_line(
     prefix: &[u8],
     body: &[u8],
     out: &mut [u8],
-) -> LineResult
-    ensures { λ r. ⌜ Puts r (now (out .exit))
-        (answerText (now (prefix .entry)) (rowOf answer) (now (body .entry))) (now (out .entry)) ⌝ }
+) -> WriteResult
+    ensures { λ r. ⌜ Writes r (now (out .exit)) (placed
+        (answerText (now (prefix .entry)) (rowOf answer) (now (body .entry))) (now (out .entry))) ⌝ }
     ensures { λ r. ⌜ length (answerText (now (prefix .entry)) (rowOf answer) (now (body .entry)))
         ≤ length (now (prefix .entry)) + lineRoom ⌝ }
 {
@@ -110,25 +111,25 @@ pub(crate) fn answer_line(
             end,
             verdict,
         } => decided_line(verdict, start, end, prefix, body, out),
-        FeedResult::More { count: _ } => LineResult::Wrote { count: 0 },
-        FeedResult::State => LineResult::Wrote { count: 0 },
-        FeedResult::Used => LineResult::Wrote { count: 0 },
+        FeedResult::More { count: _ } => WriteResult::Wrote { count: 0 },
+        FeedResult::State => WriteResult::Wrote { count: 0 },
+        FeedResult::Used => WriteResult::Wrote { count: 0 },
     }
 }
 
 // The line of the reader's answer, and of the body that it holds.
 // A body that does not belong to the answer is treated as if it did: PROTOCOL 12.5.
-pub fn line(answer: FeedResult, prefix: &[u8], body: &[u8], out: &mut [u8]) -> LineResult
-    ensures { λ r. ⌜ Puts r (now (out .exit))
-        (answerText (now (prefix .entry)) (rowOf answer) (now (body .entry))) (now (out .entry)) ⌝ }
+pub fn line(answer: FeedResult, prefix: &[u8], body: &[u8], out: &mut [u8]) -> WriteResult
+    ensures { λ r. ⌜ Writes r (now (out .exit)) (placed
+        (answerText (now (prefix .entry)) (rowOf answer) (now (body .entry))) (now (out .entry))) ⌝ }
 {
     answer_line(answer, prefix, body, out)
 }
 
 // The last line.
-pub fn last(answer: FinishResult, prefix: &[u8], out: &mut [u8]) -> LineResult
-    ensures { λ r. ⌜ Puts r (now (out .exit))
-        (lastOf (now (prefix .entry)) (finishRowOf answer)) (now (out .entry)) ⌝ }
+pub fn last(answer: FinishResult, prefix: &[u8], out: &mut [u8]) -> WriteResult
+    ensures { λ r. ⌜ Writes r (now (out .exit)) (placed
+        (lastOf (now (prefix .entry)) (finishRowOf answer)) (now (out .entry))) ⌝ }
 {
     match answer {
         FinishResult::Clean { consumed } => put_line(prefix, b"clean", &[consumed.0], b"\n", out),
@@ -139,13 +140,13 @@ pub fn last(answer: FinishResult, prefix: &[u8], out: &mut [u8]) -> LineResult
             b"\n",
             out,
         ),
-        FinishResult::State => LineResult::Wrote { count: 0 },
+        FinishResult::State => WriteResult::Wrote { count: 0 },
     }
 }
 
 // The line of a refusal that ends a text: its number, and the place where what is refused begins.
-pub fn refusal(number: u64, place: u64, out: &mut [u8]) -> LineResult
-    ensures { λ r. ⌜ Puts r (now (out .exit)) (refusalText number place) (now (out .entry)) ⌝ }
+pub fn refusal(number: u64, place: u64, out: &mut [u8]) -> WriteResult
+    ensures { λ r. ⌜ Writes r (now (out .exit)) (placed (refusalText number place) (now (out .entry))) ⌝ }
 {
     put_line(b"", b"refused", &[number, place], b"\n", out)
 }

@@ -1,31 +1,15 @@
 // A line's text: the caller's prefix, the word, decimal numbers and the line's rest, in this order.
 use super::decimal::put_decimal;
 use super::decimal::width;
+use base::Unwritten;
+use base::WriteResult;
 ghost use mathlib.Core.Path.{_≡_};
 ghost use Prim.Native.Nat.{_+_, _*_, _≤_};
 ghost use lib.ListN.{length};
 ghost use Rattle.base.specs.Stores.{PutAt};
-ghost use Rattle.base.specs.Outcomes.{writtenIn};
+ghost use Rattle.base.specs.Outcomes.{placed};
+ghost use Rattle.base.specs.Writes.{Writes};
 ghost use Rattle.listing.specs.Lines.{columnsOf, textOf};
-ghost use Rattle.listing.specs.Table.{lineRowOf, Puts};
-
-// The answer of a call that puts a text at the front of the buffer: PROTOCOL 10.8.
-pub enum LineResult {
-    Wrote { count: usize },
-    Room,
-}
-
-impl LineResult {
-    // The bytes that were written.
-    pub fn count(self) -> usize
-        ensures { λ r. ⌜ r ≡ writtenIn (lineRowOf self) ⌝ }
-    {
-        match self {
-            LineResult::Wrote { count } => count,
-            LineResult::Room => 0,
-        }
-    }
-}
 
 // How long numbers are as columns.
 fn columns_width(numbers: &[u64]) -> usize
@@ -71,10 +55,10 @@ pub(crate) fn put_line(
     numbers: &[u64],
     rest: &[u8],
     out: &mut [u8],
-) -> LineResult
+) -> WriteResult
     requires { ⌜ (length (now word) ≤ 64) × (length (now numbers) ≤ 16) × (length (now rest) ≤ 64) ⌝ }
-    ensures { λ r. ⌜ Puts r (now (out .exit)) (textOf (now (prefix .entry))
-        (now (word .entry)) (now (numbers .entry)) (now (rest .entry))) (now (out .entry)) ⌝ }
+    ensures { λ r. ⌜ Writes r (now (out .exit)) (placed (textOf (now (prefix .entry))
+        (now (word .entry)) (now (numbers .entry)) (now (rest .entry))) (now (out .entry))) ⌝ }
     ensures { λ r. ⌜ length (textOf (now (prefix .entry))
         (now (word .entry)) (now (numbers .entry)) (now (rest .entry)))
         ≤ length (now (prefix .entry)) + length (now (word .entry)) + 21 * length (now (numbers .entry))
@@ -82,12 +66,14 @@ pub(crate) fn put_line(
 {
     let size = prefix.len() + word.len() + columns_width(numbers) + rest.len();
     if out.len() < size {
-        return LineResult::Room;
+        return WriteResult::Unwritten {
+            why: Unwritten::Room { needed: size },
+        };
     }
     let at_word = put_bytes(out, 0, prefix);
     let after_word = put_bytes(out, at_word, word);
     let after_numbers = put_columns(out, after_word, numbers);
-    LineResult::Wrote {
+    WriteResult::Wrote {
         count: put_bytes(out, after_numbers, rest),
     }
 }

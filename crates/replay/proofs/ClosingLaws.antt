@@ -5,13 +5,16 @@ use mathlib.Core.Bool.{true, false}
 use mathlib.Core.List.{List, [], _∷_}
 use native.Mathlib.Omega.{arith}
 use borrow.Author.Tests.{le-ltb}
-use lib.ListN.{length, take, drop, length-take, length-drop}
+use lib.ListN.{length, take, drop}
 use lib.Dec.{eqb, ltb}
 use denote.Ref.{RefT, now}
 use Rattle.base.specs.Parts.{IsPart}
 use Rattle.base.specs.Rows.{Row, row}
-use Rattle.base.specs.Outcomes.{Outcome, Output, output, onto, writtenIn, placed}
-use Rattle.base.proofs.Tests.{by-test, either-way}
+use Rattle.base.specs.Outcomes.{Outcome, Output, output, writtenIn, placed, rowed}
+use Rattle.base.specs.Writes.{unwrittenRowOf}
+use Rattle.base.specs.declared.writes.Unwritten.{Unwritten}
+use Rattle.base.specs.declared.writes.Unwritten.the-variants as unwritten
+use Rattle.base.proofs.Tests.{by-test}
 use Rattle.base.proofs.Lists.{drop-min}
 use Rattle.base.proofs.OutcomesExact.{placed-whole-or-not}
 use Rattle.frame.specs.State.{Phase, Idle, Half, Header, Open, Escape, State as Reader}
@@ -26,25 +29,17 @@ use Rattle.capture.specs.declared.reading.Refusal.the-variants as refusal
 use Rattle.replay.specs.State.{State, inRangeOf}
 use Rattle.replay.specs.Closing.{closingText, closingRow, closed, closeOf}
 
--- ---- a text that is placed, or refused for room, ends the replay in the same way
+-- ---- a text that is placed, or not written, ends the replay in the same way
 
 module _ (end : Row) (text out : List ℕ) {after : List ℕ} where
   pub placed-closed : {count : ℕ} → output (row 0 (count ∷ [])) after ≡ placed text out
       → output (closingRow end count) after ≡ closed end text out
-  placed-closed {count} put =
-      either-way (ltb (length out) (length text))
-      (λ e. let number : 0 ≡ 22 = ap (λ (w : Output). w .row .number) (rw e at put) in absurd (omega arith))
-      (λ e. let f = rw e at put in
-      let written : count ≡ length text = ap (λ (w : Output). writtenIn (w .row)) f in
-      let left : after ≡ onto text out = ap (λ (w : Output). w .out) f in
-      rw (e, written, left))
+  placed-closed put = ap (λ (w : Output). rowed (closingRow end) w) put
 
-  pub room-closed : output (row 22 (0 ∷ [])) after ≡ placed text out
-      → output (row 22 (0 ∷ [])) after ≡ closed end text out
-  room-closed put =
-      either-way (ltb (length out) (length text))
-      (λ e. rw e (rw e at put))
-      (λ e. let number : 22 ≡ 0 = ap (λ (w : Output). w .row .number) (rw e at put) in absurd (omega arith))
+  pub unwritten-closed : (why : Unwritten) → output (unwrittenRowOf why) after ≡ placed text out
+      → output (unwrittenRowOf why) after ≡ closed end text out
+  unwritten-closed unwritten.Payload put = ap (λ (w : Output). rowed (closingRow end) w) put
+  unwritten-closed (unwritten.Room needed) put = ap (λ (w : Output). rowed (closingRow end) w) put
 
 -- ---- an end line, in a buffer of its own
 
@@ -66,7 +61,7 @@ end-below limit r c s =
 pub front-put : (text out : List ℕ) → length text ≤ length out → {r : Row} {after : List ℕ}
     → output r after ≡ placed text out → take (writtenIn r) after ≡ text
 front-put text out h put =
-    let count = ap (λ (w : Output). writtenIn (w .row)) put ∙ placed-whole-or-not text out .fits-counts h in
+    let count = ap (λ (w : Output). writtenIn (w .row)) put ∙ placed-whole-or-not text out .fits-counts h .0 in
     let left = ap (λ (w : Output). w .out) put in
     rw (count, left) (placed-whole-or-not text out .front h)
 
@@ -74,9 +69,6 @@ front-put text out h put =
 module _ (whole part : RefT (List ℕ)) (size : ℕ) (is : IsPart whole part (min 0 (length (now whole))) size) where
   pub front-text : {text : List ℕ} → take size (now whole) ≡ text → now part ≡ text
   front-text e = is .bytes ∙ rw (drop-min 0 (now whole)) e
-
-  pub front-short : length (now part) ≤ length (now whole)
-  front-short = rw (is .bytes) (simp (length-take, length-drop) (omega arith))
 
 -- ---- by the row of the capture's end
 
@@ -108,11 +100,12 @@ module _ (r : Refusal) (place : ℕ) (out : List ℕ) {number : ℕ} (e : number
       rw (← refused-row r place count)
       (placed-closed (row (refusalNumber r) (place ∷ [])) (refusalText (refusalNumber r) place) out (put ∙ named))
 
-  pub refusal-room : {after : List ℕ} → output (row 22 (0 ∷ [])) after ≡ placed (refusalText number place) out
-      → output (row 22 (0 ∷ [])) after
+  pub refusal-unwritten : (why : Unwritten) {after : List ℕ}
+      → output (unwrittenRowOf why) after ≡ placed (refusalText number place) out
+      → output (unwrittenRowOf why) after
       ≡ closed (row (refusalNumber r) (place ∷ [])) (refusalText (refusalNumber r) place) out
-  refusal-room put =
-      room-closed (row (refusalNumber r) (place ∷ [])) (refusalText (refusalNumber r) place) out (put ∙ named)
+  refusal-unwritten why put =
+      unwritten-closed (row (refusalNumber r) (place ∷ [])) (refusalText (refusalNumber r) place) out why (put ∙ named)
 
 -- ---- a call of `finish` of a replay in range, by the row of the capture's end
 

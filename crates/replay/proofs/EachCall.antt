@@ -1,19 +1,22 @@
 -- What each call answers and leaves. Assumes nothing.
 use Prim.Native.Nat.{ℕ, suc, _+_, _≤_}
 use mathlib.Core.Path.{_≡_, refl, sym, ap, _∙_}
-use mathlib.Core.Bool.{true, true≢false}
+use mathlib.Core.Bool.{true, false, cond, true≢false}
 use mathlib.Core.Logic.{_≢_}
-use mathlib.Core.List.{List}
+use mathlib.Core.List.{List, [], _∷_}
 use native.Mathlib.Omega.{arith, min-cases}
-use borrow.Author.Tests.{ne-eqb, le-ltb, lt-ltb}
+use borrow.Author.Tests.{ne-eqb, eqb-false, le-ltb, lt-ltb, ltb-false}
 use lib.ListN.{length, take, drop-of-length-le, length-take, length-drop}
 use lib.Seq.{getD-take, getD-drop, length-take-le, take-all}
 use lib.Dec.{eqb, ltb}
 use Rattle.base.specs.Keys.{among}
-use Rattle.base.specs.Outcomes.{Outcome, Output}
-use Rattle.base.specs.Rows.{Row}
+use Rattle.base.specs.Outcomes.{Outcome, Output, output, rowed}
+use Rattle.base.specs.Rows.{Row, row}
+use Rattle.base.specs.declared.writes.Unwritten.the-variants as unwritten
+use Rattle.base.proofs.Asking.{asks-never, asks-either, asks-by}
 use Rattle.base.proofs.Rows.{injective-by, under, value}
-use Rattle.base.proofs.Tests.{by-test}
+use Rattle.base.proofs.Tests.{by-test, either-way}
+use Rattle.base.proofs.WritesExact.{unwrittenFrom}
 use Rattle.frame.specs.Wire.{frameLimit}
 use Rattle.frame.specs.declared.reader.Reader.{Reader as CodeReader}
 use Rattle.frame.proofs.Injective.{states-injective as readers-injective}
@@ -21,13 +24,13 @@ use Rattle.listing.specs.Lines.{refusalText}
 use Rattle.capture.specs.Reading.{endIn, endOf, inRangeOf as cursorInRange}
 use Rattle.capture.specs.declared.reading.Refusal.{Refusal}
 use Rattle.capture.specs.declared.reading.Refusal.the-variants as refusal
-use Rattle.replay.specs.Closing.{endLines, closingText, closingRow}
+use Rattle.replay.specs.Closing.{endLines, closingText, closingRow, closed}
 use Rattle.replay.specs.State.{State, inRangeOf}
 use Rattle.replay.specs.Table.{closingRowOf}
 use Rattle.replay.specs.EachCall.{StatesInjective, RowsInjective, StopNumbers, LeftFieldsAlways}
 use Rattle.replay.specs.EachCall.{ReplayRanges, PlayStops, PlayStopsAlways}
 use Rattle.replay.specs.EachCall.{ClosesExactlyAlways, KeepsExactlyAlways, AllNamedStates, AllAnswerRows}
-use Rattle.replay.specs.EachCall.{ClosingWhole}
+use Rattle.replay.specs.EachCall.{ClosingWhole, FinishAsked, NoPayload}
 use Rattle.replay.specs.declared.closing.ClosingResult.{ClosingResult}
 use Rattle.replay.specs.declared.closing.ClosingResult.the-variants as closing
 use Rattle.replay.specs.declared.state.Replay.{Replay}
@@ -58,6 +61,7 @@ answer-rows count place =
       version = refl;
       direction = refl;
       ended = refl;
+      payload = refl;
       room = refl;
       state = refl;
       used = refl;
@@ -95,8 +99,9 @@ refusalFrom r =
 
 abbrev closingFrom : Row → ClosingResult
 closingFrom r =
-    under r 0 closing.More (under r 2 (closing.Whole (value r 0)) (under r 22 closing.Room (under r 17 closing.State
-    (under r 18 closing.Used (closing.Refused (value r 0) (refusalFrom r) (value r 1))))))
+    under r 0 closing.More (under r 2 (closing.Whole (value r 0)) (under r 17 closing.State (under r 18 closing.Used
+    (cond (ltb 50 (r .number)) (closing.Refused (value r 0) (refusalFrom r) (value r 1))
+    (closing.Unwritten (unwrittenFrom r))))))
 
 closing-back : (a : ClosingResult) → closingFrom (closingRowOf a) ≡ a
 closing-back closing.More = refl
@@ -105,7 +110,8 @@ closing-back (closing.Refused count refusal.Mark place) = refl
 closing-back (closing.Refused count refusal.Version place) = refl
 closing-back (closing.Refused count refusal.Direction place) = refl
 closing-back (closing.Refused count refusal.Ended place) = refl
-closing-back closing.Room = refl
+closing-back (closing.Unwritten unwritten.Payload) = refl
+closing-back (closing.Unwritten (unwritten.Room needed)) = refl
 closing-back closing.State = refl
 closing-back closing.Used = refl
 
@@ -147,10 +153,11 @@ end-goes place b i =
     (λ e h z. omega arith)
     (λ low fits h z. omega arith)
 
-closing-goes : (end : Row) (count : ℕ) → end .number ≢ 17 → closingRow end count .number ≢ 17
-closing-goes end count h =
-    by-test (λ (r : Row). r .number ≢ 17) (eqb (end .number) 2) (λ e z. omega arith)
-    (λ e. by-test (λ (r : Row). r .number ≢ 17) (ltb 50 (end .number)) (λ f. h) (λ f. h))
+-- a number other than 2 is the answer's only where it is the end's
+closing-goes : (n : ℕ) → n ≢ 2 → (end : Row) (count : ℕ) → end .number ≢ n → closingRow end count .number ≢ n
+closing-goes n other end count h =
+    by-test (λ (r : Row). r .number ≢ n) (eqb (end .number) 2) (λ e z. other (sym z))
+    (λ e. by-test (λ (r : Row). r .number ≢ n) (ltb 50 (end .number)) (λ f. h) (λ f. h))
 
 pub replay-ranges : ReplayRanges
 replay-ranges s b out room =
@@ -159,10 +166,11 @@ replay-ranges s b out room =
       played-only = λ k. rw (replay-inside s k) (loop-goes (suc (length b)) s b room (each-inside s k));
       closed = λ o. rw (replay-outside s o);
       closed-only = λ k. rw (replay-inside s k)
-          (by-test (λ (y : Output). y .row .number ≢ 17)
+          (by-test (λ (w : Output). rowed (closingRow (endOf (s .place) b)) w .row .number ≢ 17)
           (ltb (length out) (length (closingText frameLimit s (endOf (s .place) b))))
           (λ e z. omega arith)
-          (λ e. closing-goes (endOf (s .place) b) _ (end-goes (s .place) b (each-inside s k .cursor))));
+          (λ e. closing-goes 17 (λ z. omega arith) (endOf (s .place) b) _
+          (end-goes (s .place) b (each-inside s k .cursor))));
     }
 
 -- ---- play-stops
@@ -209,6 +217,69 @@ closes-exactly s b out k =
       more = λ e. rw (i, e, le-ltb (length out) 0 (omega arith));
       used = λ e. rw (i, e, le-ltb (length out) 0 (omega arith));
     }
+
+-- ---- finish-asked and no-payload
+
+-- the numbers of a capture's end
+abbrev endNumbers : List ℕ
+endNumbers = 0 ∷ 2 ∷ 17 ∷ 18 ∷ 51 ∷ 52 ∷ 53 ∷ 54 ∷ []
+
+-- an end has one of them, and no count where it has no text
+abbrev EndSays : Row → Type 0
+EndSays r = (among (r .number) endNumbers ≡ true) × (r .number ≢ 2 → r .number ≤ 50 → value r 0 ≡ 0)
+
+end-says : (place : ℕ) (b : List ℕ) → EndSays (endOf place b)
+unfolding among
+end-says place b =
+    next-cases place b (λ (y : Outcome ℕ). EndSays (endIn (y .row) place b))
+    (λ o. (refl, λ n h. refl))
+    (refl, λ n h. refl)
+    (refl, λ n h. refl)
+    (refl, λ n h. absurd (omega arith))
+    (refl, λ n h. absurd (omega arith))
+    (λ p. by-test EndSays (eqb place 0)
+    (λ e. by-test EndSays (ltb (length b) 3) (λ f. (refl, λ n h. refl)) (λ f. (refl, λ n h. absurd (omega arith))))
+    (λ e. by-test EndSays (eqb (length b) 0) (λ f. (refl, λ n h. absurd (n refl)))
+    (λ f. (refl, λ n h. absurd (omega arith)))))
+    (λ e h. (refl, λ n g. refl))
+    (λ low fits h. (refl, λ n g. refl))
+
+-- no answer of a written text has another number
+closing-known : (place : ℕ) (b : List ℕ) (n : ℕ) → among n endNumbers ≡ false → (count : ℕ)
+    → closingRow (endOf place b) count .number ≢ n
+unfolding among
+closing-known place b n none count =
+    closing-goes n (λ e. true≢false (sym (ap (λ (k : ℕ). among k endNumbers) e) ∙ none)) (endOf place b) count
+    (λ e. true≢false (sym (end-says place b .0) ∙ ap (λ (k : ℕ). among k endNumbers) e ∙ none))
+
+-- where its text is written, the first value of the answer is the text's length
+counted : (limit : ℕ) (s : State) (end : Row) → EndSays end
+    → value (closingRow end (length (closingText limit s end))) 0 ≡ length (closingText limit s end)
+counted limit s end says =
+    either-way (eqb (end .number) 2) (λ e. rw e)
+    (λ e. either-way (ltb 50 (end .number)) (λ f. rw (e, f))
+    (λ f. rw (e, f) (says .1 (eqb-false (end .number) 2 e) (ltb-false 50 (end .number) f))))
+
+pub finish-asked : FinishAsked
+unfolding among
+finish-asked limit s b =
+    let end : Row = endOf (s .place) b in
+    let text = closingText limit s end in
+    asks-either (λ (w : Output). w .row) (inRangeOf limit s) (λ out. closed end text out)
+    (λ out. output (row 17 (0 ∷ [])) out)
+    (asks-by text (λ out. closed end text out .row) (closingRow end (length text))
+    (λ out h. rw (lt-ltb (length out) (length text) h)) (λ out h. rw (le-ltb (length out) (length text) h))
+    (closing-known (s .place) b 22 refl _) (counted limit s end (end-says (s .place) b)))
+    (asks-never (row 17 (0 ∷ [])) (λ e. omega arith))
+
+pub no-payload : NoPayload
+unfolding among
+no-payload limit s b out =
+    by-test (λ (w : Output). w .row .number ≢ 21) (inRangeOf limit s)
+    (λ i. by-test (λ (w : Output). rowed (closingRow (endOf (s .place) b)) w .row .number ≢ 21)
+    (ltb (length out) (length (closingText limit s (endOf (s .place) b)))) (λ e z. omega arith)
+    (λ e. closing-known (s .place) b 21 refl _))
+    (λ i z. omega arith)
 
 -- ---- keeps-exactly
 

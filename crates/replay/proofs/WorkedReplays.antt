@@ -12,7 +12,8 @@ use Rattle.listing.specs.Lines.{columnsOf}
 use Rattle.capture.specs.Reading.{agrees}
 use Rattle.replay.specs.Playing.{playIn}
 use Rattle.replay.specs.Turns.{stateBy, textBy, leftBy, AreWindows}
-use Rattle.replay.specs.WorkedReplays.{exampleCapture, WorkedReplay, WorkedRefusals, WorkedEmpty, WorkedLines}
+use Rattle.replay.specs.WorkedReplays.{exampleCapture, WorkedReplay, WorkedRefusals, WorkedEmpty, WorkedRoom}
+use Rattle.replay.specs.WorkedReplays.{WorkedLines}
 
 pub worked-empty : WorkedEmpty
 unfolding stateBy textBy leftBy playIn agrees listIn runOf zeros columnsOf decimalOf digitsIn
@@ -73,6 +74,11 @@ worked-replay =
       not-kept = λ o. let z : _≡_ {A = ℕ} 0x00 0x05 = ap (λ (l : List ℕ). getD l 5 0) (o .1 .0 .1) in omega arith;
       not-early = λ f. early (f .front) (f .decided);
     }
+
+pub worked-room : WorkedRoom
+unfolding stateBy playIn agrees zeros columnsOf decimalOf digitsIn
+worked-room =
+    record { heading-short = refl; ends-short = refl; ends-fit = refl; refusal-short = refl; refusal-fits = refl }
 
 pub worked-lines : WorkedLines
 unfolding stateBy textBy leftBy playIn agrees listIn runOf zeros columnsOf decimalOf digitsIn

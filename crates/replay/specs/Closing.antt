@@ -4,10 +4,10 @@ use Prim.Native.Nat.{ℕ}
 use mathlib.Core.Bool.{cond}
 use mathlib.Core.Path.{_≡_}
 use mathlib.Core.List.{List, [], _∷_, _++_}
-use lib.ListN.{length, getD}
+use lib.ListN.{getD}
 use lib.Dec.{eqb, ltb}
 use Rattle.base.specs.Rows.{Row, row}
-use Rattle.base.specs.Outcomes.{Output, output, onto}
+use Rattle.base.specs.Outcomes.{Output, output, placed, rowed}
 use Rattle.frame.specs.Calls.{finishOf}
 use Rattle.frame.specs.State.{State as Reader}
 use Rattle.listing.specs.Lines.{lastOf, refusalText}
@@ -37,11 +37,9 @@ closingRow end count =
     cond (eqb (end .number) 2) (row 2 (count ∷ []))
     (cond (ltb 50 (end .number)) (row (end .number) (count ∷ getD (end .values) 0 0 ∷ [])) end)
 
--- the text goes to the front of the buffer; where it does not fit it is ROOM, and the buffer is unchanged
+-- the text is placed like every other; where it is written, its count has the end's row
 abbrev pub closed : Row → List ℕ → List ℕ → Output
-closed end text out =
-    cond (ltb (length out) (length text)) (output (row 22 (0 ∷ [])) out)
-    (output (closingRow end (length text)) (onto text out))
+closed end text out = rowed (closingRow end) (placed text out)
 
 -- a call of `finish`: STATE comes first
 abbrev pub closeOf : ℕ → State → List ℕ → List ℕ → Output

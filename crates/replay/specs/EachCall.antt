@@ -1,14 +1,16 @@
--- Claims: what each call answers and leaves, and exactly when. PROTOCOL 14.4 to 14.7.
+-- Claims: what each call answers and leaves, and exactly when. PROTOCOL 14.4 to 14.7, 6.12.
 use Prim.Native.Nat.{ℕ, _+_, _≤_, _<_}
 use mathlib.Core.Path.{_≡_}
 use mathlib.Core.Logic.{_≢_, _⊎_}
 use mathlib.Core.Bool.{true}
 use mathlib.Core.List.{List, [], _∷_, _++_}
 use lib.ListN.{length, getD, drop}
+use Rattle.base.specs.Asking.{AsksOnce}
 use Rattle.base.specs.Keys.{among}
 use Rattle.base.specs.Rows.{row}
 use Rattle.base.specs.Outcomes.{Output, output}
 use Rattle.base.specs.Runs.{Run}
+use Rattle.base.specs.declared.writes.Unwritten.the-variants as unwritten
 use Rattle.frame.specs.Wire.{frameLimit}
 use Rattle.frame.specs.Ranges.{OutOfRange as ReaderOut}
 use Rattle.frame.specs.State.{State as Reader, stateOf as readerStateOf}
@@ -62,7 +64,8 @@ pub record AnswerRows (count place : ℕ) : Type 0 where
   pub version : closingRowOf (closing.Refused count refusal.Version place) ≡ row 52 (count ∷ place ∷ [])
   pub direction : closingRowOf (closing.Refused count refusal.Direction place) ≡ row 53 (count ∷ place ∷ [])
   pub ended : closingRowOf (closing.Refused count refusal.Ended place) ≡ row 54 (count ∷ place ∷ [])
-  pub room : closingRowOf closing.Room ≡ row 22 (0 ∷ [])
+  pub payload : closingRowOf (closing.Unwritten unwritten.Payload) ≡ row 21 (0 ∷ [])
+  pub room : closingRowOf (closing.Unwritten (unwritten.Room count)) ≡ row 22 (count ∷ [])
   pub state : closingRowOf closing.State ≡ row 17 (0 ∷ [])
   pub used : closingRowOf closing.Used ≡ row 18 (0 ∷ [])
 
@@ -134,21 +137,23 @@ abbrev pub PlayStopsAlways : Type 0
 PlayStopsAlways =
     (limit : ℕ) (s : State) (b : List ℕ) (room : ℕ) → PlayStops s b room (playOf limit s b room)
 
--- ---- closes-exactly: what `finish` answers and leaves, by the capture's end: PROTOCOL 14.5
+-- ---- closes-exactly: what `finish` answers and leaves, by the capture's end; ROOM says the length of the text:
+-- PROTOCOL 14.5
 pub record ClosesExactly (s : State) (b out : List ℕ) : Type 0 where
   -- both end lines, at the front of the buffer, whose rest stays
   pub whole : (place : ℕ) → endOf (s .place) b ≡ row 2 (place ∷ []) → length (endLines frameLimit s) ≤ length out
       → closeOf frameLimit s b out ≡ output (row 2 (length (endLines frameLimit s) ∷ []))
       (endLines frameLimit s ++ drop (length (endLines frameLimit s)) out)
   pub whole-room : (place : ℕ) → endOf (s .place) b ≡ row 2 (place ∷ []) → length out < length (endLines frameLimit s)
-      → closeOf frameLimit s b out ≡ output (row 22 (0 ∷ [])) out
+      → closeOf frameLimit s b out ≡ output (row 22 (length (endLines frameLimit s) ∷ [])) out
   -- the line of the refusal
   pub refused : (number place : ℕ) → endOf (s .place) b ≡ row number (place ∷ []) → 50 < number
       → length (refusalText number place) ≤ length out
       → closeOf frameLimit s b out ≡ output (row number (length (refusalText number place) ∷ place ∷ []))
       (refusalText number place ++ drop (length (refusalText number place)) out)
   pub refused-room : (number place : ℕ) → endOf (s .place) b ≡ row number (place ∷ []) → 50 < number
-      → length out < length (refusalText number place) → closeOf frameLimit s b out ≡ output (row 22 (0 ∷ [])) out
+      → length out < length (refusalText number place)
+      → closeOf frameLimit s b out ≡ output (row 22 (length (refusalText number place) ∷ [])) out
   -- something is left to play, or more than 2^62 bytes came
   pub more : endOf (s .place) b ≡ row 0 (0 ∷ []) → closeOf frameLimit s b out ≡ output (row 0 (0 ∷ [])) out
   pub used : endOf (s .place) b ≡ row 18 (0 ∷ []) → closeOf frameLimit s b out ≡ output (row 18 (0 ∷ [])) out
@@ -156,6 +161,14 @@ pub record ClosesExactly (s : State) (b out : List ℕ) : Type 0 where
 -- of every replay in range
 abbrev pub ClosesExactlyAlways : Type 0
 ClosesExactlyAlways = (s : State) (b out : List ℕ) → (OutOfRange s → ⊥) → ClosesExactly s b out
+
+-- ---- finish-asked: a text that met ROOM once is written into every output of the length that it said
+abbrev pub FinishAsked : Type 0
+FinishAsked = (limit : ℕ) (s : State) (b : List ℕ) → AsksOnce (λ out. closeOf limit s b out .row)
+
+-- ---- no-payload: finish never answers PAYLOAD, which its type has
+abbrev pub NoPayload : Type 0
+NoPayload = (limit : ℕ) (s : State) (b out : List ℕ) → closeOf limit s b out .row .number ≢ 21
 
 -- ---- closing-whole: what the contract of `finish` fixes: the answer's row, and the whole buffer
 abbrev pub ClosingWhole : Type 0

@@ -2,6 +2,7 @@
 use Prim.Native.Nat.{ℕ}
 use mathlib.Core.List.{[], _∷_}
 use Rattle.base.specs.Rows.{Row, row}
+use Rattle.base.specs.Writes.{unwrittenRowOf}
 use Rattle.capture.specs.Table.{refusalNumber}
 use Rattle.replay.specs.declared.closing.ClosingResult.{ClosingResult}
 use Rattle.replay.specs.declared.closing.ClosingResult.the-variants as closing
@@ -21,6 +22,6 @@ abbrev pub closingRowOf : ClosingResult → Row
 closingRowOf closing.More = row 0 (0 ∷ [])
 closingRowOf (closing.Whole count) = row 2 (count ∷ [])
 closingRowOf (closing.Refused count r place) = row (refusalNumber r) (count ∷ place ∷ [])
-closingRowOf closing.Room = row 22 (0 ∷ [])
+closingRowOf (closing.Unwritten why) = unwrittenRowOf why
 closingRowOf closing.State = row 17 (0 ∷ [])
 closingRowOf closing.Used = row 18 (0 ∷ [])

@@ -2,13 +2,16 @@
 use Prim.Native.Nat.{ℕ}
 use mathlib.Core.Path.{_≡_}
 use mathlib.Core.List.{List, [], _∷_, _++_}
-use lib.ListN.{take, drop}
+use lib.ListN.{take, drop, replicate}
+use Rattle.base.specs.Rows.{row}
+use Rattle.base.specs.Outcomes.{output, placed}
 use Rattle.frame.specs.Wire.{frameLimit}
 use Rattle.listing.specs.Lines.{ascii}
 use Rattle.listing.specs.WorkedListings.{exampleStream}
 use Rattle.capture.specs.Format.{head, recordBytes}
 use Rattle.replay.specs.Lines.{replayHeading}
 use Rattle.replay.specs.State.{State, freshOf}
+use Rattle.replay.specs.Closing.{closeOf}
 use Rattle.replay.specs.Turns.{Turn, stateBy, leftBy, AreWindows, Finishes, writtenBy}
 
 -- a replay at the beginning of a capture
@@ -113,6 +116,22 @@ pub record WorkedRefusals : Type 0 where
 -- ---- worked-empty: a capture without records
 abbrev pub WorkedEmpty : Type 0
 WorkedEmpty = replayOf head ≡ replayHeading ++ ascii "0 clean 0\n1 clean 0\n"
+
+-- ---- worked-room: the length that ROOM says, one byte short, and the answer where the text fits
+
+-- a replay after the head of a capture
+abbrev pub afterHead : State
+afterHead = stateBy frameLimit fresh (turn head 0 ∷ [])
+
+-- of the heading, of both end lines, and of the line of a refusal
+pub record WorkedRoom : Type 0 where
+  pub heading-short : placed replayHeading (replicate 39 7) ≡ output (row 22 (40 ∷ [])) (replicate 39 7)
+  pub ends-short : closeOf frameLimit afterHead [] (replicate 19 7) ≡ output (row 22 (20 ∷ [])) (replicate 19 7)
+  pub ends-fit : closeOf frameLimit afterHead [] (replicate 20 7)
+      ≡ output (row 2 (20 ∷ [])) (ascii "0 clean 0\n1 clean 0\n")
+  pub refusal-short : closeOf frameLimit fresh [] (replicate 12 7) ≡ output (row 22 (13 ∷ [])) (replicate 12 7)
+  pub refusal-fits : closeOf frameLimit fresh [] (replicate 13 7)
+      ≡ output (row 51 (13 ∷ 0 ∷ [])) (ascii "refused 51 0\n")
 
 -- ---- worked-lines: a line of each kind in both directions; both kinds of end line, and places above 0
 pub record WorkedLines : Type 0 where

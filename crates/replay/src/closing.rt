@@ -1,10 +1,11 @@
 // The end of a replay: both end lines, or the line of the refusal. PROTOCOL 14.3, 14.5.
 use super::state::Replay;
 use super::state::in_range;
+use base::Unwritten;
+use base::WriteResult;
 use capture::EndResult;
 use capture::Refusal;
 use frame::Reader;
-use listing::LineResult;
 ghost use mathlib.Core.Path.{_≡_};
 ghost use mathlib.Core.List.{[], _∷_, _++_};
 ghost use Prim.Native.Nat.{_≤_};
@@ -29,23 +30,22 @@ pub enum ClosingResult {
         refusal: Refusal,
         place: u64,
     },
-    Room,
+    // ROOM 22: the buffer is too small for the text. It is never PAYLOAD.
+    Unwritten {
+        why: Unwritten,
+    },
     State,
     Used,
 }
 
 // Both texts at the front of the buffer, or none.
 fn put_lines(first: &[u8], second: &[u8], out: &mut [u8]) -> ClosingResult
-    requires { ⌜ (length (now first) ≤ 160) × (length (now second) ≤ 160) ⌝ }
     ensures { λ r. ⌜ Closes r (now (out .exit))
         (closed (row 2 (0 ∷ [])) (now (first .entry) ++ now (second .entry)) (now (out .entry))) ⌝ }
 {
-    if out.len() < first.len() + second.len() {
-        return ClosingResult::Room;
-    }
-    let at = base::put_bytes(out, 0, first);
-    ClosingResult::Whole {
-        count: base::put_bytes(out, at, second),
+    match base::write_both(first, second, out) {
+        WriteResult::Wrote { count } => ClosingResult::Whole { count },
+        WriteResult::Unwritten { why } => ClosingResult::Unwritten { why },
     }
 }
 
@@ -84,12 +84,12 @@ fn put_refusal(refusal: Refusal, place: u64, out: &mut [u8]) -> ClosingResult
         (refusalText (refusalNumber refusal) place) (now (out .entry))) ⌝ }
 {
     match listing::refusal(refusal.number() as u64, place, out) {
-        LineResult::Wrote { count } => ClosingResult::Refused {
+        WriteResult::Wrote { count } => ClosingResult::Refused {
             count,
             refusal,
             place,
         },
-        LineResult::Room => ClosingResult::Room,
+        WriteResult::Unwritten { why } => ClosingResult::Unwritten { why },
     }
 }
 

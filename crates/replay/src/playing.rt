@@ -3,13 +3,14 @@ use super::state::Replay;
 use super::state::in_range;
 use super::steps::Stop;
 use super::steps::play_one;
+use base::WriteResult;
 use capture::Direction;
-use listing::LineResult;
 ghost use mathlib.Core.Path.{_≡_};
 ghost use lib.ListN.{length};
+ghost use Rattle.base.specs.Outcomes.{placed};
 ghost use Rattle.base.specs.Runs.{leftBy};
+ghost use Rattle.base.specs.Writes.{Writes};
 ghost use Rattle.frame.specs.Wire.{frameLimit};
-ghost use Rattle.listing.specs.Table.{Puts};
 ghost use Rattle.replay.specs.Lines.{replayHeading};
 ghost use Rattle.replay.specs.State.{stateOf};
 ghost use Rattle.replay.specs.Playing.{loopOf, playOf, leftOf};
@@ -23,8 +24,8 @@ pub struct Played {
 }
 
 // The heading.
-pub fn heading(out: &mut [u8]) -> LineResult
-    ensures { λ r. ⌜ Puts r (now (out .exit)) replayHeading (now (out .entry)) ⌝ }
+pub fn heading(out: &mut [u8]) -> WriteResult
+    ensures { λ r. ⌜ Writes r (now (out .exit)) (placed replayHeading (now (out .entry))) ⌝ }
 {
     listing::heading(b"dir ", out)
 }

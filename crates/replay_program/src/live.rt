@@ -124,7 +124,7 @@ fn finish(replay: Replay, bytes: &[u8], out: &mut [u8]) -> Ending {
             place: _,
         } => end_with(out, count, Ending::Refused),
         ClosingResult::More => broken(),
-        ClosingResult::Room => broken(),
+        ClosingResult::Unwritten { .. } => broken(),
         ClosingResult::State => broken(),
         ClosingResult::Used => broken(),
     }

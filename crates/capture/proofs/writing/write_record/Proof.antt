@@ -16,7 +16,7 @@ returns-2 c =
     let count = byte .before in
     let time = count .before in
     let s = time .before .before .before .before in
-    put .put-both .ensures
+    put .write-both .ensures
     ∙ rw (
       le-ltb 65535 (length (s .args .payload .now)) (time .before .if1 .left),
       byte .direction-byte .ensures,

@@ -23,7 +23,8 @@ module _ (c : tie.Start) where
 returns : tie.Need-returns
 returns c =
     let s = c .before .before .before .before .before .before .before in
-    (not-placed (text s) (s .args .out .now) (omega (arith, text-length s)), omega (arith, text-length s))
+    let room = not-placed (text s) (s .args .out .now) (omega (arith, text-length s)) (c .if1 .taken) in
+    (room, omega (arith, text-length s))
 
 returns-2 : tie.Need-returns-2
 returns-2 c =

@@ -2,21 +2,14 @@
 use Prim.Native.Nat.{ℕ}
 use mathlib.Core.Path.{_≡_, ap, _∙_}
 use mathlib.Core.List.{List, [], _∷_, _++_}
-use native.Mathlib.Omega.{arith}
 use Rattle.base.specs.Rows.{row}
 use Rattle.frame.specs.Wire.{frameLimit}
 use Rattle.replay.specs.State.{stateOf}
 use Rattle.replay.specs.Closing.{endLines, closed}
-use Rattle.replay.proofs.ClosingLaws.{front-text, front-short}
+use Rattle.replay.proofs.ClosingLaws.{front-text}
 use borrow.Author.Needs.{needs}
 use Rattle.replay.proofs.closing.put_ends.Statement.{statement}
 use Rattle.replay.proofs.closing.put_ends.Tie as tie
-
-put-lines-requires : tie.Need-put-lines-requires
-put-lines-requires c κs =
-    let second = c .before .part2 .ensures in
-    let first = c .before .before .before .part .ensures in
-    (omega (arith, front-short _ _ _ first), omega (arith, front-short _ _ _ second))
 
 returns : tie.Need-returns
 returns c =
@@ -40,6 +33,5 @@ put-ends-spec =
     (λ c. search needs) (λ c. search needs) (λ c κs. search needs)
     (λ c. search needs) (λ c κs. search needs)
     (λ c. search needs) (λ c κs. search needs)
-    put-lines-requires
-    (λ c. search needs)
+    (λ c κs. search needs) (λ c. search needs)
     returns)

@@ -1,47 +1,31 @@
--- `closing::put_lines` meets its contract: where both texts fit, their join is put.
-use Prim.Native.Nat.{ℕ, _+_}
-use mathlib.Core.Path.{_≡_}
-use mathlib.Core.List.{List, [], _∷_, _++_}
-use native.Mathlib.Omega.{arith}
+-- `closing::put_lines` meets its contract: one call writes both texts, and its outcome is the answer.
+use mathlib.Core.List.{[], _∷_, _++_}
 use borrow.Author.Needs.{needs}
-use lib.ListN.{length, length-append}
 use Rattle.base.specs.Rows.{row}
-use Rattle.base.proofs.Stores.{put-fitting, put-join, not-placed, put-placed}
-use Rattle.replay.proofs.ClosingLaws.{placed-closed, room-closed}
+use Rattle.replay.proofs.ClosingLaws.{placed-closed, unwritten-closed}
 use Rattle.replay.proofs.closing.put_lines.Statement.{statement}
 use Rattle.replay.proofs.closing.put_lines.Tie as tie
 
-module _ (c : tie.Start) where
-  abbrev whole : List ℕ
-  whole = c .args .first .now ++ c .args .second .now
-
-  whole-length : length whole ≡ length (c .args .first .now) + length (c .args .second .now)
-  whole-length = length-append (c .args .first .now) (c .args .second .now)
-
 returns : tie.Need-returns
 returns c =
-    let s = c .before .before .before .before in
-    room-closed (row 2 (0 ∷ [])) (whole s) (s .args .out .now)
-    (not-placed (whole s) (s .args .out .now) (omega (arith, whole-length s)))
+    let call = c .before .before .before .before .before in
+    let args = call .before .before .before .before .before .args in
+    placed-closed (row 2 (0 ∷ [])) (args .first .now ++ args .second .now) (args .out .now)
+    (rw (c .before .count .given .1) at (call .write-both .ensures))
 
 returns-2 : tie.Need-returns-2
 returns-2 c =
-    let last = c .before .before in
-    let first = last .before .before .before .before in
-    let s = first .before .before .before .before .before .before in
-    let args = s .args in
-    let one = put-fitting (args .out .now) 0 (args .first .now) (omega arith) (first .put-bytes .ensures) in
-    let two = put-fitting (first .put-bytes .last .0) (first .put-bytes .result) (args .second .now)
-    (omega (arith, first .put-bytes .kept .0, one .0)) (last .put-bytes2 .ensures) in
-    placed-closed (row 2 (0 ∷ [])) (whole s) (args .out .now)
-    (put-placed (whole s) (args .out .now) (omega (arith, whole-length s))
-    (put-join (args .out .now) (args .first .now) (args .second .now) 0 one two))
+    let call = c .before .before .before .before .before in
+    let args = call .before .before .before .before .before .args in
+    unwritten-closed (row 2 (0 ∷ [])) (args .first .now ++ args .second .now) (args .out .now)
+    (c .before .why .given .0 .0) (rw (c .before .why .given .1) at (call .write-both .ensures))
 
 pub put-lines-spec : {M : Type 1} → statement M
 put-lines-spec =
     tie.close
     (tie.spec
+    (λ c κs. search needs) (λ c. search needs) (λ c. search needs)
     (λ c. search needs)
     returns
-    (λ c κs. search needs) (λ c κs. search needs) (λ c. search needs)
+    (λ c. search needs)
     returns-2)
