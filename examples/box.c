@@ -34,35 +34,30 @@ static void put_report(const struct status *status, uint8_t payload[REPORT_SIZE]
     payload[8] = status->alarms;
 }
 
-static const char *refusal(uint32_t returned)
-{
-    switch (returned) {
-    case TROGONREED_REFUSED_PAYLOAD:
-        return "the payload is too long";
-    case TROGONREED_REFUSED_ROOM:
-        return "the frame does not fit into the output";
-    default:
-        return "unknown";
-    }
-}
+/* What goes over the serial line next. A frame may have 2 KiB, which is all the stack of a small box; a report has 18
+ * bytes, and at most 34. */
+static uint8_t line[34];
 
 int main(void)
 {
     const struct status status = {FEEDING | GATHER, 3, 255, 0};
     const uint8_t number = 2;
     uint8_t payload[REPORT_SIZE];
-    /* not on the stack: a small box has 2 KiB of it, and a frame may have as many */
-    static uint8_t frame[TROGONREED_MAX_FRAME];
     uint32_t count, i;
 
     put_report(&status, payload);
-    count = trogonreed_write_frame(REPORT, number, 0, payload, sizeof payload, frame, sizeof frame);
+    count = trogonreed_write_frame(REPORT, number, 0, payload, sizeof payload, line, sizeof line);
+    if (trogonreed_needed(count) != 0) {
+        fprintf(stderr, "refused: the line has room for %lu bytes, and the frame needs %lu\n",
+                (unsigned long)sizeof line, (unsigned long)trogonreed_needed(count));
+        return 1;
+    }
     if (trogonreed_is_refused(count)) {
-        fprintf(stderr, "refused: %s\n", refusal(count));
+        fprintf(stderr, "refused: the payload is too long\n");
         return 1;
     }
     for (i = 0; i < count; i++)
-        printf("%s%02X", i == 0 ? "" : " ", frame[i]);
+        printf("%s%02X", i == 0 ? "" : " ", line[i]);
     printf("\n");
     return 0;
 }

@@ -29,21 +29,35 @@ extern "C" {
 
 /*
  * A call uses less than this many bytes of stack, its return address and the arguments on the stack included; payload
- * and buffer are the caller's own. Tested for payloads of every size, not proved; with this archive, 72 bytes were
+ * and buffer are the caller's own. Tested for payloads of every size, not proved; with this archive, 88 bytes were
  * measured on x86-64 Linux. docs/STACK.md has more.
  */
 #define TROGONREED_STACK 1024ul
 
-/* A returned number below this one is a count of bytes. A refusal is this number plus the number of the refusal. */
+/*
+ * What a returned number means:
+ *   - below TROGONREED_REFUSED it is the count of bytes written, at most TROGONREED_MAX_FRAME;
+ *   - TROGONREED_REFUSED_PAYLOAD, which is TROGONREED_REFUSED plus TROGONREED_PAYLOAD, is PAYLOAD: the payload has more
+ *     than TROGONREED_MAX_PAYLOAD bytes;
+ *   - from TROGONREED_NO_ROOM on it is ROOM: the buffer is smaller than the frame on the wire. It is TROGONREED_NO_ROOM
+ *     plus the size of that frame, at most TROGONREED_MAX_FRAME; trogonreed_needed gives the size.
+ * No other number is returned. PAYLOAD and ROOM are refusals: nothing is written, and the buffer stays as it was.
+ */
 #define TROGONREED_REFUSED 65536ul
-
-/* The numbers of the refusals. */
-#define TROGONREED_PAYLOAD 21ul /* the payload has more than TROGONREED_MAX_PAYLOAD bytes */
-#define TROGONREED_ROOM 22ul    /* the buffer is shorter than the frame on the wire */
-
-/* The refusals as they are returned. */
+#define TROGONREED_PAYLOAD 21ul
 #define TROGONREED_REFUSED_PAYLOAD 65557ul
-#define TROGONREED_REFUSED_ROOM 65558ul
+#define TROGONREED_NO_ROOM 131072ul
+
+/*
+ * For callers of version 0.12 and before, where ROOM was 65558:
+ *   - TROGONREED_REFUSED_ROOM and TROGONREED_ROOM are gone, and a program that names them does not compile. Test
+ *     `trogonreed_needed(n) != 0`, or `n >= TROGONREED_NO_ROOM`, instead.
+ *   - A test for 65558 never holds now, for ROOM `n - 65536` is not the number of the refusal, and its bit 65536 is not
+ *     set. Test trogonreed_is_refused(n) before n is used as a count: who takes ROOM for one reads beyond the buffer.
+ *   - Compile every file again that includes this header: an object made with the old one knows ROOM by its old number.
+ *     TROGONREED_NO_ROOM is defined in this header and not in older ones.
+ * A count, PAYLOAD and trogonreed_is_refused are as before.
+ */
 
 /*
  * Writes one frame at the front of the caller's buffer `out`: FF FF, then length, command, sequence number, flags,
@@ -55,8 +69,10 @@ extern "C" {
  * number of the frame that it replies to (docs/PROTOCOL.md, 8.1 and section 9). This function keeps no count: the
  * caller does.
  *
- * Returns the count of bytes written, at most TROGONREED_MAX_FRAME, or a refusal. TROGONREED_REFUSED_PAYLOAD is tested
- * first, then TROGONREED_REFUSED_ROOM. A refusal writes nothing: `out` stays as it was.
+ * Returns the count of bytes written, or a refusal: PAYLOAD is tested first, then ROOM. To ask how large the frame is,
+ * pass `NULL, 0` as the buffer: that is PAYLOAD or ROOM. With the same command, number, flags and payload bytes, a
+ * buffer of the size that ROOM has, or a larger one, gets the frame, and that size is returned; a smaller one is ROOM
+ * with the same number.
  *
  * This is the caller's duty, and nothing here can test it:
  *   - `payload` is readable for `payload_len` bytes, and `out` is writable for `out_len` bytes;
@@ -70,6 +86,36 @@ uint32_t trogonreed_write_frame(uint8_t command, uint8_t number, uint16_t flags,
 static inline int trogonreed_is_refused(uint32_t returned)
 {
     return returned >= TROGONREED_REFUSED;
+}
+
+/*
+ * The size of the frame on the wire, where a returned number is ROOM; otherwise 0, and no frame has 0 bytes.
+ *
+ * Example: a report after those that wait for the serial line, or not at all. The first call asks, with no buffer; the
+ * second one writes. It returns 0 where the payload is too long, or where there is no room now. Between the two calls
+ * nobody may write to the payload.
+ *
+ *     static uint8_t waiting[256];
+ *     static size_t used;
+ *
+ *     int queue_report(uint8_t number, const uint8_t *payload, size_t payload_len)
+ *     {
+ *         const uint32_t asked = trogonreed_write_frame(0x05, number, 0, payload, payload_len, NULL, 0);
+ *         const size_t needed = trogonreed_needed(asked);
+ *         uint32_t count;
+ *
+ *         if (needed == 0 || needed > sizeof waiting - used)
+ *             return 0;
+ *         count = trogonreed_write_frame(0x05, number, 0, payload, payload_len, waiting + used, needed);
+ *         if (trogonreed_is_refused(count))
+ *             return 0;
+ *         used += count;
+ *         return 1;
+ *     }
+ */
+static inline size_t trogonreed_needed(uint32_t returned)
+{
+    return (size_t)(returned < TROGONREED_NO_ROOM ? 0 : returned - TROGONREED_NO_ROOM);
 }
 
 #ifdef __cplusplus

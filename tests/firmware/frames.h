@@ -4,7 +4,10 @@
 
 #include "fenced.h"
 
-enum { MOST_PAYLOAD = 65536, MOST_OUT = 4096, UNTOUCHED = 0xAA };
+enum { MOST_PAYLOAD = 65536, MOST_OUT = 4096, UNTOUCHED = 0xAA, LONGEST = 1030 };
+
+/* How a random payload is filled. */
+enum kind { ANY, ALL_FF, FF_AND_55, MANY_FF, KINDS };
 
 struct frame {
     uint8_t command;
@@ -24,6 +27,14 @@ struct memory memory_new(void);
 
 /* A call with `room` bytes of output, each UNTOUCHED before it, at one side of their memory. `*out` is the output. */
 uint32_t call(struct memory memory, enum side side, const struct frame *frame, size_t room, uint8_t **out);
+
+/* Random frames, the same for one seed everywhere. `LONGEST` bytes of payload are more than a frame may have. */
+void begin_random(uint64_t seed);
+void fill_random(uint8_t *payload, size_t payload_len, enum kind kind);
+struct frame frame_random(uint8_t payload[LONGEST]);
+
+/* Asks with every room that is too small, and writes into room of the length found: NULL, or what is wrong. */
+const char *asking_fault(struct memory memory, const struct frame *frame);
 
 /* The mode `random`: a line for each call. */
 int print_random(uint64_t seed, unsigned long count);

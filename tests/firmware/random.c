@@ -1,14 +1,22 @@
-/* Random calls, a line of text for each: COMMAND NUMBER FLAGS ROOM PAYLOAD RESULT OUTPUT. */
+/* Random frames; and random calls, a line of text for each: COMMAND NUMBER FLAGS ROOM PAYLOAD RESULT OUTPUT. */
 #include <stdio.h>
 #include <string.h>
 
 #include "frames.h"
 #include "trogonreed.h"
 
-enum { LONGEST = 1030, OVER = 8 };
+enum { OVER = 8 };
 
 /* xorshift64*: the same numbers everywhere for one seed */
 static uint64_t state;
+
+void begin_random(uint64_t seed)
+{
+    /* a state of 0 would stay 0 */
+    state = seed * UINT64_C(11400714819323198485) ^ UINT64_C(88172645463325252);
+    if (state == 0)
+        state = 1;
+}
 
 static uint32_t below(uint32_t n)
 {
@@ -19,35 +27,41 @@ static uint32_t below(uint32_t n)
 }
 
 /* Any byte, but FF and 55 often. */
-static uint8_t byte(uint32_t kind)
+static uint8_t byte(enum kind kind)
 {
     switch (kind) {
-    case 0:
+    case ANY:
         return (uint8_t)below(256);
-    case 1:
+    case ALL_FF:
         return 0xFF;
-    case 2:
+    case FF_AND_55:
         return below(2) ? 0xFF : 0x55;
     default:
         return below(4) ? (uint8_t)below(256) : 0xFF;
     }
 }
 
-static struct frame frame_random(uint8_t payload[LONGEST])
+void fill_random(uint8_t *payload, size_t payload_len, enum kind kind)
 {
-    const uint32_t kind = below(4);
-    struct frame frame;
     size_t i;
 
-    frame.command = byte(3);
-    frame.number = byte(3);
-    frame.flags = byte(3);
-    frame.flags = (uint16_t)(frame.flags << 8 | byte(3));
+    for (i = 0; i < payload_len; i++)
+        payload[i] = byte(kind);
+}
+
+struct frame frame_random(uint8_t payload[LONGEST])
+{
+    const enum kind kind = (enum kind)below(KINDS);
+    struct frame frame;
+
+    frame.command = byte(MANY_FF);
+    frame.number = byte(MANY_FF);
+    frame.flags = byte(MANY_FF);
+    frame.flags = (uint16_t)(frame.flags << 8 | byte(MANY_FF));
     frame.payload = payload;
     /* mostly short, since lines are; from 1,010 on, where the limit is, often too */
     frame.payload_len = below(3) ? below(40) : below(2) ? below(LONGEST + 1) : 1010 + below(LONGEST - 1010 + 1);
-    for (i = 0; i < frame.payload_len; i++)
-        payload[i] = byte(kind);
+    fill_random(payload, frame.payload_len, kind);
     return frame;
 }
 
@@ -55,17 +69,17 @@ static struct frame frame_random(uint8_t payload[LONGEST])
 static size_t room_random(struct memory memory, const struct frame *frame)
 {
     uint8_t *out;
-    const uint32_t need = call(memory, BACK, frame, MOST_OUT, &out);
+    const size_t needed = trogonreed_needed(call(memory, BACK, frame, 0, &out));
 
-    if (trogonreed_is_refused(need))
+    if (needed == 0)
         return below(TROGONREED_MAX_FRAME + 1);
     switch (below(4)) {
     case 0:
-        return need;
+        return needed;
     case 1:
-        return need - 1;
+        return needed - 1;
     default:
-        return below(need + OVER + 1);
+        return below((uint32_t)needed + OVER + 1);
     }
 }
 
@@ -91,10 +105,7 @@ int print_random(uint64_t seed, unsigned long count)
     uint8_t payload[LONGEST], *out;
     unsigned long i;
 
-    /* a state of 0 would stay 0 */
-    state = seed * UINT64_C(11400714819323198485) ^ UINT64_C(88172645463325252);
-    if (state == 0)
-        state = 1;
+    begin_random(seed);
     for (i = 0; i < count; i++) {
         const struct frame frame = frame_random(payload);
         const size_t room = room_random(memory, &frame);

@@ -1,6 +1,7 @@
 /*
- * The writer as C calls it, on the counted examples (PROTOCOL 11) and at its limits. No argument: runs the tests, last
- * line 'N passed, M failed'. random SEED COUNT: prints random calls for another program to check (random.c).
+ * The writer as C calls it, on the counted examples (PROTOCOL 11) and at its limits. [SEED]: runs the tests, last line
+ * 'N passed, M failed'; frames to ask about are random. random SEED COUNT: prints random calls for another program to
+ * check (random.c).
  */
 #include <stdio.h>
 #include <stdlib.h>
@@ -57,7 +58,7 @@ static void test_rooms(struct memory memory, const struct example *e)
     int good = 1;
 
     for (room = 0; good && room < need; room++)
-        good = holds(memory, e, room, TROGONREED_REFUSED_ROOM, 0);
+        good = holds(memory, e, room, (uint32_t)(TROGONREED_NO_ROOM + need), 0);
     for (room = need; good && room < need + 10; room++)
         good = holds(memory, e, room, (uint32_t)need, need);
     good = good && holds(memory, e, TROGONREED_MAX_FRAME, (uint32_t)need, need);
@@ -160,9 +161,8 @@ static void test_null(void)
     test(trogonreed_write_frame(0x07, 0x01, 0, NULL, 0, out, sizeof out) == sizeof heartbeat,
          "null payload: not written");
     test(memcmp(out, heartbeat, sizeof out) == 0, "null payload: other bytes are written");
-    test(trogonreed_write_frame(0x07, 0x01, 0, NULL, 0, NULL, 0) == TROGONREED_REFUSED_ROOM, "both null: not ROOM");
-    test(trogonreed_write_frame(0x07, 0x01, 0, payload, 1019, NULL, 0) == TROGONREED_REFUSED_ROOM,
-         "null output: not ROOM");
+    test(trogonreed_write_frame(0x07, 0x01, 0, NULL, 0, NULL, 0) == 131072 + 9, "both null: not ROOM");
+    test(trogonreed_write_frame(0x07, 0x01, 0, payload, 1019, NULL, 0) == 131072 + 1028, "null output: not ROOM");
     test(trogonreed_write_frame(0x07, 0x01, 0, payload, 1020, NULL, 0) == TROGONREED_REFUSED_PAYLOAD,
          "null output: not PAYLOAD");
 }
@@ -183,11 +183,61 @@ static void test_bound(void)
 /* The header's numbers are those of the rules. */
 static void test_header(void)
 {
-    test(TROGONREED_REFUSED == 65536 && TROGONREED_PAYLOAD == 21 && TROGONREED_ROOM == 22, "header: other numbers");
-    test(TROGONREED_REFUSED_PAYLOAD == 65557 && TROGONREED_REFUSED_ROOM == 65558, "header: other refusals");
+    test(TROGONREED_REFUSED == 65536 && TROGONREED_PAYLOAD == 21, "header: other numbers");
+    test(TROGONREED_REFUSED_PAYLOAD == 65557 && TROGONREED_NO_ROOM == 131072, "header: other refusals");
     test(TROGONREED_MAX_PAYLOAD == 1019 && TROGONREED_MAX_FRAME == 2 + 2 * (1019 + 7), "header: other limits");
     test(TROGONREED_STACK == 1024, "header: another limit of the stack");
     test(!trogonreed_is_refused(65535) && trogonreed_is_refused(65536), "header: another test for a refusal");
+    test(trogonreed_is_refused(65557) && trogonreed_is_refused(131081), "header: a refusal is not one");
+    test(trogonreed_needed(131081) == 9 && trogonreed_needed(133126) == 2054, "header: another length for ROOM");
+    test(trogonreed_needed(0) == 0 && trogonreed_needed(2054) == 0 && trogonreed_needed(65557) == 0 &&
+             trogonreed_needed(131071) == 0 && trogonreed_needed(131072) == 0,
+         "header: a length for what is not ROOM");
+}
+
+/* Asks about one frame. */
+static void test_asked(struct memory memory, const struct frame *frame)
+{
+    const char *fault = asking_fault(memory, frame);
+
+    if (fault != NULL)
+        printf("firmware: command %u, number %u, flags %u, %lu bytes of payload: %s\n", frame->command, frame->number,
+               frame->flags, (unsigned long)frame->payload_len, fault);
+    test(fault == NULL, "asking");
+}
+
+/* Payloads of one size, filled in each way. */
+static void test_asking_of(struct memory memory, size_t size)
+{
+    uint8_t payload[LONGEST];
+    int kind;
+
+    for (kind = ANY; kind < KINDS; kind++) {
+        const struct frame frame = {0x05, 0x02, 0, payload, size};
+
+        fill_random(payload, size, (enum kind)kind);
+        test_asked(memory, &frame);
+    }
+}
+
+/* Every short payload, the longest and one byte more; then random frames. */
+static void test_asking(struct memory memory, uint64_t seed)
+{
+    enum { SHORT = 64, RANDOM = 100 };
+    uint8_t payload[LONGEST];
+    size_t i;
+
+    printf("firmware: asking, seed %lu, %d random frames\n", (unsigned long)seed, RANDOM);
+    begin_random(seed);
+    for (i = 0; i <= SHORT; i++)
+        test_asking_of(memory, i);
+    test_asking_of(memory, 1019);
+    test_asking_of(memory, 1020);
+    for (i = 0; i < RANDOM; i++) {
+        const struct frame frame = frame_random(payload);
+
+        test_asked(memory, &frame);
+    }
 }
 
 int main(int argc, char **argv)
@@ -204,6 +254,7 @@ int main(int argc, char **argv)
     test_null();
     test_bound();
     test_header();
+    test_asking(memory, argc > 1 ? strtoull(argv[1], NULL, 10) : 1);
     printf("%lu passed, %lu failed\n", passed, failed);
     return failed == 0 ? 0 : 1;
 }

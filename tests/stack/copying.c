@@ -30,7 +30,7 @@ uint32_t trogonreed_write_frame(uint8_t command, uint8_t number, uint16_t flags,
     for (i = 0; i < size; i++)
         need += body[i] == 0xFF ? 2 : 1;
     if (out_len < need)
-        return TROGONREED_REFUSED_ROOM;
+        return (uint32_t)(TROGONREED_NO_ROOM + need);
     memset(out, 0xFF, 2);
     for (i = 0, out += 2; i < size; i++) {
         *out++ = body[i];

@@ -72,7 +72,7 @@ static uint32_t expected(size_t size, size_t room, size_t need)
 {
     if (size > TROGONREED_MAX_PAYLOAD)
         return TROGONREED_REFUSED_PAYLOAD;
-    return room < need ? TROGONREED_REFUSED_ROOM : (uint32_t)need;
+    return (uint32_t)(room < need ? TROGONREED_NO_ROOM + need : need);
 }
 
 /* The greatest use so far, and of which call; how many calls were painted, with a near fence, and stepped. */

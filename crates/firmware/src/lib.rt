@@ -1,12 +1,16 @@
 // The frame writer for the C firmware of a box, under one exported name. PROTOCOL 6.9, 6.10.
-use frame::WriteResult;
+use base::Unwritten;
+use base::WriteResult;
 ghost use mathlib.Core.Path.{_≡_};
 ghost use Rattle.frame.specs.Wire.{frameLimit};
 ghost use Rattle.frame.specs.Calls.{writeOf};
 ghost use Rattle.firmware.specs.Code.{returned, returnedOf};
 
-// What a refusal's number is added to. No count reaches it: PROTOCOL 2.8.
+// What PAYLOAD's number is added to. No count reaches it: PROTOCOL 2.8.
 const REFUSED: u32 = 65_536;
+
+// What the length that is needed is added to, for ROOM.
+const NO_ROOM: u32 = 131_072;
 
 // Writes a frame at the front of the caller's buffer, or refuses and leaves the buffer unchanged.
 // In C each slice is a pointer and a length.
@@ -24,7 +28,9 @@ pub extern "C" fn trogonreed_write_frame(
     let written = frame::write(command, number, flags, payload, out);
     match written {
         WriteResult::Wrote { count } => count as u32,
-        WriteResult::Payload => REFUSED + 21,
-        WriteResult::Room => REFUSED + 22,
+        WriteResult::Unwritten { why } => match why {
+            Unwritten::Payload => REFUSED + 21,
+            Unwritten::Room { needed } => NO_ROOM + needed as u32,
+        },
     }
 }
