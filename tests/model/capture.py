@@ -11,9 +11,9 @@ MAX_PLACE = 2**62
 
 
 def written(data, output):
-    """Answer and count."""
+    """Answer and count; of ROOM the length of all of it (M-105)."""
     if len(output) < len(data):
-        return ROOM, 0
+        return ROOM, len(data)
     output[: len(data)] = data
     return DONE, len(data)
 

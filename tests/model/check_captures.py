@@ -6,6 +6,7 @@ import collections
 import itertools
 
 from answers import DIRECTION, DONE, ENDED, MARK, MORE, PAYLOAD, ROOM, STATE, USED, VERSION
+from asking import misasked, steps_in
 from capture import MAX_PLACE, RECORD, WHOLE, finish, next_of, payload_of
 from checks import lines_of, shares
 from driver import MAX_ROOM, finish_step, head_step, next_step, record_step
@@ -55,10 +56,11 @@ def some_room(rand, needed):
 
 def some_writing(rand):
     if not rand.randrange(20):
-        return [head_step(some_room(rand, HEAD_SIZE))]
+        return steps_in(head_step, some_room(rand, HEAD_SIZE))
     payload = rand.randbytes(rand.choice([*SIZES, rand.randrange(40)]))
+    direction, time = rand.choice(DIRECTIONS), some_time(rand)
     room = some_room(rand, RECORD_HEAD_SIZE + len(payload))
-    return [record_step(rand.choice(DIRECTIONS), some_time(rand), payload, room)]
+    return steps_in(lambda room: record_step(direction, time, payload, room), room)
 
 
 def both(place, window):
@@ -134,7 +136,11 @@ def check_program(checks, program, seed, count):
     for name, script in scripts:
         seen.update(tuple(line.split(" ", 2)[:2]) for line in lines_of(script))
         checks.test_random(f"the program's captures: {name}", program.wrong_on(script))
+        wrong = misasked(script, seen)
+        checks.test(f"the program's captures: {name}, rooms asked for", not wrong, wrong)
     for word, answer in SEEN:
         times = seen[word, str(answer)]
         checks.test(f"'{word} {answer}' of a capture is seen", times > 0)
+    asked = seen.pop("write in the room said", 0)
+    checks.test("a head or a record written in the room said is seen", asked > 0)
     checks.say(f"{sum(seen.values())} calls of captures")

@@ -1,6 +1,7 @@
 """That counting over the lines of transfers finds what is wrong: without this no test that counts could fail."""
 import collections
 
+from asking import misasked
 from checks import lines_of
 from counted_frames import miswritten
 from counted_pieces import misstored
@@ -43,6 +44,8 @@ ROWS = [
     " > device 0 9 30 : : ff ff 00 05 1e 06 00 00 29 : 5 2 1 : 4 27 3 0 0",
     "progress > progress 0 2 5",
     "table 00000000 0003 > table : 61 31 80",
+    "stop 05 0008 > stop 22 9 : aa aa aa aa aa aa aa aa : 5 2 1",
+    f"stop 05 0009 > stop 0 9 32 : {S5} :",
 ]
 # A name, the place of a line, and a wrong line there.
 MISSTORED = [
@@ -81,7 +84,17 @@ MISWRITTEN = [
     ("a number used twice", 11, f"begin 0 22 26 9 : {P5[:-5]}03 27 : 4 3 0 : 1 27 0 0 0"),
     ("a number left out", 16, "cancel 0 9 39 : ff ff 00 05 27 03 00 00 2f : : 4 39 3 0 0"),
     ("another wait ended", 22, "device 0 : 27 1 : aa aa : : 3"),
+    ("a frame begun after ROOM", 27, "stop 22 9 : ff ff 00 05 20 05 00 00 : 5 2 1"),
     ("a line of another kind", 1, "fresh"),
+]
+MISASKED = [
+    ("ROOM that asks for nothing", 27, "stop 22 0 : aa aa aa aa aa aa aa aa : 5 2 1"),
+    ("ROOM without a length", 27, "stop 22"),
+    ("ROOM that asks for what there is", 27, "stop 22 8 : aa aa aa aa aa aa aa aa : 5 2 1"),
+    ("ROOM in the room said", 28, "stop 22 9 : aa aa aa aa aa aa aa aa aa : 5 2 1"),
+    ("ROOM in the room said, asking for more", 28, "stop 22 10 : aa aa aa aa aa aa aa aa aa : 5 2 1"),
+    ("another count than the room said", 28, "stop 0 8 32 : ff ff 00 05 20 05 00 00 aa :"),
+    ("nothing written in the room said", 28, "stop 17 0 : aa aa aa aa aa aa aa aa aa : 5 2 1"),
 ]
 
 
@@ -101,3 +114,13 @@ def check(checks):
             checks.test(f"{name}: found by counting {what}", line != lines[place] and found_by(counting, wrong))
         checks.test(f"a line too few: found by counting {what}", found_by(counting, lines[:-1]))
         checks.test(f"a line too many: found by counting {what}", found_by(counting, [*lines, "progress 0"]))
+    check_asking(checks)
+
+
+def check_asking(checks):
+    steps, tally = list(steps_of(ROWS)), collections.Counter()
+    checks.test("the right lines of a transfer, rooms asked for", not misasked(steps, tally))
+    checks.test("a stop in the room said is counted", tally == {"stop in the room said": 1})
+    for name, place, line in MISASKED:
+        wrong = [*steps[:place], (steps[place][0], [line]), *steps[place + 1 :]]
+        checks.test(f"{name}: found", misasked(wrong, tally) != "")

@@ -1,4 +1,5 @@
 """The counted examples and more: the model and the program against answers worked out by hand."""
+from answers import DONE
 from checks import lines_of, text_of
 from driver import empty_output
 from listing import listing
@@ -28,9 +29,9 @@ def model_reads(test):
 
 def model_writes(test):
     for name, *frame, room, answer, count in WRITTEN:
-        output, form = empty_output(room), bytes.fromhex(WIRE.get(name, ""))[:count]
+        output, form = empty_output(room), bytes.fromhex(WIRE[name])[:count] if answer == DONE else b""
         found = write_frame(*frame, output, room)
-        right = found == (answer, count) and output == form + empty_output(room - count)
+        right = found == (answer, count) and output == form + empty_output(room - len(form))
         test(f"the model writes {name}, room {room}", right, f"{found} : {output.hex(' ')}")
 
 

@@ -2,6 +2,7 @@
 import collections
 
 from answers import STUFF, STUFFLATE
+from asking import misasked
 from checks import lines_of
 from driver import reply_step, stream_lines, stream_pieces, stream_script
 from message import LISTED
@@ -63,12 +64,16 @@ def random_streams(checks, program, seed, count):
 def random_steps(checks, program, seed, count):
     seen = collections.Counter()
     for place, rand, some in checks.inputs(STEPS, seed, count, "message script"):
-        script = [some(rand) for _ in range(200)]
+        script = [step for _ in range(200) for step in some(rand)]
         seen.update(tuple(line.split(" ")[:2]) for line in lines_of(script))
         checks.test_random(f"the program: {place}", program.wrong_on(script))
+        wrong = misasked(script, seen)
+        checks.test(f"the program: {place}, rooms asked for", not wrong, wrong)
     for word, answers in (("write", ("0", "21", "22", "31", "32", "33")), ("answer", ("0", "22"))):
         for answer in answers:
             checks.test(f"'{word} {answer}' is seen", seen[word, answer] > 0)
+        kind = f"{word} in the room said"
+        checks.test(f"'{kind}' is seen", seen[kind] > 0)
 
 
 # A frame for each reply that the box writes: its command, and a payload. PROTOCOL 8.2, 8.6 to 8.8.

@@ -5,6 +5,7 @@ same.
 """
 import collections
 
+from asking import misasked
 from checks import Program, lines_of
 from counted_frames import miswritten
 from counted_pieces import misstored
@@ -34,6 +35,7 @@ WANTED |= dict.fromkeys([f"device 0, then {what}" for what in (":", "9 :", "0 2"
 WANTED |= dict.fromkeys(["a piece stored", "a piece answered again", "a whole table", "started again"], 100)
 WANTED |= dict.fromkeys(["dropped by 1F", "dropped by 27", "waits of three due ticks"], 20) | {"begin 21": 8}
 WANTED |= dict.fromkeys(["progress counted", "numbers used"], 1000)
+WANTED |= dict.fromkeys([f"{word} in the room said" for word in ("begin", "store", "stop", "cancel", "device")], 20)
 WANTED |= {"frames read back": 10000, "bytes of the table counted": 10**6}
 
 
@@ -58,6 +60,9 @@ def counted(checks, who, place, steps, lines, seen):
     for what, wrong in (("pieces", misstored), ("frames", miswritten)):
         wrong = wrong(records, lines, seen)
         checks.test(f"{who}: {place}, {what} counted", not wrong, wrong)
+    left = iter(lines)
+    wrong = misasked([(made, [next(left, "no line") for _ in should]) for made, should in steps], seen)
+    checks.test(f"{who}: {place}, rooms asked for", not wrong, wrong)
 
 
 def check_model(checks, seed, count):

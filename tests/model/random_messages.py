@@ -1,11 +1,12 @@
-"""Random streams of messages, messages to write and frames to reply to.
+"""Random streams of messages, messages and frames to write, and frames to reply to.
 
 A family of streams has its rounds, and a share in a thousand. A round is all the frames that it yields.
 """
 import itertools
 
+from asking import steps_in
 from breaks import breaking_byte, broken_at, places, rest_of
-from driver import empty_output, message_step, reply_step
+from driver import empty_output, message_step, reply_step, write_step
 from message import CONTROL, EMPTY, LISTED, QUERY, REPORT, STATUS, write_message
 from wire import FF, HEADER, STUFFING, body_of, in_bytes, stuff, on_wire
 
@@ -329,20 +330,31 @@ OPAQUE_SIZES = {0x02: [64, 96], 0x19: [0, 32, 1013, 1014], 0x1B: [0, 32, 1015, 1
 
 
 def some_write(rand):
-    """A step that writes a message."""
+    """Steps that write a message."""
     values = some_values(rand)
     fitting = OPAQUE_SIZES.get(values[0], [0])
     opaque = some_bytes(rand, rand.choice([*fitting * 3, rand.randrange(120)]))
     needed, output = 0, empty_output(4096)
     if rand.randrange(3):
         needed = write_message(values, opaque, 2, 0, output, len(output))[1]
-    return message_step(values, opaque, max(needed + rand.choice([-1, 0, 0, 1, 40]), 0))
+    room = max(needed + rand.choice([-1, 0, 0, 1, 40]), 0)
+    return steps_in(lambda room: message_step(values, opaque, room), room)
 
 
 def some_reply(rand):
-    """A step that replies to a frame with little room."""
+    """Steps that reply to a frame with little room."""
     command, payload = rand.choice([*messages(rand), (rand.randrange(256), some_bytes(rand, rand.randrange(9)))])
-    return reply_step(command, rand.randrange(256), payload, rand.randrange(7, 13))
+    number = rand.choice([FF, rand.randrange(256)])
+    return steps_in(lambda room: reply_step(command, number, payload, room), rand.randrange(7, 13))
 
 
-STEPS = [("writes", some_write, 50), ("replies", some_reply, 50)]
+def some_frame(rand):
+    """Steps that write a frame with any payload."""
+    payload = some_bytes(rand, rand.choice([0, 1, 5, rand.randrange(60), 1019, 1020]))
+    frame = rand.choice([FF, rand.randrange(256)]), rand.choice([FF, rand.randrange(256)]), rand.randrange(65536)
+    needed = len(on_wire(*frame, payload))
+    room = max(needed + rand.choice([-1, 0, 1, -rand.randint(0, needed)]), 0)
+    return steps_in(lambda room: write_step(*frame, payload, room), room)
+
+
+STEPS = [("writes", some_write, 50), ("replies", some_reply, 50), ("frames", some_frame, 50)]

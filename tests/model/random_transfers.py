@@ -2,6 +2,7 @@
 
 A family has its rounds, whether its frames arrive on the wire, and a share in a thousand.
 """
+from asking import room_said
 from breaks import breaking_byte, broken_at, places
 from driver import ELAPSED, FRESH_LINK, OFFER, SET_IDLE, SET_WAITING, TICKS
 from link import WAITING
@@ -64,7 +65,7 @@ def many_announcements(script):
 
 
 def cancel(script):
-    script.put(CANCEL, script.clock, script.some_room())
+    script.asked(script.cancel)
 
 
 def stop(script):
@@ -113,11 +114,33 @@ def in_each_room(script, command, payload):
         script.settle()
     for room in range(MAX_OUTPUT):
         if command == 0x27:
-            script.put(CANCEL, script.clock, room)
+            lines = script.cancel(room)
         else:
-            script.arrive(command, payload, room=room)
-        if not any(" 22 0 :" in line for line in script.box.steps[-1][1]):
+            lines = script.frame(command, script.some_number(), 0, payload, room)
+        if room_said(lines[-1]) is None:
             return
+
+
+def asking(script):
+    """Each call in too little room first, and then in just the room that it asks for."""
+    rand = script.rand
+    script.settle()
+    script.asks, script.room = True, rand.choice([0, 8, rand.randrange(9)])
+    announce(script, some_faults(rand, BEGIN_FAULTS) if not rand.randrange(4) else [])
+    for _ in range(rand.randint(1, 8)):
+        if script.fields:
+            send_piece(script, not rand.randrange(4), some_faults(rand, STORE_FAULTS) if not rand.randrange(4) else [])
+        else:
+            without_transfer(script)
+    if script.wired:
+        command, payload = rand.choice(ANSWERED)
+        frame = on_wire(command, script.some_number(), 0, payload)
+        script.asked(lambda room: script.feed(frame, room))
+    for end in rand.sample([cancel, stop], 2):
+        script.settle()
+        end(script)
+    script.asks, script.room = False, None
+    script.show()
 
 
 # Of each field of a transfer values in range and out of it, where the others are in range.
@@ -288,6 +311,7 @@ FAMILIES = [
     ("announcements", (many_announcements, False), 100),
     ("cancelled", (cancelled, False), 60),
     ("every room", (every_room, False), 60),
+    ("asking for room", (asking, False), 40),
     ("made-up transfers and links", (made_up, False), 80),
     ("large tables", (large, False), 10),
     ("a box at work", (box_at_work, False), 80),
@@ -297,6 +321,7 @@ FAMILIES = [
     ("on the wire: announcements", (many_announcements, True), 50),
     ("on the wire: cancelled", (cancelled, True), 40),
     ("on the wire: every room", (every_room, True), 30),
+    ("on the wire: asking for room", (asking, True), 40),
     ("on the wire: made-up transfers and links", (made_up, True), 30),
     ("on the wire: noise and damage", (noisy, True), 70),
     ("on the wire: a box at work", (box_at_work, True), 60),

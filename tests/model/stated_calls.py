@@ -5,19 +5,19 @@ from driver import MAX_ROOM, finish_step, head_step, next_step, record_step
 HEADS = [
     ("a head", "write 0 5 : 4c 46 54 00 01 aa aa", 7),
     ("a head that just fits", "write 0 5 : 4c 46 54 00 01", 5),
-    ("a head without room", "write 22 0 : aa aa aa aa", 4),
-    ("a head without any room", "write 22 0 :", 0),
+    ("a head without room", "write 22 5 : aa aa aa aa", 4),
+    ("a head without any room", "write 22 5 :", 0),
 ]
 
 # A name, the line, direction, milliseconds, payload, room.
 RECORDS = [
     ("a record", "write 0 10 : 01 01 02 03 04 00 03 61 62 63 aa", 1, 0x01020304, b"abc", 11),
     ("a record that just fits", "write 0 8 : 00 ff ff ff ff 00 01 ff", 0, 2**32 - 1, b"\xff", 8),
-    ("a record without room", "write 22 0 : aa aa aa aa aa aa aa", 0, 2**32 - 1, b"\xff", 7),
+    ("a record without room", "write 22 8 : aa aa aa aa aa aa aa", 0, 2**32 - 1, b"\xff", 7),
     ("an empty record", "write 0 7 : 01 00 00 00 05 00 00 aa", 1, 5, b"", 8),
-    ("an empty record without room", "write 22 0 : aa aa aa aa aa aa", 1, 5, b"", 6),
+    ("an empty record without room", "write 22 7 : aa aa aa aa aa aa", 1, 5, b"", 6),
     ("256 bytes", "write 0 263 : 00 00 00 00 00 01 00" + " 07" * 256, 0, 0, b"\x07" * 256, 263),
-    ("256 bytes without room", "write 22 0 :" + " aa" * 262, 0, 0, b"\x07" * 256, 262),
+    ("256 bytes without room", "write 22 263 :" + " aa" * 262, 0, 0, b"\x07" * 256, 262),
     ("65,536 bytes", "write 21 0 : aa", 1, 0, bytes(65536), 1),
     ("65,536 bytes without any room", "write 21 0 :", 1, 0, bytes(65536), 0),
 ]
@@ -52,7 +52,7 @@ WINDOWS = [
 # Longer ones, whose lines are too long to be stored.
 LONG_RECORDS = [
     ("65,535 bytes", "write 0 65542 : 01 00 00 00 00 ff ff" + " 00" * 65535 + " aa aa", 1, 0, bytes(65535), MAX_ROOM),
-    ("65,535 bytes without room", "write 22 0 :" + " aa" * 65541, 1, 0, bytes(65535), 65541),
+    ("65,535 bytes without room", "write 22 65542 :" + " aa" * 65541, 1, 0, bytes(65535), 65541),
 ]
 FULL = bytes.fromhex("01 00 00 00 00 FF FF") + bytes(65535)
 LONG_WINDOWS = [

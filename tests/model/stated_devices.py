@@ -18,7 +18,7 @@ DEVICES = [
         "a heartbeat, and bytes that decide nothing",
         "device 00000000 0002 00000005 000A FFFF0005070100000D"
         " > device 0 9 : : ff ff 00 05 08 01 00 00 0e aa : : 0",
-        "device 00000000 0002 00000005 0008 FFFF0005070100000D > device 22 0 : : aa aa aa aa aa aa aa aa : : 0",
+        "device 00000000 0002 00000005 0008 FFFF0005070100000D > device 22 9 : : aa aa aa aa aa aa aa aa : : 0",
         f"device 00000000 0002 00000005 0002 000102 > device 0 : : {A2} : : 0",
         f"device 00000000 0002 00000005 0002 > device 0 : : {A2} : : 0",
     ),
@@ -66,9 +66,9 @@ DEVICES = [
         " > device 66 10 : : ff ff 00 06 12 06 00 00 03 21 : 5 2 0 : 1 27 0 0 0",
         "device 00000000 0002 00000005 000A FFFF00081D060000 000100 2C"
         " > device 32 10 : : ff ff 00 06 12 06 00 00 03 21 : 5 2 0 : 1 27 0 0 0",
-        f"device 00000000 0002 00000005 0009 {PIECE_2} > device 22 0 : : {A9} : 5 2 0 : 1 27 0 0 0",
+        f"device 00000000 0002 00000005 0009 {PIECE_2} > device 22 10 : : {A9} : 5 2 0 : 1 27 0 0 0",
         "device 00000000 0002 00000005 0008 FFFF00051F0900002D"
-        " > device 22 0 : : aa aa aa aa aa aa aa aa : 5 2 0 : 1 27 0 0 0",
+        " > device 22 9 : : aa aa aa aa aa aa aa aa : 5 2 0 : 1 27 0 0 0",
         "device 00000000 0002 00000005 000A FFFF00061F090000 00 2E"
         " > device 32 10 : : ff ff 00 06 12 09 00 00 03 24 : 5 2 0 : 1 27 0 0 0",
         "link 02 1C 00 00 00 00000000 > answer 0 27 0 : 1",
@@ -76,7 +76,7 @@ DEVICES = [
         f"device 00000000 0002 00000004 000A {ANNOUNCED} > device 62 10 : : {R5} : 5 2 0 : 1",
         "device 00000000 0002 00000005 000A FFFF000B1905000000000005 0001 2F"
         f" > device 32 10 : : {R5} : 5 2 0 : 1",
-        f"device 00000000 0002 00000005 0009 {ANNOUNCED} > device 22 0 : : {A9} : 5 2 0 : 1",
+        f"device 00000000 0002 00000005 0009 {ANNOUNCED} > device 22 22 : : {A9} : 5 2 0 : 1",
         "progress > progress 0 0 5",
     ),
     (
@@ -91,8 +91,8 @@ DEVICES = [
         "device 00000000 0002 00000005 000A FFFF00061C000000 00 22"
         " > device 0 10 18 3 32 : 27 0 : ff ff 00 06 12 00 00 00 03 1b : : 1",
         "link 00 1B 00 00 00 00000000 > offer 0 1 : 2 27 1 0 0",
-        f"device 00000000 0002 00000005 0009 FFFF00061C010000 00 23 > device 22 0 : 27 1 : {A9} : : 2",
-        f"device 00000000 0002 00000005 0009 FFFF00061C010000 00 23 > device 22 0 : : {A9} : : 2",
+        f"device 00000000 0002 00000005 0009 FFFF00061C010000 00 23 > device 22 10 : 27 1 : {A9} : : 2",
+        f"device 00000000 0002 00000005 0009 FFFF00061C010000 00 23 > device 22 10 : : {A9} : : 2",
         "link 00 05 00 00 00 00000000 > offer 0 2 : 3 5 2 0 0",
         "device 00000000 0002 00000005 0002 FFFF0005060200000D > device 0 : 5 2 : aa aa : : 3",
         "cancel 00000000 0009 > cancel 0 9 39 : ff ff 00 05 27 03 00 00 2f : : 4 39 3 0 0",
@@ -115,7 +115,7 @@ DEVICES = [
         "link 02 1C 00 00 00 00000000 > answer 0 27 0 : 1",
         "device 00000000 0002 00000005 000A FFFF000B1905000000000005 0000 2D"
         " > device 0 10 18 1 15 : : ff ff 00 06 12 05 00 00 01 1e : : 1",
-        f"device 00000000 0002 00000005 0009 FFFF00051F0900002E > device 22 0 : : {A9} : : 1",
+        f"device 00000000 0002 00000005 0009 FFFF00051F0900002E > device 22 10 : : {A9} : : 1",
         "progress > progress 0",
     ),
     (

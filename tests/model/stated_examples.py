@@ -141,7 +141,7 @@ LIMITS = [
     (MAX_CONSUMED + 1, "", "feed 17 0", "end 17 0"),
 ]
 
-# A name, the frame, the room for it, the answer and the bytes written.
+# A name, the frame, the room for it, the answer and the bytes written, or at ROOM those that would be.
 MAX_ROOM = 2100
 REPORT = bytes.fromhex("04 05 00 03 00 00 00 FF 00")
 WRITTEN = [
@@ -152,11 +152,14 @@ WRITTEN = [
     ("full of ff", 255, 255, 65535, b"\xff" * 4, MAX_ROOM, DONE, 21),
     ("ff and 55", 85, 255, 0xFF55, b"\xff\x55\x55\xff", MAX_ROOM, DONE, 17),
     ("example 3", 7, 243, 0, b"", 10, DONE, 10),
-    ("example 3", 7, 243, 0, b"", 9, ROOM, 0),
-    ("example 3", 7, 243, 0, b"", 0, ROOM, 0),
+    ("example 3", 7, 243, 0, b"", 9, ROOM, 10),
+    ("example 3", 7, 243, 0, b"", 0, ROOM, 10),
+    ("the shortest frame", 7, 1, 0, b"", 0, ROOM, 9),
+    ("five ff", 0x90, 1, 0, b"\xff" * 5, 18, ROOM, 19),
+    ("five ff", 0x90, 1, 0, b"\xff" * 5, 19, DONE, 19),
     ("payload 1019", 7, 1, 0, b"\xff" * 1019, MAX_ROOM, DONE, 2047),
     ("payload 1019", 7, 1, 0, b"\xff" * 1019, 2047, DONE, 2047),
-    ("payload 1019", 7, 1, 0, b"\xff" * 1019, 2046, ROOM, 0),
+    ("payload 1019", 7, 1, 0, b"\xff" * 1019, 2046, ROOM, 2047),
     ("payload 1020", 7, 1, 0, b"\xff" * 1020, MAX_ROOM, PAYLOAD, 0),
     ("payload 1020", 7, 1, 0, b"\xff" * 1020, 0, PAYLOAD, 0),
 ]
@@ -164,6 +167,7 @@ WRITTEN = [
 WIRE = {name: data for name, data, *_ in READ} | {
     "full of ff": "FF FF 00 09" + " FF 55" * 8 + " 01",
     "ff and 55": "FF FF 00 09 55 FF 55 FF 55 55 FF 55 55 55 FF 55 59",
+    "five ff": "FF FF 00 0A 90 01 00 00" + " FF 55" * 5 + " 96",
     "payload 1019": f"{LONGEST} 11",
 }
 

@@ -287,15 +287,15 @@ WRITTEN = [
     ("query with opaque bytes", "write 32 : aa aa aa", [0x03, QUERY], OPAQUE),
     ("SIZE before FIELD", "write 32 : aa aa aa", network(8), OPAQUE),
     ("02 without its texts and key", "write 32 : aa aa aa", [0x02, 66, 0]),
-    ("report, one byte of room too few", "write 22 0 : aa aa aa", report(1), b"", 18),
+    ("report, one byte of room too few", "write 22 19 : aa aa aa", report(1), b"", 18),
     ("report, just enough room", REPORT_1, report(1), b"", 19),
     ("FIELD before ROOM", "write 33 : aa aa aa", network(8), b"", 0),
     ("example 12, payload of 1,020 bytes", "write 21 0 : aa aa aa", PIECE, bytes(1016)),
-    ("example 12, payload of 1,019 bytes, too little room", "write 22 0 : aa aa aa", PIECE, bytes(1015)),
+    ("example 12, payload of 1,019 bytes, too little room", "write 22 1028 : aa aa aa", PIECE, bytes(1015)),
 ]
 # A name, the line, then command, number and payload of a received frame and the room.
 REPLIES = [
-    ("reply, one byte of room too few", "answer 22 0 : aa aa aa", 0x07, 9, b"", 8),
+    ("reply, one byte of room too few", "answer 22 9 : aa aa aa", 0x07, 9, b"", 8),
     ("reply, just enough room", "answer 0 9 : ff ff 00 05 08 09 00 00 16", 0x07, 9, b"", 9),
     ("19 needs no room", "answer 0 0 26 9", 0x19, 9, bytes(6), 0),
     ("1D of another size needs no room", "answer 0 0 30 9", 0x1D, 9, bytes(3), 0),

@@ -151,7 +151,7 @@ def in_every_room():
     for name, before, call, (answer, written), (without, after), *table in ROOMS:
         needed = len(written.split())
         ended = "".join(answer.partition(" :")[1:])
-        refused = [row(call, room, "22 0" + ended, "", without) for room in range(needed)]
+        refused = [row(call, room, f"22 {needed}{ended}", "", without) for room in range(needed)]
         done = [row(call, room, answer, written, after) for room in (needed, needed + 1, needed + 9)]
         yield f"{name}, in every room", *one_by_one(before, refused, KEPT), *one_by_one(before, done, *table or [KEPT])
     for name, before, call, answer, end in SILENT:
@@ -176,13 +176,13 @@ A2100 = untouched(2100)
 LONG = [
     (
         "1,015 bytes of check code",
-        f"begin 05 00000000 0002 00000005 040C 00000005 {coded(1015, '61')} > begin 22 0 : {untouched(1036)} : : 0",
+        f"begin 05 00000000 0002 00000005 040C 00000005 {coded(1015, '61')} > begin 22 1037 : {untouched(1036)} : : 0",
         f"begin 05 00000000 0002 00000005 040D 00000005 {coded(1015, '61')}"
         f" > begin 0 1037 26 9 : {BACK} : 5 2 0 : 1 27 0 0 0",
     ),
     (
         "1,015 bytes of check code, all FF",
-        f"begin 05 00000000 0002 00000005 0803 00000005 {coded(1015, 'FF')} > begin 22 0 : {untouched(2051)} : : 0",
+        f"begin 05 00000000 0002 00000005 0803 00000005 {coded(1015, 'FF')} > begin 22 2052 : {untouched(2051)} : : 0",
         f"begin 05 00000000 0002 00000005 0804 00000005 {coded(1015, 'FF')}"
         f" > begin 0 2052 26 9 : {BACK_FF} : 5 2 0 : 1 27 0 0 0",
     ),
@@ -193,12 +193,12 @@ LONG = [
         f"begin 05 00000000 0002 00000005 0000 00000005 {TOO_LONG} > begin 21 0 : : : 0",
         f"begin 05 00000000 0002 00000005 0834 00000005 {coded(4077, 'FF')} > begin 21 0 : {A2100} : : 0",
         f"begin 05 00000000 0002 00000005 000A 00000005 {ONE_LESS} > begin 32 10 : {R5} : : 0",
-        f"begin 05 00000000 0002 00000005 0009 00000005 {ONE_LESS} > begin 22 0 : {untouched(9)} : : 0",
+        f"begin 05 00000000 0002 00000005 0009 00000005 {ONE_LESS} > begin 22 10 : {untouched(9)} : : 0",
         f"begin 05 00000000 0002 00000005 000A 00000000 {TOO_LONG} > begin 61 10 : {R5} : : 0",
         f"begin 05 00000000 0000 00000005 000A 00000005 {TOO_LONG} > begin 61 10 : {R5} : : 0",
         f"begin 05 00000000 0002 00000004 000A 00000005 {TOO_LONG} > begin 62 10 : {R5} : : 0",
         f"begin 05 00000000 0001 00010000 000A 00010000 {TOO_LONG} > begin 63 10 : {R5} : : 0",
-        f"begin 05 00000000 0001 00010000 0009 00010000 {TOO_LONG} > begin 22 0 : {untouched(9)} : : 0",
+        f"begin 05 00000000 0001 00010000 0009 00010000 {TOO_LONG} > begin 22 10 : {untouched(9)} : : 0",
         "link 04 00 05 FF 00 00000000 > set : 0 5 255 0 0",
         f"begin 05 00000000 0002 00000005 000A 00000005 {TOO_LONG} > begin 41 : {untouched(10)} : : 0 5 255 0 0",
         "set 00000005 0002 0004 > set : 5 2 4",

@@ -2,7 +2,7 @@
 
 With those about received frames they are the last part of the driver's stored script.
 """
-from transfer_rows import A2, A9, BEGUN, E5, P5, R5, READY, S5
+from transfer_rows import A2, A9, BEGUN, E5, P5, R5, READY, S5, untouched
 
 # The data of begin: number, clock, piece size, buffer size, room, payload. Of store: number, flags, buffer size, room,
 # payload. Of stop: number, room, payload. Of cancel: clock, room. Of set: size, piece size, pieces stored.
@@ -100,14 +100,30 @@ TRANSFERS = [
         f"begin 05 00000000 0002 00000005 000A 00000004 0001 > begin 32 10 : {R5} : 5 2 1 : 1",
         f"begin 05 00000000 0002 00000005 000A 00000000 0000 > begin 61 10 : {R5} : 5 2 1 : 1",
         f"begin 05 00000000 0002 00000005 000A 00000006 0000 > begin 62 10 : {R5} : 5 2 1 : 1",
-        f"begin 05 00000000 0002 00000005 0009 00000006 0000 > begin 22 0 : {A9} : 5 2 1 : 1",
+        f"begin 05 00000000 0002 00000005 0009 00000006 0000 > begin 22 10 : {A9} : 5 2 1 : 1",
         "begin 05 00000000 0002 00000005 0015 00000005 0000"
-        " > begin 22 0 : aa aa aa aa aa aa aa aa aa aa aa aa aa aa aa aa aa aa aa aa aa : 5 2 1 : 1",
+        " > begin 22 22 : aa aa aa aa aa aa aa aa aa aa aa aa aa aa aa aa aa aa aa aa aa : 5 2 1 : 1",
         f"store 05 0000 00000005 0009 0001 0003 6131 > store 0 9 30 : {E5} : 5 2 1",
         f"store 05 0000 00000005 0009 0002 0003 6232 > store 0 9 30 : {E5} : 5 2 2",
         "progress > progress 0 4 5",
         "table 00000000 0005 > table : 61 31 62 32 aa",
         "link 00 05 00 00 00 00000000 > offer 0 1 : 2 5 1 0 0",
+    ),
+    (
+        "ROOM says the length of both frames of a 19, and in just that room it is taken",
+        "link 03 03 00 00 00 00000000 > set : 3",
+        "begin 05 00000000 0004 0000000A 0000 0000000A 0002 ABCD > begin 22 24 : : : 3",
+        f"begin 05 00000000 0004 0000000A 0017 0000000A 0002 ABCD > begin 22 24 : {untouched(23)} : : 3",
+        "begin 05 00000000 0004 0000000A 0018 0000000A 0002 ABCD > begin 0 24 26 9"
+        " : ff ff 00 05 1a 05 00 00 24 ff ff 00 0b 1b 03 00 00 00 02 ab cd 00 04 a7 : 10 4 0 : 4 27 3 0 0",
+        "link 03 03 00 00 00 00000000 > set : 3",
+        f"begin FF 00000000 0004 0000000A 0018 0000000A 0002 ABCD > begin 22 25 : {untouched(24)} : 10 4 0 : 3",
+        "begin FF 00000000 0004 0000000A 0019 0000000A 0002 ABCD > begin 0 25 26 10"
+        " : ff ff 00 05 1a ff 55 00 00 1e ff ff 00 0b 1b 03 00 00 00 02 ab cd 00 04 a7 : 10 4 0 : 4 27 3 0 0",
+        "link 03 FF 00 00 00 00000000 > set : 255",
+        f"begin 05 00000000 0004 0000000A 0018 0000000A 0002 ABCD > begin 22 25 : {untouched(24)} : 10 4 0 : 255",
+        "begin 05 00000000 0004 0000000A 0019 0000000A 0002 ABCD > begin 0 25 26 9"
+        " : ff ff 00 05 1a 05 00 00 24 ff ff 00 0b 1b ff 55 00 00 00 02 ab cd 00 04 a3 : 10 4 0 : 0 27 255 0 0",
     ),
     (
         "a 27 that the link takes drops the transfer",
@@ -127,7 +143,7 @@ TRANSFERS = [
         f"cancel 00000009 0002 > cancel 41 : {A2} : 5 2 0 : 1 27 0 0 0",
         f"store 05 0000 00000005 0009 0001 0003 6131 > store 0 9 30 : {E5} : 5 2 1",
         READY,
-        "cancel 00000009 0008 > cancel 22 0 : aa aa aa aa aa aa aa aa : 5 2 1 : 1",
+        "cancel 00000009 0008 > cancel 22 9 : aa aa aa aa aa aa aa aa : 5 2 1 : 1",
         "progress > progress 0 2 5",
         f"store 05 0000 00000005 0009 0002 0003 6232 > store 0 9 30 : {E5} : 5 2 2",
         "cancel 00000009 0009 > cancel 0 9 39 : ff ff 00 05 27 01 00 00 2d : : 2 39 1 9 0",
@@ -151,7 +167,7 @@ TRANSFERS = [
         BEGUN,
         f"store 05 0000 00000005 0009 0001 0003 6131 > store 0 9 30 : {E5} : 5 2 1",
         f"stop 05 000A 00 > stop 32 10 : {R5} : 5 2 1",
-        "stop 05 0008 > stop 22 0 : aa aa aa aa aa aa aa aa : 5 2 1",
+        "stop 05 0008 > stop 22 9 : aa aa aa aa aa aa aa aa : 5 2 1",
         "progress > progress 0 2 5",
         f"stop 05 000A > stop 0 9 32 : {S5} aa :",
         "progress > progress 0",
@@ -203,7 +219,7 @@ TRANSFERS = [
         " : 1 1 0 : 219 27 218 0 0",
         "store E4 0001 00000001 000B 0001 0001 61 > store 64 11 : ff ff 00 06 12 e4 00 00 03 ff 55 : 1 1 0",
         "store FF 0001 00000001 000B 0001 0001 61 > store 64 11 : ff ff 00 06 12 ff 55 00 00 03 1a : 1 1 0",
-        "store FF 0001 00000001 000A 0001 0001 61 > store 22 0 : aa aa aa aa aa aa aa aa aa aa : 1 1 0",
+        "store FF 0001 00000001 000A 0001 0001 61 > store 22 11 : aa aa aa aa aa aa aa aa aa aa : 1 1 0",
         "store DC 0000 00000001 000A 0001 0001 61 > store 0 10 30 : ff ff 00 05 1e dc 00 00 ff 55 : 1 1 1",
         "store FF 0000 00000001 000A 0001 0001 61 > store 0 10 30 : ff ff 00 05 1e ff 55 00 00 22 : 1 1 1",
         "stop DA 000A > stop 0 10 32 : ff ff 00 05 20 da 00 00 ff 55 :",

@@ -1,7 +1,8 @@
 """A transfer: a counting table that the box receives piece by piece into the caller's buffer (M-103).
 
 A call answers a list: the answer's number and its values. A refused 19, 1D or 1F gets a rejection, and nothing else
-changes. STATE, BUSY, PAYLOAD and ROOM change nothing at all. All that is written has flags 0.
+changes. STATE, BUSY, PAYLOAD and ROOM change nothing at all. ROOM says the length of all that would be written
+(M-105). All that is written has flags 0.
 """
 from answers import BUSY, DONE, EMPTY, HEXLINES, PAYLOAD, PIECE, PIECES, ROOM, STATE, TOOBIG, TURN
 from message import read_message
@@ -29,7 +30,7 @@ def placed(data, output):
 def rejected(refusal, number, output):
     """12 under the number received; the answer is the refusal's own number."""
     frame = on_wire(REJECTION, number, 0, OTHER_FAULT)
-    return [refusal, len(frame)] if placed(frame, output) else [ROOM, 0]
+    return [refusal if placed(frame, output) else ROOM, len(frame)]
 
 
 class Transfer:
@@ -70,7 +71,7 @@ class Transfer:
             return [PAYLOAD, 0]
         first, second = on_wire(0x1A, number, 0, b""), on_wire(0x1B, link.number, 0, ready)
         if not placed(first + second, output):
-            return [ROOM, 0]
+            return [ROOM, len(first + second)]
         link.offer(0x1B, clock)
         self.fields = [values[1], piece, 0]
         return [DONE, len(first + second), 0x1A, len(first)]
@@ -86,7 +87,7 @@ class Transfer:
             return rejected(refusal, number, output)
         reply = on_wire(0x1E, number, 0, b"")
         if not placed(reply, output):
-            return [ROOM, 0]
+            return [ROOM, len(reply)]
         _, (_, index, _) = read_message(0x1D, payload)
         if index > self.fields[2]:
             start, end = self.stretch(index)
@@ -128,7 +129,7 @@ class Transfer:
             return rejected(faulty, number, output)
         reply = on_wire(0x20, number, 0, b"")
         if not placed(reply, output):
-            return [ROOM, 0]
+            return [ROOM, len(reply)]
         self.fields = None
         return [DONE, len(reply), 0x20]
 
@@ -140,7 +141,7 @@ class Transfer:
             return [BUSY]
         frame = on_wire(0x27, link.number, 0, b"")
         if not placed(frame, output):
-            return [ROOM, 0]
+            return [ROOM, len(frame)]
         link.offer(0x27, clock)
         self.fields = None
         return [DONE, len(frame), 0x27]

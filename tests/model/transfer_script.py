@@ -3,10 +3,11 @@
 A script is written along the model, so that its numbers can be near those of the transfer and the link. Frames arrive
 by single calls or on the wire.
 """
+from asking import room_said
 from driver import OFFER, RECEIVE, TICKS
 from link import WAITING
 from random_messages import some_bytes
-from records import BEGIN, DEVICE, FIELDS, LINK, MAX_DATA, PROGRESS, STOP, STORE, TABLE, packed, record
+from records import BEGIN, CANCEL, DEVICE, FIELDS, LINK, MAX_DATA, PROGRESS, STOP, STORE, TABLE, packed, record
 from transfer import total_of
 from transfer_driver import MAX_OUTPUT, TABLE_SIZE, BoxCalls
 from wire import FF, MAX_PAYLOAD, in_bytes, on_wire
@@ -25,6 +26,7 @@ class Script:
         self.clock = rand.choice([0, 2**32 - 900, rand.randrange(2**32)])
         self.piece, self.lent, self.sent, self.top = 128, 0, b"", 16
         self.room = None  # of all outputs, if it is not any
+        self.asks = False  # whether each call that meets ROOM is made again in the room said, not only every other one
 
     @property
     def fields(self):
@@ -49,30 +51,43 @@ class Script:
     def pass_time(self):
         self.clock = (self.clock + self.rand.choice([0, 1, 30, 99, 100, 199, 200])) % 2**32
 
-    # Frames that arrive.
+    def asked(self, call, room=None):
+        """A call in some room, perhaps made again where that is too little. `call` is told the room."""
+        needed = room_said(call(self.some_room() if room is None else room)[-1])
+        if needed is not None and (self.asks or self.rand.randrange(2)):
+            call(needed)
+
+    # Frames that arrive. What they return are the lines of the last record.
 
     def arrive(self, command, payload=b"", flags=0, room=None):
         """A 19, 1D or 1F."""
-        number = self.rand.choice([FF, 0, *self.rand.randbytes(4)])
-        room = self.some_room() if room is None else room
+        number = self.some_number()
+        self.asked(lambda room: self.frame(command, number, flags, payload, room), room)
+
+    def some_number(self):
+        return self.rand.choice([FF, 0, *self.rand.randbytes(4)])
+
+    def frame(self, command, number, flags, payload, room):
         if self.wired:
-            self.feed(on_wire(command, number, flags, payload), room)
-        elif command == 0x19:
-            self.put(BEGIN, number, self.clock, self.piece, self.lent, room, rest=payload)
-        elif command == 0x1D:
-            self.put(STORE, number, flags, self.lent, room, rest=payload)
-        else:
-            self.put(STOP, number, room, rest=payload)
+            return self.feed(on_wire(command, number, flags, payload), room)
+        if command == 0x19:
+            return self.put(BEGIN, number, self.clock, self.piece, self.lent, room, rest=payload)
+        if command == 0x1D:
+            return self.put(STORE, number, flags, self.lent, room, rest=payload)
+        return self.put(STOP, number, room, rest=payload)
+
+    def cancel(self, room):
+        return self.put(CANCEL, self.clock, room)
 
     def feed(self, data, room):
         """Bytes on the wire, cut anywhere."""
         while True:
             most = min(len(data), MAX_DATA - HEAD)
             size = self.rand.choice([most, most, self.rand.randint(0, most)])
-            self.put(DEVICE, self.clock, self.piece, self.lent, room, rest=data[:size])
+            lines = self.put(DEVICE, self.clock, self.piece, self.lent, room, rest=data[:size])
             data = data[size:]
             if not data:
-                return
+                return lines
 
     def settle(self):
         """The link's wait ends: by its reply, or given up."""
@@ -87,7 +102,8 @@ class Script:
     def reply(self, command, number):
         """A frame for the link; on the wire its payload can be faulty."""
         if self.wired:
-            self.feed(on_wire(command, number, 0, bytes(not self.rand.randrange(5))), self.some_room())
+            payload = bytes(not self.rand.randrange(5))
+            self.asked(lambda room: self.feed(on_wire(command, number, 0, payload), room))
         else:
             self.link(RECEIVE, command, number)
 

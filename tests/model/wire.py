@@ -33,11 +33,14 @@ def on_wire(command, number, flags, payload):
 
 
 def write_frame(command, number, flags, payload, output, room):
-    """Answer and count (PROTOCOL 6.1 to 6.5). The caller's buffer is the first `room` bytes of the output."""
+    """Answer and count (PROTOCOL 6.1 to 6.5); of ROOM the length of the whole frame (M-105).
+
+    The caller's buffer is the first `room` bytes of the output.
+    """
     if len(payload) > MAX_PAYLOAD:
         return PAYLOAD, 0
     frame = on_wire(command, number, flags, payload)
     if room < len(frame):
-        return ROOM, 0
+        return ROOM, len(frame)
     output[: len(frame)] = frame
     return DONE, len(frame)

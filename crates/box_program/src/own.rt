@@ -9,9 +9,7 @@ use message::Status;
 // How many bytes were written. The messages below are never refused, and no output of this program is too small.
 fn count_of(s: SendResult) -> usize {
     match s {
-        SendResult::Wrote { count } => count,
-        SendResult::Payload => 0,
-        SendResult::Room => 0,
+        SendResult::Written { written } => written.count(),
         SendResult::Command => 0,
         SendResult::Size => 0,
         SendResult::Field => 0,

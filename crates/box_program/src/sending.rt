@@ -37,8 +37,7 @@ pub(crate) fn owed(answer: HandleResult, out: &mut [u8]) -> Sending {
         HandleResult::Nothing => reply(0),
         HandleResult::State => reply(0),
         HandleResult::Busy => reply(0),
-        HandleResult::Payload => reply(0),
-        HandleResult::Room => reply(0),
+        HandleResult::Unwritten { .. } => reply(0),
     }
 }
 

@@ -1,4 +1,6 @@
 // The number of each answer. PROTOCOL 12.4.
+use base::Unwritten;
+use base::WriteResult;
 use device::HandleResult;
 use frame::FeedResult;
 use frame::Verdict;
@@ -9,6 +11,7 @@ use transfer::ArriveResult;
 use transfer::CancelResult;
 use transfer::Refusal;
 ghost use mathlib.Core.Path.{_≡_};
+ghost use Rattle.base.specs.Writes.{unwrittenRowOf, writeRowOf};
 ghost use Rattle.device.specs.Table.{handleRowOf};
 ghost use Rattle.frame.specs.Table.{verdictNumber, rowOf};
 ghost use Rattle.link.specs.Table.{receiveRowOf};
@@ -42,14 +45,32 @@ pub(crate) fn of_feed(answer: FeedResult) -> u32
     }
 }
 
+// Of why nothing was written.
+fn of_unwritten(why: Unwritten) -> u32
+    ensures { λ r. ⌜ r ≡ unwrittenRowOf why .number ⌝ }
+{
+    match why {
+        Unwritten::Payload => 21,
+        Unwritten::Room { .. } => 22,
+    }
+}
+
+// Of a frame that was to be written.
+fn of_write(answer: WriteResult) -> u32
+    ensures { λ r. ⌜ r ≡ writeRowOf answer .number ⌝ }
+{
+    match answer {
+        WriteResult::Wrote { .. } => 0,
+        WriteResult::Unwritten { why } => of_unwritten(why),
+    }
+}
+
 // Of a message that was to be written.
 pub(crate) fn of_send(answer: SendResult) -> u32
     ensures { λ r. ⌜ r ≡ sendRowOf answer .number ⌝ }
 {
     match answer {
-        SendResult::Wrote { .. } => 0,
-        SendResult::Payload => 21,
-        SendResult::Room => 22,
+        SendResult::Written { written } => of_write(written),
         SendResult::Command => 31,
         SendResult::Size => 32,
         SendResult::Field => 33,
@@ -69,7 +90,7 @@ pub(crate) fn of_reply(answer: ReplyResult) -> u32
         ReplyResult::StopWanted { .. } => 0,
         ReplyResult::Acknowledged { .. } => 0,
         ReplyResult::Rejected { .. } => 0,
-        ReplyResult::Room => 22,
+        ReplyResult::Unwritten { why } => of_unwritten(why),
     }
 }
 
@@ -102,8 +123,7 @@ pub(crate) fn of_arrive(answer: ArriveResult) -> u32
         ArriveResult::Refused { refusal, .. } => of_refusal(refusal),
         ArriveResult::State => 17,
         ArriveResult::Busy => 41,
-        ArriveResult::Payload => 21,
-        ArriveResult::Room => 22,
+        ArriveResult::Unwritten { why } => of_unwritten(why),
     }
 }
 
@@ -115,7 +135,7 @@ pub(crate) fn of_cancel(answer: CancelResult) -> u32
         CancelResult::Sent { .. } => 0,
         CancelResult::State => 17,
         CancelResult::Busy => 41,
-        CancelResult::Room => 22,
+        CancelResult::Unwritten { why } => of_unwritten(why),
     }
 }
 
@@ -135,7 +155,6 @@ pub(crate) fn of_handle(answer: HandleResult) -> u32
         HandleResult::Refused { refusal, .. } => of_refusal(refusal),
         HandleResult::State => 17,
         HandleResult::Busy => 41,
-        HandleResult::Payload => 21,
-        HandleResult::Room => 22,
+        HandleResult::Unwritten { why } => of_unwritten(why),
     }
 }

@@ -73,8 +73,7 @@ fn row(a: HandleResult) -> bool {
         HandleResult::Refused { count, refusal } => ArriveResult::Refused { count, refusal },
         HandleResult::State => ArriveResult::State,
         HandleResult::Busy => ArriveResult::Busy,
-        HandleResult::Payload => ArriveResult::Payload,
-        HandleResult::Room => ArriveResult::Room,
+        HandleResult::Unwritten { why } => ArriveResult::Unwritten { why },
     };
     transfer_records::arrived(b"device", of_transfer)
 }

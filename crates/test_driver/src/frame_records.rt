@@ -1,6 +1,8 @@
 // Records of the reader and of the frame writer. A line has the row's number and its values, then the bytes held or
 // written.
 use super::text;
+use base::Unwritten;
+use base::WriteResult;
 use frame::BodyPlace;
 use frame::FeedResult;
 use frame::FinishResult;
@@ -9,7 +11,6 @@ use frame::Reader;
 use frame::Scan;
 use frame::Verdict;
 use frame::WirePlace;
-use frame::WriteResult;
 
 // The reader after a record, and whether its lines were written.
 pub(crate) struct ReaderAfter {
@@ -169,13 +170,21 @@ pub(crate) fn front(out: &mut [u8], room: usize) -> &mut [u8] {
     &mut out[..size]
 }
 
+// A word and the row of a write that is refused, with no line end.
+pub(crate) fn unwritten(word: &[u8], why: Unwritten) -> bool {
+    match why {
+        Unwritten::Payload => text::front(word, &[21, 0]),
+        Unwritten::Room { needed } => text::front(word, &[22, needed as u64]),
+    }
+}
+
 // The row of a writing call and its buffer.
 pub(crate) fn wrote(w: WriteResult, shown: &[u8]) -> bool {
-    match w {
-        WriteResult::Wrote { count } => text::line_with(b"write 0", &[count as u64], shown),
-        WriteResult::Payload => text::line_with(b"write 21 0", &[], shown),
-        WriteResult::Room => text::line_with(b"write 22 0", &[], shown),
-    }
+    let begun = match w {
+        WriteResult::Wrote { count } => text::front(b"write 0", &[count as u64]),
+        WriteResult::Unwritten { why } => unwritten(b"write", why),
+    };
+    begun && text::bytes(shown) && text::text(b"\n")
 }
 
 // The data is command, number, flags, room and the payload; a room above 2,100 counts as that.

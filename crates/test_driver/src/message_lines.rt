@@ -1,5 +1,7 @@
 // The lines of messages: the row's number, then its values. PROTOCOL 7.21, 8.13.
+use super::frame_records::unwritten;
 use super::text;
+use base::WriteResult;
 use message::Control;
 use message::Extra;
 use message::Message;
@@ -133,16 +135,17 @@ fn wrote(word: &[u8], values: &[u64], out: &[u8], count: usize) -> bool {
 // The row and what was written, with no line end.
 pub(crate) fn sent(s: SendResult, out: &[u8]) -> bool {
     match s {
-        SendResult::Wrote { count } => wrote(b"write 0", &[count as u64], out, count),
-        SendResult::Payload => text::text(b"write 21 0"),
-        SendResult::Room => text::text(b"write 22 0"),
+        SendResult::Written { written } => match written {
+            WriteResult::Wrote { count } => wrote(b"write 0", &[count as u64], out, count),
+            WriteResult::Unwritten { why } => unwritten(b"write", why),
+        },
         SendResult::Command => text::text(b"write 31"),
         SendResult::Size => text::text(b"write 32"),
         SendResult::Field => text::text(b"write 33"),
     }
 }
 
-// The same of a reply; at ROOM the first bytes show that the buffer stayed.
+// The same of a reply; where it is refused, the first bytes show that the buffer stayed.
 pub(crate) fn reply(r: ReplyResult, out: &[u8]) -> bool {
     match r {
         ReplyResult::Nothing => text::text(b"answer 0"),
@@ -161,6 +164,8 @@ pub(crate) fn reply(r: ReplyResult, out: &[u8]) -> bool {
             ];
             wrote(b"answer 0", &values, out, count)
         }
-        ReplyResult::Room => wrote(b"answer 22 0", &[], out, 3),
+        ReplyResult::Unwritten { why } => {
+            unwritten(b"answer", why) && text::bytes(base::part(out, 0, 3))
+        }
     }
 }

@@ -1,6 +1,7 @@
 // Records of the transfer and its table. A line has the word with the row's number and its values, then the whole
 // output, the transfer, and the link where the call has it.
 use super::frame_records::front;
+use super::frame_records::unwritten;
 use super::states;
 use super::text;
 use base::byte_at;
@@ -40,8 +41,7 @@ pub(crate) fn arrived(word: &[u8], a: ArriveResult) -> bool {
         }
         ArriveResult::State => text::front(word, &[17, 0]),
         ArriveResult::Busy => text::front(word, &[41]),
-        ArriveResult::Payload => text::front(word, &[21, 0]),
-        ArriveResult::Room => text::front(word, &[22, 0]),
+        ArriveResult::Unwritten { why } => unwritten(word, why),
     }
 }
 
@@ -50,7 +50,7 @@ fn cancelled(a: CancelResult) -> bool {
         CancelResult::Sent { count } => text::front(b"cancel 0", &[count as u64, 39]),
         CancelResult::State => text::text(b"cancel 17 0"),
         CancelResult::Busy => text::text(b"cancel 41"),
-        CancelResult::Room => text::text(b"cancel 22 0"),
+        CancelResult::Unwritten { why } => unwritten(b"cancel", why),
     }
 }
 

@@ -48,8 +48,8 @@ fn row(frame: Frame, held: Held, clock: u32, piece: u16, lent: Lent) -> Vec<u64>
 }
 
 fn replied(reply: Reply, out: &mut [u8]) -> Vec<u64> {
-    match reply.wire() {
-        Some(wire) if put(wire, out).is_none() => transfer::Answer::Room.row(),
+    match reply.wire().map(|wire| put(wire, out)) {
+        Some(Err(no_room)) => no_room.row(),
         _ => reply.row(),
     }
 }
@@ -76,7 +76,7 @@ mod tests {
         let idle = Link { next: 1, waiting: None };
         let ended = Some((0x27, 0));
         assert_eq!(handled(&FAULTY, 10, 0), (Handled { row: vec![0, 10, 18, 3, 32], ended }, idle));
-        assert_eq!(handled(&FAULTY, 9, 0), (Handled { row: vec![22, 0], ended }, idle));
+        assert_eq!(handled(&FAULTY, 9, 0), (Handled { row: vec![22, 10], ended }, idle));
     }
 
     #[test]

@@ -145,7 +145,7 @@ fn write(data: &[u8], line: &mut Vec<u8>) {
     line.extend_from_slice(b"write");
     match writer::write(command, sequence, flags, payload, &mut out) {
         Ok(count) => text::numbers(line, &[0, count as u64]),
-        Err(refusal) => text::numbers(line, &[refusal as u64, 0]),
+        Err(refusal) => text::numbers(line, &refusal.row()),
     }
     line.extend_from_slice(b" :");
     text::spaced_bytes(line, &out);

@@ -59,7 +59,9 @@ fn answer_line(reply: Reply, out: &mut Vec<u8>) {
 /// A reply to an output of this size; where it does not fit, the front of the buffer is shown.
 pub fn answer_in_room(reply: Reply, room: usize, out: &mut Vec<u8>) {
     match reply.wire() {
-        Some(wire) if wire.len() > room => line(out, "answer", &[Refusal::Room as u64, 0], Some(&[UNTOUCHED; 3])),
+        Some(wire) if wire.len() > room => {
+            line(out, "answer", &Refusal::Room { needed: wire.len() }.row(), Some(&[UNTOUCHED; 3]));
+        }
         _ => answer_line(reply, out),
     }
 }

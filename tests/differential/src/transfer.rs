@@ -90,7 +90,10 @@ pub enum Answer {
     State,
     Busy,
     Payload,
-    Room,
+    /// All that would be written has this many bytes.
+    Room {
+        needed: usize,
+    },
 }
 
 impl Answer {
@@ -103,7 +106,7 @@ impl Answer {
             Answer::State => vec![17, 0],
             Answer::Busy => vec![41],
             Answer::Payload => vec![21, 0],
-            Answer::Room => vec![22, 0],
+            Answer::Room { needed } => vec![22, needed as u64],
         }
     }
 }
@@ -196,10 +199,12 @@ impl Transfer {
         }
         let received = acknowledgement(ANNOUNCEMENT, frame.number);
         let pair = [&received[..], &wire_form(READY, sequence, 0, &payload)].concat();
-        let Some(count) = put(&pair, lent.out) else { return Answer::Room };
+        if let Err(no_room) = put(&pair, lent.out) {
+            return no_room;
+        }
         self.open = Some(open);
         *link = busy_link;
-        Answer::Began { count, ready: received.len() }
+        Answer::Began { count: pair.len(), ready: received.len() }
     }
 
     /// A 1D arrived. The number just stored is only answered.
@@ -211,13 +216,16 @@ impl Transfer {
             Ok(piece) => piece,
             Err(refusal) => return refused(refusal, frame.number, lent.out),
         };
-        let Some(count) = put(&acknowledgement(PIECE, frame.number), lent.out) else { return Answer::Room };
+        let reply = acknowledgement(PIECE, frame.number);
+        if let Err(no_room) = put(&reply, lent.out) {
+            return no_room;
+        }
         if number != open.stored {
             lent.buffer[open.place(number)].copy_from_slice(data);
             open.stored = number;
             self.open = Some(open);
         }
-        Answer::Written { count, command: PIECE + 1 }
+        Answer::Written { count: reply.len(), command: PIECE + 1 }
     }
 
     /// The transfer that the piece is for, its number and its data. Size and total are compared only in a transfer.
@@ -253,9 +261,12 @@ impl Transfer {
         if messages::read(STOP, frame.payload).is_err() {
             return refused(Refusal::Size, frame.number, out);
         }
-        let Some(count) = put(&acknowledgement(STOP, frame.number), out) else { return Answer::Room };
+        let reply = acknowledgement(STOP, frame.number);
+        if let Err(no_room) = put(&reply, out) {
+            return no_room;
+        }
         self.open = None;
-        Answer::Written { count, command: STOP + 1 }
+        Answer::Written { count: reply.len(), command: STOP + 1 }
     }
 
     /// The box sends a 27, with or without a transfer.
@@ -265,10 +276,13 @@ impl Transfer {
         }
         let mut busy_link = *link;
         let Ok(sequence) = busy_link.offer(CANCEL, clock) else { return Answer::Busy };
-        let Some(count) = put(&wire_form(CANCEL, sequence, 0, &[]), out) else { return Answer::Room };
+        let wire = wire_form(CANCEL, sequence, 0, &[]);
+        if let Err(no_room) = put(&wire, out) {
+            return no_room;
+        }
         self.open = None;
         *link = busy_link;
-        Answer::Written { count, command: CANCEL }
+        Answer::Written { count: wire.len(), command: CANCEL }
     }
 
     pub fn progress(&self) -> Progress {
@@ -282,13 +296,18 @@ impl Transfer {
 
 /// The rejection of a frame of the module.
 fn refused(refusal: Refusal, number: u8, out: &mut [u8]) -> Answer {
-    put(&other_error(number), out).map_or(Answer::Room, |count| Answer::Refused { count, refusal })
+    let rejection = other_error(number);
+    match put(&rejection, out) {
+        Ok(()) => Answer::Refused { count: rejection.len(), refusal },
+        Err(no_room) => no_room,
+    }
 }
 
-/// Writes to the front of the output, if there is room.
-pub fn put(wire: &[u8], out: &mut [u8]) -> Option<usize> {
-    out.get_mut(..wire.len())?.copy_from_slice(wire);
-    Some(wire.len())
+/// Writes to the front of the output, or says what is to be answered where it does not fit.
+pub fn put(wire: &[u8], out: &mut [u8]) -> Result<(), Answer> {
+    let front = out.get_mut(..wire.len()).ok_or(Answer::Room { needed: wire.len() })?;
+    front.copy_from_slice(wire);
+    Ok(())
 }
 
 #[cfg(test)]
@@ -322,6 +341,28 @@ mod tests {
         assert_eq!(transfer, Transfer::new());
         assert_eq!(transfer.cancel(&mut link, 200, &mut out), Answer::Written { count: 9, command: CANCEL });
         assert_eq!(transfer.cancel(&mut link, 200, &mut out), Answer::Busy);
+    }
+
+    /// Both frames of a 19 are counted; the room that is said is enough, and one byte less is not.
+    #[test]
+    fn rooms() {
+        let announcement = [0, 0, 0, 10, 0, 2, 0xAB, 0xCD];
+        for (number, next, needed) in [(5, 3, 24), (0xFF, 3, 25), (5, 0xFF, 25), (0xFF, 0xFF, 26)] {
+            let (mut transfer, mut link) = (Transfer::new(), Link { next, waiting: None });
+            let mut begin = |room: usize| {
+                let lent = Lent { buffer: &mut [0; 10], out: &mut vec![0xAA; room] };
+                transfer.begin(&mut link, 0, 4, frame(ANNOUNCEMENT, number, &announcement), lent)
+            };
+            for room in 0..needed {
+                assert_eq!(begin(room), Answer::Room { needed });
+            }
+            assert_eq!(begin(needed), Answer::Began { count: needed, ready: if number == 0xFF { 10 } else { 9 } });
+        }
+        let (mut transfer, mut link) = (Transfer::new(), Link { next: 0xFF, waiting: None });
+        assert_eq!(transfer.stop(frame(STOP, 5, &[]), &mut []), Answer::Room { needed: 9 });
+        assert_eq!(transfer.stop(frame(STOP, 0xFF, &[0]), &mut [0; 10]), Answer::Room { needed: 11 });
+        assert_eq!(transfer.cancel(&mut link, 0, &mut [0; 9]), Answer::Room { needed: 10 });
+        assert_eq!(transfer.cancel(&mut link, 0, &mut [0; 10]), Answer::Written { count: 10, command: CANCEL });
     }
 
     #[test]
@@ -365,7 +406,7 @@ mod tests {
             (Answer::State, vec![17, 0]),
             (Answer::Busy, vec![41]),
             (Answer::Payload, vec![21, 0]),
-            (Answer::Room, vec![22, 0]),
+            (Answer::Room { needed: 24 }, vec![22, 24]),
         ];
         for (answer, row) in rows {
             assert_eq!(answer.row(), row);

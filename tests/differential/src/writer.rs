@@ -8,8 +8,21 @@ const STUFFING: u8 = 0x55;
 
 #[derive(Clone, Copy, PartialEq, Eq, Debug)]
 pub enum Refusal {
-    Payload = 21,
-    Room = 22,
+    Payload,
+    /// The frame has this many bytes.
+    Room {
+        needed: usize,
+    },
+}
+
+impl Refusal {
+    /// The number of the answer and its value.
+    pub fn row(self) -> [u64; 2] {
+        match self {
+            Refusal::Payload => [21, 0],
+            Refusal::Room { needed } => [22, needed as u64],
+        }
+    }
 }
 
 /// Writes a frame to the front of the output and returns how many bytes it has.
@@ -18,7 +31,7 @@ pub fn write(command: u8, number: u8, flags: u16, payload: &[u8], out: &mut [u8]
         return Err(Refusal::Payload);
     }
     let wire = wire_form(command, number, flags, payload);
-    let front = out.get_mut(..wire.len()).ok_or(Refusal::Room)?;
+    let front = out.get_mut(..wire.len()).ok_or(Refusal::Room { needed: wire.len() })?;
     front.copy_from_slice(&wire);
     Ok(wire.len())
 }
@@ -78,7 +91,11 @@ mod tests {
         assert_eq!(write(7, 1, 0, &[0; 1_020], &mut out), Err(Refusal::Payload));
         assert_eq!(write(7, 1, 0, &[0; 1_020], &mut []), Err(Refusal::Payload));
         let mut small = [0xAA; 8];
-        assert_eq!(write(7, 1, 0, &[], &mut small), Err(Refusal::Room));
+        assert_eq!(write(7, 1, 0, &[], &mut small), Err(Refusal::Room { needed: 9 }));
         assert_eq!(small, [0xAA; 8]);
+        assert_eq!(write(7, 1, 0, &[], &mut []), Err(Refusal::Room { needed: 9 }));
+        assert_eq!(write(0x90, 1, 0, &[0xFF; 5], &mut [0xAA; 18]), Err(Refusal::Room { needed: 19 }));
+        assert_eq!(write(0x90, 1, 0, &[0xFF; 5], &mut [0xAA; 19]), Ok(19));
+        assert_eq!([Refusal::Payload, Refusal::Room { needed: 19 }].map(Refusal::row), [[21, 0], [22, 19]]);
     }
 }

@@ -1,4 +1,4 @@
--- `numbers::of_handle` goes by the refusal of a 19, 1D or 1F, where there is one.
+-- `numbers::of_handle` goes by the refusal of a 19, 1D or 1F, or by why nothing was written, where there is one.
 use borrow.Author.Needs.{needs}
 use Rattle.stack_driver.proofs.numbers.of_handle.Statement.{statement}
 use Rattle.stack_driver.proofs.numbers.of_handle.Tie as tie
@@ -12,4 +12,5 @@ of-handle-spec =
     (λ c. search needs) (λ c. search needs) (λ c. search needs) (λ c. search needs) (λ c. search needs)
     (λ c. search needs) (λ c. search needs) (λ c. search needs)
     (λ c. rw (c .before .before .answer .given .1) (c .of-refusal .ensures))
-    (λ c. search needs) (λ c. search needs) (λ c. search needs) λ c. search needs)
+    (λ c. search needs) (λ c. search needs)
+    λ c. rw (c .before .before .answer2 .given .1) (c .of-unwritten .ensures))
