@@ -42,20 +42,17 @@ module _ (w : List ℕ) (answer : List ℕ → Row) (done : Row)
     (fits : (out : List ℕ) → length w ≤ length out → answer out ≡ done)
     (other-number : done .number ≢ 22) (counts : getD (done .values) 0 0 ≡ length w) where
   -- an output that met ROOM is too short
-  met : (out : List ℕ) → answer out .number ≡ 22 → answer out ≡ row 22 (length w ∷ [])
-  met out e =
-      either-way (ltb (length out) (length w)) (λ t. room out (ltb-true (length out) (length w) t))
-      (λ t. absurd (other-number
-      (ap (λ (r : Row). r .number) (sym (fits out (ltb-false (length out) (length w) t))) ∙ e)))
-
-  said : (out : List ℕ) → answer out .number ≡ 22 → neededIn (answer out) ≡ length w
-  said out e = ap neededIn (met out e)
-
   small : (out : List ℕ) → answer out .number ≡ 22 → length out < length w
   small out e =
       either-way (ltb (length out) (length w)) (λ t. ltb-true (length out) (length w) t)
       (λ t. absurd (other-number
       (ap (λ (r : Row). r .number) (sym (fits out (ltb-false (length out) (length w) t))) ∙ e)))
+
+  met : (out : List ℕ) → answer out .number ≡ 22 → answer out ≡ row 22 (length w ∷ [])
+  met out e = room out (small out e)
+
+  said : (out : List ℕ) → answer out .number ≡ 22 → neededIn (answer out) ≡ length w
+  said out e = ap neededIn (met out e)
 
   pub asks-by : AsksOnce answer
   asks-by =

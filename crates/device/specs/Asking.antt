@@ -10,29 +10,6 @@ use Rattle.base.specs.Asking.{AsksOnce}
 use Rattle.device.specs.Handling.{After}
 use Rattle.device.specs.HandlingExact.{Given, holding, leaves}
 
--- ---- handle-asked: what met ROOM once is written into every output of the size that it said
-
--- the same call with another output
-abbrev pub lending : Given → List ℕ → Given
-lending g out =
-    record {
-      transfer = g .transfer;
-      link = g .link;
-      clock = g .clock;
-      piece = g .piece;
-      buffer = g .buffer;
-      out = out;
-    }
-
--- of every link and transfer, in range or not
-abbrev pub HandleAsked : Type 0
-HandleAsked =
-    (limit first max : ℕ) (g : Given) (answer : Row) (body : List ℕ)
-    → AsksOnce (λ out. leaves limit first max (lending g out) answer body .row)
-
--- ---- handle-again: the same with the transfer and the link that the call which met ROOM returned, at any clock. The
--- link has received the frame already, so no wait ends again
-
 -- the same call at another clock, with another output
 abbrev pub later : Given → ℕ → List ℕ → Given
 later g clock out =
@@ -45,7 +22,22 @@ later g clock out =
       out = out;
     }
 
--- the same, but no wait ended
+-- ---- handle-asked: what met ROOM once is written into every output of the size that it said
+
+-- the same call with another output
+abbrev pub lending : Given → List ℕ → Given
+lending g out = later g (g .clock) out
+
+-- of every link and transfer, in range or not
+abbrev pub HandleAsked : Type 0
+HandleAsked =
+    (limit first max : ℕ) (g : Given) (answer : Row) (body : List ℕ)
+    → AsksOnce (λ out. leaves limit first max (lending g out) answer body .row)
+
+-- ---- handle-again: the same with the transfer and the link that the call which met ROOM returned, at any clock. The
+-- link has received the frame already, so no wait ends again
+
+-- what was left, but no wait ended
 abbrev pub unended : After → After
 unended z =
     record {

@@ -1,17 +1,18 @@
 -- calls-asked: the tests of a call do not depend on its output, and none of them is ROOM. Assumes nothing.
 use Prim.Native.Nat.{ℕ, _+_}
-use mathlib.Core.Path.{refl}
+use mathlib.Core.Path.{refl, ap}
 use mathlib.Core.Logic.{_≢_}
 use mathlib.Core.Bool.{false, cond}
 use mathlib.Core.List.{List, [], _∷_}
 use native.Mathlib.Omega.{arith}
-use borrow.Author.Tests.{eqb-false}
+use borrow.Author.Tests.{eqb-false, ltb-true, ltb-false}
 use lib.Dec.{eqb, ltb}
 use lib.ListN.{length}
 use Rattle.base.specs.Rows.{Row, row}
-use Rattle.base.specs.Outcomes.{Output, output, placed}
+use Rattle.base.specs.Outcomes.{Output, output}
 use Rattle.base.specs.Asking.{AsksOnce}
-use Rattle.base.proofs.Asking.{asks-never, asks-either, asks-placed, asks-rowed}
+use Rattle.base.proofs.Asking.{asks-never, asks-as, asks-either, asks-by, asks-rowed}
+use Rattle.base.proofs.Tests.{either-way}
 use Rattle.frame.specs.Wire.{frameOf}
 use Rattle.frame.specs.Calls.{writeOf}
 use Rattle.frame.proofs.WriterExact.{write-asked}
@@ -23,6 +24,7 @@ use Rattle.transfer.specs.Writing.{acknowledged, rejectionOf, refusedOf,
 use Rattle.transfer.specs.Calls.{Left, left, settled, both, held, putIn}
 use Rattle.transfer.specs.Asking.{AllAsked}
 use Rattle.transfer.specs.declared.state.Transfer.the-variants.{Absent, Open}
+use Rattle.transfer.proofs.WriteLaws.{pair-too-long, pair-no-room, pair-put}
 use Rattle.transfer.proofs.Outcomes.{Others, other-refusal}
 use Rattle.transfer.proofs.Refusals.{piece-others}
 
@@ -39,12 +41,17 @@ module _ (limit : ℕ) where
 
   pair-asks : (number next piece : ℕ) (code : List ℕ) → AsksOnce (λ out. pairOf limit number next piece code out .row)
   pair-asks number next piece code =
-      let both-put : List ℕ → Output = λ out. placed (pairWire number next piece code) out in
-      let too-long : List ℕ → Output = λ out. output payloadRow out in
-      asks-rowed (λ count. beganRow count (length (frameOf 0x1A number 0 []))) (λ n e. omega arith) (λ n. refl)
-      (λ out. cond (ltb limit (length (readyPayload piece code) + 5)) (too-long out) (both-put out))
-      (asks-either rowIn (ltb limit (length (readyPayload piece code) + 5)) too-long both-put
-      (asks-never payloadRow (λ e. omega arith)) (asks-placed (pairWire number next piece code)))
+      let size : ℕ = length (readyPayload piece code) + 5 in
+      let wires : List ℕ = pairWire number next piece code in
+      let answer : List ℕ → Row = λ out. pairOf limit number next piece code out .row in
+      either-way (ltb limit size)
+      (λ e. asks-as (λ out. payloadRow) answer
+      (λ out. ap rowIn (pair-too-long limit number next piece code out (ltb-true limit size e)))
+      (asks-never payloadRow (λ z. omega arith)))
+      (λ e. let within = ltb-false limit size e in
+      asks-by wires answer (beganRow (length wires) (length (frameOf 0x1A number 0 [])))
+      (λ out h. ap rowIn (pair-no-room limit number next piece code out within h))
+      (λ out h. ap rowIn (pair-put limit number next piece code out within h)) (λ z. omega arith) refl)
 
   -- a 12, by a refusal that is not ROOM itself
   refused-asks : (refusal number : ℕ) → refusal ≢ 22 → AsksOnce (λ out. refusedOf limit refusal number out .row)

@@ -31,6 +31,7 @@ use Rattle.transfer.specs.Refusals.{twelve}
 use Rattle.transfer.specs.EachCall.{Rejected, Written, Sent, linkAfter, BeginExact, StoreExact, CallsAlways}
 use Rattle.transfer.specs.declared.state.Transfer.{Transfer}
 use Rattle.transfer.specs.declared.state.Transfer.the-variants.{Absent, Open}
+use Rattle.transfer.proofs.WriteLaws.{pair-too-long, pair-no-room, pair-put}
 use Rattle.transfer.proofs.TestLaws.{or-true, open-sizes}
 use Rattle.transfer.proofs.PieceLaws.{few-pieces, many-pieces, reaches-end, below-more, right-total, inside}
 use Rattle.transfer.proofs.PieceLaws.{outside}
@@ -204,7 +205,8 @@ module _ (limit first max : ℕ) (enough : 6 ≤ limit) (t : Transfer) (l : Link
 
   -- the pair
   pair-long : limit < length (codeIn payload) + 9 → pair ≡ output (row 21 (0 ∷ [])) out
-  pair-long h = rw (lt-ltb limit (length (readyPayload piece (codeIn payload)) + 5) (omega (arith, h, payload-size)))
+  pair-long h =
+      pair-too-long limit number (l .next) piece (codeIn payload) out (omega (arith, h, payload-size))
     where
       payload-size : length (readyPayload piece (codeIn payload)) ≡ length (codeIn payload) + 4
       payload-size = let e = length-append (codeIn payload) (two piece []) in omega (arith, e)
@@ -214,14 +216,15 @@ module _ (limit first max : ℕ) (enough : 6 ≤ limit) (t : Transfer) (l : Link
       (both t l) next (settled pair (both t l) next)
   pair-written next h =
       record {
-        fits = λ q. rw (short, le-ltb (length out) (length (pairWire number (l .next) piece (codeIn payload))) q);
-        room = λ q. rw (short, lt-ltb (length out) (length (pairWire number (l .next) piece (codeIn payload))) q);
+        fits = λ q. as-left (pair-put limit number (l .next) piece (codeIn payload) out within q);
+        room = λ q. as-left (pair-no-room limit number (l .next) piece (codeIn payload) out within q);
       }
     where
-      short : ltb limit (length (readyPayload piece (codeIn payload)) + 5) ≡ false
-      short =
-          let e = length-append (codeIn payload) (two piece []) in
-          le-ltb limit (length (readyPayload piece (codeIn payload)) + 5) (omega (arith, e, h))
+      within : length (readyPayload piece (codeIn payload)) + 5 ≤ limit
+      within = let e = length-append (codeIn payload) (two piece []) in omega (arith, e, h)
+
+      as-left : {w : Output} → pair ≡ w → settled pair (both t l) next ≡ settled w (both t l) next
+      as-left e = ap (λ (w : Output). settled w (both t l) next) e
 
   begin-exact : (clock : ℕ) → BeginExact t l number payload piece room out (linkAfter first l 0x1B clock)
       limit

@@ -1,6 +1,6 @@
 -- What a 19 or a cancel asks of the link: it is accepted as the call is, or BUSY as the call is, or not asked. What an
 -- accepted one wrote. Assumes nothing.
-use Prim.Native.Nat.{ℕ, _+_}
+use Prim.Native.Nat.{ℕ}
 use mathlib.Core.Path.{_≡_, refl, sym, ap, subst, _∙_}
 use mathlib.Core.Bool.{Bool, true, false, cond, not, true≢false}
 use mathlib.Core.List.{List, [], _∷_}
@@ -20,13 +20,14 @@ use Rattle.link.specs.Table.{acceptedRow}
 use Rattle.link.specs.declared.state.Link.{Link}
 use Rattle.link.specs.declared.state.Wait.{Wait}
 use Rattle.link.specs.declared.state.Wait.the-variants.{Idle, Waiting}
-use Rattle.transfer.specs.Table.{payloadRow, busyRow, wroteRow, beganRow}
+use Rattle.transfer.specs.Table.{payloadRow, busyRow, wroteRow}
 use Rattle.transfer.specs.Payloads.{faulty, sizeIn, codeIn}
 use Rattle.transfer.specs.Checks.{Test, test, firstRefusal, inRangeOf, sizeTests, beginTests, cancelTests}
-use Rattle.transfer.specs.Writing.{acknowledged, refusedOf, readyPayload, pairWire, pairOf}
+use Rattle.transfer.specs.Writing.{acknowledged, refusedOf, pairWire, pairOf}
 use Rattle.transfer.specs.Calls.{Left, left, settled, Both, both, beginOf, cancelOf}
 use Rattle.transfer.specs.declared.state.Transfer.{Transfer}
 use Rattle.transfer.specs.declared.state.Transfer.the-variants.{Absent, Open}
+use Rattle.transfer.proofs.WriteLaws.{by-pair}
 use Rattle.transfer.proofs.TestLaws.{passes, held-by}
 use Rattle.transfer.proofs.Outcomes.{Others, other-refusal, Went, done, kept, went}
 
@@ -178,17 +179,20 @@ module _ (limit first max : ℕ) (t : Transfer) (l : Link) (clock : ℕ) where
         let s = passes (eqb (ready .row .number) 41) 41 refl (r .1) in
         accepts first max l 0x1B clock may-ready (held-by _ (q .0)) (s .0)
 
-    abbrev long : Bool
-    long = ltb limit (length (readyPayload piece (codeIn payload)) + 5)
-
     abbrev wires : List ℕ
     wires = pairWire number (l .next) piece (codeIn payload)
 
-    abbrev counted : ℕ → Row
-    counted count = beganRow count (length (frameOf 0x1A number 0 []))
-
     pair-not : NotBusy pair
-    pair-not = rowed-not counted (λ _. refl) (put long wires out) (put-not long wires out)
+    pair-not =
+        by-pair limit number (l .next) piece (codeIn payload) out NotBusy (λ _. refl) (λ _. refl) (λ _. refl)
+
+    -- written, its front is the two frames
+    pair-front : pair .row .number ≡ 0 → take (writtenIn (pair .row)) (pair .out) ≡ wires
+    pair-front =
+        by-pair limit number (l .next) piece (codeIn payload) out
+        (λ (w : Output). w .row .number ≡ 0 → take (writtenIn (w .row)) (w .out) ≡ wires)
+        (λ _ q. absurd (true≢false (sym (eq-eqb 21 0 q)))) (λ _ q. absurd (true≢false (sym (eq-eqb 22 0 q))))
+        (λ _ q. take-at wires (drop (length wires) out) (length wires) refl)
 
     pub begin-asks : Asked l ready (begun .row) (begun .state .link)
     begin-asks = go begin-went
@@ -214,7 +218,7 @@ module _ (limit first max : ℕ) (t : Transfer) (l : Link) (clock : ℕ) where
         go : Went (both t l) opened begun refusal → take (writtenIn (begun .row)) (begun .out) ≡ wires
         go (done h z s) =
             subst (λ n. take (writtenIn (made n .row)) (made n .out) ≡ wires) z
-            (put-front long wires out counted (λ _. refl) (subst (λ n. made n .row .number ≡ 0) (sym z) e))
+            (pair-front (subst (λ n. made n .row .number ≡ 0) (sym z) e))
         go (kept h s) = absurd (true≢false (sym (eq-eqb (begun .row .number) 0 e) ∙ h))
 
   module _ (out : List ℕ) where

@@ -1,5 +1,5 @@
 -- What a call leaves, from its tests and its output: done, or as it was. Assumes nothing.
-use Prim.Native.Nat.{ℕ, _+_}
+use Prim.Native.Nat.{ℕ}
 use mathlib.Core.Path.{_≡_, refl, sym, _∙_}
 use mathlib.Core.Bool.{true, false, cond, true≢false}
 use mathlib.Core.List.{List, [], _∷_}
@@ -7,14 +7,14 @@ use borrow.Author.Tests.{eqb-true}
 use lib.Dec.{eqb, ltb}
 use lib.ListN.{length}
 use Rattle.base.specs.Rows.{Row, row}
-use Rattle.base.specs.Outcomes.{Output, output, placed, rowed}
+use Rattle.base.specs.Outcomes.{Output, rowed}
 use Rattle.base.proofs.Tests.{by-test, either-way}
-use Rattle.frame.specs.Wire.{frameOf}
 use Rattle.frame.specs.Calls.{writeOf}
-use Rattle.transfer.specs.Table.{payloadRow, wroteRow, beganRow}
+use Rattle.transfer.specs.Table.{wroteRow}
 use Rattle.transfer.specs.Checks.{Test, firstRefusal}
-use Rattle.transfer.specs.Writing.{acknowledged, refusedOf, readyPayload, pairWire, pairOf}
+use Rattle.transfer.specs.Writing.{acknowledged, refusedOf, pairOf}
 use Rattle.transfer.specs.Calls.{Left, left, settled}
+use Rattle.transfer.proofs.WriteLaws.{by-pair}
 
 -- ---- the first refusal
 
@@ -50,22 +50,11 @@ acknowledged-other limit command number out =
     rowed-other 17 (wroteRow command) (λ _. refl) (writeOf limit command number 0 [] out)
     (write-other 17 limit command number 0 [] out refl refl refl)
 
-module _ (limit number next piece : ℕ) (code out : List ℕ) where
-  abbrev written : Output
-  written =
-      cond (ltb limit (length (readyPayload piece code) + 5)) (output payloadRow out)
-      (placed (pairWire number next piece code) out)
-
-  written-other : eqb (written .row .number) 17 ≡ false
-  written-other =
-      by-test (λ (v : Output). eqb (v .row .number) 17 ≡ false) (ltb limit (length (readyPayload piece code) + 5))
-      {x = output payloadRow out} {y = placed (pairWire number next piece code) out} (λ _. refl)
-      (λ _. by-test (λ (v : Output). eqb (v .row .number) 17 ≡ false)
-      (ltb (length out) (length (pairWire number next piece code))) (λ _. refl) (λ _. refl))
-
-  pub pair-other : eqb (pairOf limit number next piece code out .row .number) 17 ≡ false
-  pair-other =
-      rowed-other 17 (λ count. beganRow count (length (frameOf 0x1A number 0 []))) (λ _. refl) written written-other
+pub pair-other : (limit number next piece : ℕ) (code out : List ℕ)
+    → eqb (pairOf limit number next piece code out .row .number) 17 ≡ false
+pair-other limit number next piece code out =
+    by-pair limit number next piece code out (λ (v : Output). eqb (v .row .number) 17 ≡ false) (λ _. refl) (λ _. refl)
+    (λ _. refl)
 
 -- a refusal is STATE only by its own number, and is never 0
 pub refused-other : (limit n number : ℕ) (out : List ℕ) → eqb n 17 ≡ false

@@ -32,7 +32,7 @@ use Rattle.message.specs.declared.writer.SendResult.the-variants as sending
 use Rattle.message.specs.declared.values.Message.the-variants.{Ready}
 use Rattle.transfer.specs.Table.{payloadRow, beganRow}
 use Rattle.transfer.specs.Writing.{after, withFirst, readyPayload, pairOf}
-use Rattle.transfer.proofs.WriteLaws.{at-most-16}
+use Rattle.transfer.proofs.WriteLaws.{at-most-16, pair-too-long, pair-no-room, pair-put}
 
 -- a call that is lent the rest of an output, from a place on
 pub rest-written : (out : List ℕ) (from : ℕ) (f : List ℕ → Output) (a : Row) (o : List ℕ)
@@ -148,9 +148,6 @@ module _ (limit number next piece : ℕ) (code out : List ℕ) where
       f (min-cases (length first) (length out) _ (λ h q. q) (λ h q. omega (arith, l, h, q))) l)
 
   module _ (small : limit ≤ 65535) where
-    too-long : limit < length (readyPayload piece code) + 5 → both ≡ output payloadRow out
-    too-long h = rw (lt-ltb limit (length (readyPayload piece code) + 5) h)
-
     -- where it is not, the room decides
     module _ (h : length (readyPayload piece code) + 5 ≤ limit) where
       sent-placed : sent ≡ placed second (drop from out)
@@ -159,20 +156,14 @@ module _ (limit number next piece : ℕ) (code out : List ℕ) where
       roomless : length out < length first + length second
           → both ≡ output (row 22 ((length first + length second) ∷ [])) out
       roomless q =
-          rw (
-            le-ltb limit (length (readyPayload piece code) + 5) h,
-            lt-ltb (length out) (length (first ++ second)) (rw length-append q),
-            length-append first second,
-          )
+          pair-no-room limit number next piece code out h (rw length-append q)
+          ∙ ap (λ (n : ℕ). output (row 22 (n ∷ [])) out) (length-append first second)
 
       roomy : length first + length second ≤ length out
           → both ≡ output (beganRow (length first + length second) (length first)) (onto (first ++ second) out)
       roomy q =
-          rw (
-            le-ltb limit (length (readyPayload piece code) + 5) h,
-            le-ltb (length out) (length (first ++ second)) (rw length-append q),
-            length-append first second,
-          )
+          pair-put limit number next piece code out h (rw length-append q)
+          ∙ ap (λ (n : ℕ). output (beganRow n (length first)) (onto (first ++ second) out)) (length-append first second)
 
       not-sent : length (drop from out) < length second → Sent
       not-sent q =
@@ -189,7 +180,8 @@ module _ (limit number next piece : ℕ) (code out : List ℕ) where
     pub sent-cases : Sent
     sent-cases =
         either-way (ltb limit (length (readyPayload piece code) + 5))
-        (λ e. long (rw e) (too-long (ltb-true limit (length (readyPayload piece code) + 5) e)))
+        (λ e. long (rw e) (pair-too-long limit number next piece code out
+        (ltb-true limit (length (readyPayload piece code) + 5) e)))
         (λ e. let h = ltb-false limit (length (readyPayload piece code) + 5) e in
         either-way (ltb (length (drop from out)) (length second))
         (λ r. not-sent h (ltb-true (length (drop from out)) (length second) r))

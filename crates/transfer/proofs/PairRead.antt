@@ -6,12 +6,12 @@ use mathlib.Core.Bool.{Bool, true, false, cond, true≢false}
 use mathlib.Core.List.{List, [], _∷_, _++_, append-nil, append-assoc, List·Memᴰ, List·Memᴰ·head, List·Memᴰ·tail}
 use mathlib.Core.List.{Memᴰ·append-right}
 use native.Mathlib.Omega.{arith}
-use borrow.Author.Tests.{eq-eqb, ltb-false, le-leb}
-use lib.Dec.{eqb, ltb}
+use borrow.Author.Tests.{eq-eqb, le-leb}
+use lib.Dec.{eqb}
 use lib.ListN.{length, getD, take, drop, length-append}
 use lib.Seq.{take-at}
 use Rattle.base.specs.Rows.{Row, row}
-use Rattle.base.specs.Outcomes.{Output, output, onto, rowed}
+use Rattle.base.specs.Outcomes.{Output}
 use Rattle.base.proofs.Lists.{append-cancel}
 use Rattle.base.proofs.Rows.{refused}
 use Rattle.base.specs.Numbers.{two}
@@ -35,11 +35,11 @@ use Rattle.message.specs.declared.values.Message.the-variants.{Ready}
 use Rattle.message.proofs.WrittenRead.{written-read}
 use Rattle.transfer.specs.Payloads.{faulty, sizeIn, codeIn}
 use Rattle.transfer.specs.Checks.{firstRefusal, beginTests}
-use Rattle.transfer.specs.Table.{payloadRow, beganRow}
 use Rattle.transfer.specs.Writing.{readyPayload, pairWire, pairOf}
 use Rattle.transfer.specs.Calls.{Left, Both, both, beginBy}
 use Rattle.transfer.specs.PairRead.{IsAccept, IsReady, Pair, Begins, PairBack, PairRead, PairAmong, PairAnywhere}
 use Rattle.transfer.specs.declared.state.Transfer.the-variants.{Open}
+use Rattle.transfer.proofs.WriteLaws.{by-pair}
 use Rattle.transfer.proofs.Outcomes.{Went, done, kept, went}
 use Rattle.transfer.proofs.FoundLaws.{around, apart-back, next-is, lies, front-lists}
 
@@ -58,30 +58,19 @@ module _ (limit number next piece : ℕ) (code out : List ℕ) (at count : ℕ) 
 
   wrote : pairOf limit number next piece code out .row ≡ accepted
       → Wrote limit number next piece code at count (take count (pairOf limit number next piece code out .out))
-  wrote e = go (ltb limit (length (readyPayload piece code) + 5)) (ltb (length out) (length w)) refl e
-    where
-      w : List ℕ
-      w = pairWire number next piece code
-
-      written : Bool → Bool → Output
-      written large narrow =
-          rowed (λ n. beganRow n (length (frameOf 0x1A number 0 [])))
-          (cond large (output payloadRow out)
-          (cond narrow (output (row 22 (length w ∷ [])) out) (output (row 0 (length w ∷ [])) (onto w out))))
-
-      go : (large narrow : Bool) → ltb limit (length (readyPayload piece code) + 5) ≡ large
-          → written large narrow .row ≡ accepted
-          → Wrote limit number next piece code at count (take count (written large narrow .out))
-      go true narrow q e = refused e
-      go false true q e = refused e
-      go false false q e =
-          let counted : length w ≡ count = ap (λ (r : Row). getD (r .values) 0 0) e in
-          record {
-            fits = ltb-false _ _ q;
-            at-is = ap (λ (r : Row). getD (r .values) 2 0) e;
-            count-is = counted;
-            is-pair = take-at w (drop (length w) out) count counted;
-          }
+  wrote =
+      by-pair limit number next piece code out
+      (λ (v : Output). v .row ≡ accepted → Wrote limit number next piece code at count (take count (v .out)))
+      (λ _ e. refused e) (λ _ e. refused e)
+      (λ within e.
+      let w : List ℕ = pairWire number next piece code in
+      let counted : length w ≡ count = ap (λ (r : Row). getD (r .values) 0 0) e in
+      record {
+        fits = within;
+        at-is = ap (λ (r : Row). getD (r .values) 2 0) e;
+        count-is = counted;
+        is-pair = take-at w (drop (length w) out) count counted;
+      })
 
 -- by an accepted 19
 module _ (limit : ℕ) (l : Link) (number : ℕ) (payload : List ℕ) (piece at count : ℕ) (w : List ℕ)

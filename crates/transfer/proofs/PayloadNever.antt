@@ -16,13 +16,14 @@ use Rattle.frame.specs.Wire.{frameLimit, frameOf}
 use Rattle.frame.specs.Calls.{writeOf}
 use Rattle.link.specs.Calls.{inRange, offerOf}
 use Rattle.transfer.specs.Payloads.{faulty, sizeIn, codeIn, indexIn, totalIn, bytesIn}
-use Rattle.transfer.specs.Table.{payloadRow, wroteRow, beganRow}
+use Rattle.transfer.specs.Table.{payloadRow, wroteRow}
 use Rattle.transfer.specs.Checks.{Test, firstRefusal, inRangeOf, beginTests, storeTests, stopTests}
 use Rattle.transfer.specs.Checks.{cancelTests}
-use Rattle.transfer.specs.Writing.{acknowledged, refusedOf, readyPayload, pairWire, pairOf}
+use Rattle.transfer.specs.Writing.{acknowledged, refusedOf, pairOf}
 use Rattle.transfer.specs.Calls.{Left, left, settled, both, held, putIn}
 use Rattle.transfer.specs.PayloadNever.{NeverPayload}
 use Rattle.transfer.specs.declared.state.Transfer.the-variants.{Absent, Open}
+use Rattle.transfer.proofs.WriteLaws.{by-pair}
 use Rattle.transfer.proofs.Outcomes.{Others, other-refusal, rowed-other}
 use Rattle.transfer.proofs.PayloadsExact.{payloads-exact}
 use Rattle.transfer.proofs.Refusals.{piece-others}
@@ -54,11 +55,8 @@ refused-never n number out h =
 pair-never : (number next piece : ℕ) (code out : List ℕ) → length code + 9 ≤ 1024
     → Never (pairOf frameLimit number next piece code out)
 pair-never number next piece code out h =
-    rowed-other 21 (λ count. beganRow count (length (frameOf 0x1A number 0 []))) (λ _. refl)
-    (cond (ltb frameLimit (length (readyPayload piece code) + 5)) (output payloadRow out)
-    (placed (pairWire number next piece code) out))
-    (placed-never (length (readyPayload piece code) + 5) (pairWire number next piece code) out
-    (let e = length-append code (two piece []) in omega (arith, e, h)))
+    by-pair frameLimit number next piece code out Never
+    (λ long. let e = length-append code (two piece []) in absurd (omega (arith, e, h, long))) (λ _. refl) (λ _. refl)
 
 -- a call, by its tests and what it writes where none refuses
 call-never : {S : Type 0} (before next : S) (number : ℕ) (out : List ℕ) (ts : List Test) (w : Output) → Others 21 ts

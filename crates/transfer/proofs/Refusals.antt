@@ -16,14 +16,15 @@ use Rattle.frame.specs.Calls.{writeOf}
 use Rattle.link.specs.Calls.{inRange, offerOf}
 use Rattle.link.specs.declared.state.Link.{Link}
 use Rattle.transfer.specs.Payloads.{faulty, sizeIn, codeIn, indexIn, totalIn, bytesIn}
-use Rattle.transfer.specs.Table.{payloadRow, wroteRow, beganRow}
+use Rattle.transfer.specs.Table.{payloadRow, wroteRow}
 use Rattle.transfer.specs.Checks.{Test, firstRefusal, inRangeOf, pieceTests, beginTests, storeTests, stopTests}
 use Rattle.transfer.specs.Checks.{cancelTests}
-use Rattle.transfer.specs.Writing.{acknowledged, rejectionOf, refusedOf, readyPayload, pairWire, pairOf}
+use Rattle.transfer.specs.Writing.{acknowledged, rejectionOf, refusedOf, pairOf}
 use Rattle.transfer.specs.Calls.{Left, left, settled, Both, both, held, putIn, cancelOf}
 use Rattle.transfer.specs.Refusals.{silent, twelve, Kept, RefusedAlways}
 use Rattle.transfer.specs.declared.state.Transfer.{Transfer}
 use Rattle.transfer.specs.declared.state.Transfer.the-variants.{Absent, Open}
+use Rattle.transfer.proofs.WriteLaws.{by-pair}
 use Rattle.transfer.proofs.Outcomes.{Others, other-refusal}
 
 -- an output that is refused leaves the caller's output
@@ -49,13 +50,8 @@ rowed-plain f z out w h =
 pair-plain : (limit number next piece : ℕ) (code out : List ℕ) → Plain out (pairOf limit number next piece code out)
 unfolding among
 pair-plain limit number next piece code out =
-    rowed-plain (λ count. beganRow count (length (frameOf 0x1A number 0 []))) (λ _. refl) out
-    (cond (ltb limit (length (readyPayload piece code) + 5)) (output payloadRow out)
-    (placed (pairWire number next piece code) out))
-    (by-test (Plain out) (ltb limit (length (readyPayload piece code) + 5)) {x = output payloadRow out}
-    {y = placed (pairWire number next piece code) out} (λ _ _. (refl, refl))
-    (λ _. by-test (Plain out) (ltb (length out) (length (pairWire number next piece code))) (λ _ _. (refl, refl))
-    (λ _ e. absurd (true≢false e))))
+    by-pair limit number next piece code out (Plain out) (λ _ _. (refl, refl)) (λ _ _. (refl, refl))
+    (λ _ e. absurd (true≢false e))
 
 acknowledged-plain : (limit command number : ℕ) (out : List ℕ) → Plain out (acknowledged limit command number out)
 acknowledged-plain limit command number out =

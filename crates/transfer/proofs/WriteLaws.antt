@@ -1,19 +1,20 @@
 -- What is written, and its row. Assumes nothing.
-use Prim.Native.Nat.{ℕ, _≤_, _<_}
-use mathlib.Core.Path.{_≡_, refl, ap, subst}
+use Prim.Native.Nat.{ℕ, _+_, _≤_, _<_}
+use mathlib.Core.Path.{_≡_, refl, sym, ap, subst}
 use mathlib.Core.Bool.{false}
 use mathlib.Core.List.{List, [], _∷_}
 use native.Mathlib.Omega.{arith}
-use borrow.Author.Tests.{lt-ltb, le-ltb}
+use borrow.Author.Tests.{lt-ltb, le-ltb, ltb-true, ltb-false}
 use lib.Dec.{eqb, ltb}
 use lib.ListN.{length}
 use Rattle.base.specs.Rows.{Row, row}
-use Rattle.base.specs.Outcomes.{Output, output, neededIn, rowed}
+use Rattle.base.specs.Outcomes.{Output, output, onto, neededIn, rowed}
+use Rattle.base.proofs.Tests.{either-way}
 use Rattle.frame.specs.Wire.{bodyOf, frameOf}
 use Rattle.frame.specs.Calls.{writeOf}
 use Rattle.frame.proofs.Stuffing.{stuffed-form}
-use Rattle.transfer.specs.Table.{refusalNumber}
-use Rattle.transfer.specs.Writing.{rejectionOf, refusedOf}
+use Rattle.transfer.specs.Table.{refusalNumber, payloadRow, beganRow}
+use Rattle.transfer.specs.Writing.{rejectionOf, refusedOf, readyPayload, pairWire, pairOf}
 use Rattle.transfer.specs.declared.answers.Refusal.{Refusal}
 use Rattle.transfer.specs.declared.answers.Refusal.the-variants as refusal
 
@@ -67,3 +68,38 @@ module _ (command number : ℕ) where
   pub at-most-16 : length (frameOf command number 0 []) ≤ 16
   unfolding bodyOf
   at-most-16 = let h = stuffed-form (bodyOf command number 0 []) .at-most-twice in omega (arith, h)
+
+-- ---- a pair, in its three cases. All that is known of its definition is here
+
+module _ (limit number next piece : ℕ) (code out : List ℕ) where
+  abbrev wires : List ℕ
+  wires = pairWire number next piece code
+
+  -- the length of the 1B
+  abbrev size : ℕ
+  size = length (readyPayload piece code) + 5
+
+  pub pair-too-long : limit < size → pairOf limit number next piece code out ≡ output payloadRow out
+  pair-too-long h = rw (lt-ltb limit size h)
+
+  module _ (within : size ≤ limit) where
+    pub pair-no-room : length out < length wires
+        → pairOf limit number next piece code out ≡ output (row 22 (length wires ∷ [])) out
+    pair-no-room h = rw (le-ltb limit size within, lt-ltb (length out) (length wires) h)
+
+    pub pair-put : length wires ≤ length out → pairOf limit number next piece code out
+        ≡ output (beganRow (length wires) (length (frameOf 0x1A number 0 []))) (onto wires out)
+    pair-put h = rw (le-ltb limit size within, le-ltb (length out) (length wires) h)
+
+  -- what holds in each case holds of the pair
+  pub by-pair : (P : Output → Type 0) → (limit < size → P (output payloadRow out))
+      → (size ≤ limit → P (output (row 22 (length wires ∷ [])) out))
+      → (size ≤ limit → P (output (beganRow (length wires) (length (frameOf 0x1A number 0 []))) (onto wires out)))
+      → P (pairOf limit number next piece code out)
+  by-pair P long no-room put =
+      either-way (ltb limit size)
+      (λ e. let over = ltb-true limit size e in subst P (sym (pair-too-long over)) (long over))
+      (λ e. let within = ltb-false limit size e in
+      either-way (ltb (length out) (length wires))
+      (λ r. subst P (sym (pair-no-room within (ltb-true (length out) (length wires) r))) (no-room within))
+      (λ r. subst P (sym (pair-put within (ltb-false (length out) (length wires) r))) (put within)))
