@@ -1,12 +1,15 @@
 /*
- * Trogonreed: writes frames of the Gizwits serial protocol, for the firmware of a box. C99 or later, and C++.
+ * Trogonreed: writes frames of the Gizwits serial protocol, for the firmware of a box. C99 or later, and C++; for
+ * processors of 32 and of 64 bits. It needs two headers that every compiler has, and no C library.
  *
  * The function is proved to meet its contract (crate `firmware`): what it returns and what it writes, for every input.
  * That this declaration and these numbers agree with it, and how C passes a slice of bytes, is trusted and tested. The
  * function keeps nothing between calls and allocates nothing, so several threads may call it at once.
  *
- * `rt staticlib firmware` builds target/staticlib/libfirmware.a, for x86-64 Linux. examples/box.c is a program that
- * links it. docs/API.md has the reference, and docs/PROTOCOL.md the rules (section 6).
+ * `bin/firmware TRIPLE` builds the archive, libfirmware.a, for the processor that TRIPLE names, and puts this header
+ * beside it; docs/PROCESSORS.md has the triples, with the size and the stack of each. examples/box.c is a program that
+ * links it, and examples/cortex-m3 a whole firmware. docs/API.md has the reference, and docs/PROTOCOL.md the rules
+ * (section 6).
  */
 #ifndef TROGONREED_H
 #define TROGONREED_H
@@ -16,6 +19,17 @@
 
 #ifdef __cplusplus
 extern "C" {
+#endif
+
+/*
+ * This header does not compile where the archive would not understand its caller: lengths have 64 bits on every
+ * processor, as the writer was proved with, and size_t has 32 or 64, as an address has. Numbers have their low byte
+ * first.
+ */
+typedef char trogonreed_checks_lengths[sizeof(uint64_t) == 8 && (sizeof(size_t) == 4 || sizeof(size_t) == 8) ? 1 : -1];
+typedef char trogonreed_checks_addresses[sizeof(void *) == sizeof(size_t) ? 1 : -1];
+#if defined(__BYTE_ORDER__) && defined(__ORDER_LITTLE_ENDIAN__) && __BYTE_ORDER__ != __ORDER_LITTLE_ENDIAN__
+#error "there is no archive of the writer for a processor with the high byte first"
 #endif
 
 /* The greatest size of a payload, in bytes. */
@@ -29,8 +43,8 @@ extern "C" {
 
 /*
  * A call uses less than this many bytes of stack, its return address and the arguments on the stack included; payload
- * and buffer are the caller's own. Tested for payloads of every size, not proved; with this archive, 88 bytes were
- * measured on x86-64 Linux. docs/STACK.md has more.
+ * and buffer are the caller's own. Tested for payloads of every size, not proved; 88 bytes were measured on x86-64
+ * Linux. docs/PROCESSORS.md has the figures of the other processors, and docs/STACK.md how they are measured.
  */
 #define TROGONREED_STACK 1024ul
 
@@ -78,9 +92,12 @@ extern "C" {
  *   - `payload` is readable for `payload_len` bytes, and `out` is writable for `out_len` bytes;
  *   - they do not overlap, and during the call no other thread writes to either or reads `out`.
  * With length 0 a pointer may be null. `payload` is never written.
+ *
+ * A length is a uint64_t, also where size_t has 32 bits; a size_t is converted by the call itself. Where size_t has 64
+ * bits it is passed in the same way.
  */
 uint32_t trogonreed_write_frame(uint8_t command, uint8_t number, uint16_t flags, const uint8_t *payload,
-                                size_t payload_len, uint8_t *out, size_t out_len);
+                                uint64_t payload_len, uint8_t *out, uint64_t out_len);
 
 /* Whether a returned number is a refusal. */
 static inline int trogonreed_is_refused(uint32_t returned)
