@@ -14,7 +14,7 @@ NUMBER = r"\d+(?:\.\d+)?"
 GAP = r"[\s#*/-]"  # a citation can run on to the next line of a comment
 CITATION = re.compile(rf"\bPROTOCOL(?:\.md)?{GAP}+({NUMBER}(?:{GAP}*(?:,|\bto\b|\band\b|\bor\b){GAP}*{NUMBER})*)")
 RANGE = re.compile(rf"({NUMBER})(?:{GAP}*\bto\b{GAP}*({NUMBER}))?")
-CITING = ("*.md", ".ci/*", "bin/*", "crates/**/*", "docs/**/*", "examples/*", "include/*", "tests/**/*")
+CITING = ("*.md", ".ci/*", "bin/*", "crates/**/*", "cross/*", "docs/**/*", "examples/**/*", "include/*", "tests/**/*")
 
 
 def protocol():

@@ -18,9 +18,9 @@ SOURCES = [
     ("specifications", ["crates/*/specs/**/*.antt"]),
     ("proofs", ["crates/*/proofs/**/*.antt"]),
     ("Python", ["tests/**/*.py", "tests/bench/bench", "samples/*.py"]),
-    ("shell", ["bin/*", ".ci/run", "tests/*/run", "tests/lib/*.sh"]),
+    ("shell", ["bin/*", ".ci/run", "tests/*/run", "tests/*/*.sh", "cross/*"]),
     ("Rust", ["tests/differential/src/**/*.rs"]),
-    ("C", ["include/*.h", "examples/*.c", "tests/*/*.[ch]", "tests/stack/*.S"]),
+    ("C", ["include/*.h", "examples/**/*.[chS]", "examples/**/*.ld", "tests/**/*.[chS]", "tests/**/*.ld"]),
 ]
 
 

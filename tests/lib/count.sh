@@ -1,6 +1,7 @@
 # For the run of a test that counts in shell, to source. It compiles C, and adds up what programs count.
-passed=0 failed=0 folder=
+passed=0 failed=0 folder='' room='' # what is built is in the folder; messages begin with the room
 strict='-Wall -Wextra -Wpedantic -Werror -Iinclude -Itests/lib'
+cc=gcc # the compiler of C
 
 # The last line of every run, good or bad, is its count.
 finish() {
@@ -23,24 +24,50 @@ try() { # WHAT COMMAND..
     return 1
 }
 
-compilers() {
-    command -v gcc && command -v g++ && command -v nm && return 0
-    apt-get update -qq && apt-get install -y -qq gcc g++
+# Of tools or files that tests need, those that are missing.
+missing() { # NEED:PACKAGE..
+    local need
+    for need; do
+        [ -e "${need%%:*}" ] || command -v "${need%%:*}" >/dev/null 2>&1 || echo "$need"
+    done
+}
+
+# Without a network it gives up soon.
+apt() { # WORD..
+    DEBIAN_FRONTEND=noninteractive apt-get -qq -o Acquire::Retries=0 -o Acquire::http::Timeout=20 "$@" \
+        </dev/null >/dev/null 2>&1
+}
+
+install_packages() { # PACKAGE..
+    apt install -y --no-install-recommends "$@"
+}
+
+# Installs Debian's packages for what is missing: all at once, or else each that can be. Fails where one still is.
+provide() { # NEED:PACKAGE..
+    local packages package
+    readarray -t packages < <(missing "$@" | cut -d : -f 2 | sort -u)
+    [ "${#packages[@]}" -gt 0 ] || return 0
+    install_packages "${packages[@]}" || {
+        apt update
+        for package in "${packages[@]}"; do install_packages "$package"; done
+    }
+    [ -z "$(missing "$@")" ]
 }
 
 # The top of the repository, a folder for what is built, and a C compiler. Without them a run ends here.
-open_folder() { # NAME
+open_folder() { # ROOM
+    room=$1
     if ! cd "$root" || ! folder=$(mktemp -d); then
         failed=1
         finish
     fi
-    try "$1: no C compiler" compilers || finish
+    try "$room: no C compiler" provide gcc:gcc g++:g++ nm:binutils || finish
 }
 
 # Compiles C of the year 1999 and links it.
 compile() { # WHAT WORD..
     # shellcheck disable=SC2086
-    try "$1" gcc -std=c99 $strict "${@:2}"
+    try "$1" "$cc" -std=c99 $strict "${@:2}"
 }
 
 # Runs a program that counts, and adds its count, which it prints last; a run that dies has none. What else it prints is

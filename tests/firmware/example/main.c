@@ -1,5 +1,5 @@
-/* The header's example, which tests/firmware/run cuts out of it: reports of PROTOCOL 11, example 4, until there is no more
- * room, and a payload too long. */
+/* The header's example, which a test cuts out of it: reports of PROTOCOL 11, example 4, until there is no more room,
+ * and a payload too long. */
 #include <string.h>
 
 #include "trogonreed.h"
