@@ -33,23 +33,23 @@ missing() { # NEED:PACKAGE..
 }
 
 # Without a network it gives up soon.
-apt() { # WORD..
+packages() { # WORD.., as apt-get takes them
     DEBIAN_FRONTEND=noninteractive apt-get -qq -o Acquire::Retries=0 -o Acquire::http::Timeout=20 "$@" \
         </dev/null >/dev/null 2>&1
 }
 
 install_packages() { # PACKAGE..
-    apt install -y --no-install-recommends "$@"
+    packages install -y --no-install-recommends "$@"
 }
 
 # Installs Debian's packages for what is missing: all at once, or else each that can be. Fails where one still is.
 provide() { # NEED:PACKAGE..
-    local packages package
-    readarray -t packages < <(missing "$@" | cut -d : -f 2 | sort -u)
-    [ "${#packages[@]}" -gt 0 ] || return 0
-    install_packages "${packages[@]}" || {
-        apt update
-        for package in "${packages[@]}"; do install_packages "$package"; done
+    local names name
+    readarray -t names < <(missing "$@" | cut -d : -f 2 | sort -u)
+    [ "${#names[@]}" -gt 0 ] || return 0
+    install_packages "${names[@]}" || {
+        packages update
+        for name in "${names[@]}"; do install_packages "$name"; done
     }
     [ -z "$(missing "$@")" ]
 }

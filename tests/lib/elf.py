@@ -90,6 +90,10 @@ class Elf:
         """The sections with instructions."""
         return [one for one in self.sections if one.flags & EXECUTE and one.size]
 
+    def words(self):
+        """The code in words of 32 bits, as AArch64 has its instructions."""
+        return [word for section in self.code() for word, in struct.iter_unpack("<I", self.bytes_of(section))]
+
     def constants(self):
         """The sections with values that code reads and cannot write."""
         return [one for one in self.sections if one.kind == PROGBITS and one.flags & (ALLOC | WRITE | EXECUTE) == ALLOC]

@@ -15,6 +15,11 @@ WRONG = [
 ]
 
 
+def uses_vectors(word):
+    """Whether an instruction of AArch64 names such a register: two bits of it say so, in every group of them."""
+    return word >> 26 & 3 == 3
+
+
 def faults_in(obj, target):
     """What is wrong with the object file of a processor."""
     if (obj.machine, obj.bits) != (target.machine, target.bits):
@@ -28,6 +33,8 @@ def faults_in(obj, target):
         yield f"it needs {', '.join(symbol.name for symbol in obj.undefined())}"
     for section in obj.kept():
         yield f"it keeps {section.size} bytes in {section.name}"
+    if obj.machine == elf.AARCH64 and any(map(uses_vectors, obj.words())):
+        yield "it uses registers for floating point or vectors"
     for section in obj.tables():
         yield f"it has a table of {section.size} bytes in {section.name}"
     waits = [symbol for section in obj.code() for symbol in obj.relocations(section)]
@@ -60,8 +67,15 @@ def archive_of(build, name, *texts):
     return elf.read(archive)
 
 
+def check_vectors(checks):
+    """Instructions by their numbers: add, ldr, stp and ret of other registers, and the same of vectors and floats."""
+    plain, vectors = [0x8B010000, 0xF9400000, 0xA9BF7BFD, 0xD65F03C0], [0x4E208400, 0x3DC00000, 0xADBF0420, 0x1E212800]
+    checks.test("registers for vectors are seen", all(map(uses_vectors, vectors)) and not any(map(uses_vectors, plain)))
+
+
 def check_reader(checks, build, others):
     """Archives that are wrong are found to be, and for the right reason."""
+    check_vectors(checks)
     right = archive_of(build, "right", RIGHT)
     found, code = look(right, build.target)
     checks.test("a right archive is right", not found and 0 < code < 64, f"{found}, {code} bytes")

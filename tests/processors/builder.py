@@ -17,6 +17,7 @@ sys.path[1:1] = [str(HERE.parent / name) for name in ("lib", "cli")]
 from checks import Checks  # noqa: E402
 from door import as_started_by_a_person  # noqa: E402
 from module import FIRST, OTHERWISE, PROCESSOR, bitcode_of, changed, module_of, text_of, with_layout  # noqa: E402
+from page import PAGE, page_rows  # noqa: E402
 from place import (DAMAGED, FAILS, HOST, NO_MODULE, ON, PATIENCE, ROOT, SAYS_NOTHING, SLOW, TOOLS,  # noqa: E402
                    TWO_MODULES, WHOLE, Place, Run, kit_of)
 
@@ -104,9 +105,31 @@ def kits(test, place, module):
         refused(test, place, f"a kit without {tool}", WHOLE, module, f"no {tool}")
         path.symlink_to(kept)
     stacks(test, place, module)
+    counted(test, place, module)
     found = Run([place.door, TRIPLE], env={**place.environment, "PATH": "/usr/bin:/bin"})
     is_there = shutil.which("rt", path="/usr/bin:/bin")
     test("without rt", is_there or found.is_refusal("rt is not on the PATH"), str(found))
+
+
+def counted(test, place, module):
+    """What clang counts of the stack, with the arguments, is what was measured: the page's figures."""
+    place.stand_in(WHOLE, module)
+    clang = place.kit / ON / "toolchain/bin/clang"
+    kept, count = clang.readlink(), place.kit / "counted"
+    clang.unlink()
+    clang.write_text(f'#!/bin/sh\n{kept} "$@" || exit\nfor word; do\n    case $word in\n'
+                     f'    */firmware.o) cp "${{word%.o}}.su" "{count}" ;;\n    esac\ndone\n', encoding="utf-8")
+    clang.chmod(0o755)
+    rows = page_rows(PAGE.read_text("utf-8"))
+    for triple in place.run("--list").out.split():
+        if triple != "host":  # it is compiled by rt
+            found = place.run(triple, str(place.out))
+            stack, arguments = (int(cell.replace(",", "")) for cell in rows[f"`{triple}`"][4:])
+            size = int(count.read_text("utf-8").split()[1]) if found.status == 0 else 0
+            test(f"{triple}: clang counts as was measured", size == stack - arguments, f"{size}, {found}")
+    clang.unlink()
+    clang.symlink_to(kept)
+    shutil.rmtree(place.out)
 
 
 def stacks(test, place, module):
