@@ -26,20 +26,20 @@ listing: base frame
 """
 OTHER_SOURCE = "crates/message/src/lib.rt"
 NO_SOURCES = ["crates/frame/must-fail/fault.edit", "crates/list_program/stdout"]  # in the folders of sources
-TOOLS = "sh cat cp dirname find flock mkdir od readlink rm rmdir setsid sleep stty touch tr wc".split()
+TOOLS = "sh cat cp dirname find flock mkdir od readlink rm rmdir setsid sleep stty touch tr wc mv".split()
 STREAM = model.wire(7, 1)
 LISTING = model.listing(STREAM).encode()
 
 # What each stand-in for rt does, in the folder where it is called; $PROGRAM is the listing program.
-BUILDS = 'mkdir -p target/bin && cp "$PROGRAM" target/bin/list_program'
-LEAVES = ":"
+BUILDS = 'mkdir -p $out && cp "$PROGRAM" $out/$name && : >$out/$name.stamp'
+LEAVES = "! [ -e $out/$name ] || : >$out/$name.stamp"
 FAILS = "exit 1"
-FAILS_LATE = f"{BUILDS}; exit 1"
+FAILS_LATE = f"{BUILDS}; rm $out/$name.stamp; exit 1"
 SLOW = f"sleep 0.5; {BUILDS}"
 STUCK = "sleep 600"
 STUBBORN = "trap '' HUP INT QUIT TERM; sleep 600"
 # rt leaves a program alone that it has proved, as its stamp says.
-BY_STAMP = f"[ -e target/stamp/list_program ] || {{ {BUILDS}; }}; mkdir -p target/stamp && : >target/stamp/list_program"
+BY_STAMP = f"[ -e $out/$name ] || {{ {BUILDS}; }}; : >$out/$name.stamp"
 
 
 def skeleton(root, place):
@@ -80,11 +80,13 @@ class Checkout:
         self.calls.write_text("")
         self.env = {"PATH": str(self.tools), "PROGRAM": str(root / "target/bin/list_program"), "CALLS": str(self.calls)}
         self.program = self.place / "target/bin/list_program"
+        self.kept = self.place / "crates/list_program/out/list_program"
         self.log = self.place / "target/trogonreed.log"
 
     def rt(self, action):
         # It reads its input, says something on both outputs, and allows no other run at the same time.
-        lines = ["#!/bin/sh", 'echo "$PWD $*" >>"$CALLS"', 'echo $$ >"$CALLS.pid"', "cat"]
+        lines = ["#!/bin/sh", 'echo "$PWD $*" >>"$CALLS"', "name=${PWD##*/} out=crates/${PWD##*/}/out", "cd ../.."]
+        lines += ['echo $$ >"$CALLS.pid"', "cat"]
         lines += [f"echo {RT_SAYS[0]}", f"echo {RT_SAYS[1]} >&2"]
         lines += ['mkdir "$CALLS.busy" || exit 1', f"( {action} )", "status=$?", 'rmdir "$CALLS.busy"', "exit $status"]
         (self.tools / "rt").write_text("\n".join(lines) + "\n")
@@ -94,7 +96,7 @@ class Checkout:
         """How often rt was called since the last count, or which calls were wrong."""
         calls = self.calls.read_text().splitlines()
         self.calls.write_text("")
-        wrong = [call for call in calls if call != f"{self.place} check list_program"]
+        wrong = [call for call in calls if call != f"{self.place}/crates/list_program run"]
         return wrong or len(calls)
 
     def use(self, *words, **more):
@@ -163,7 +165,7 @@ def rebuilds(test, fresh):
     later = fresh.tools / "later"
     later.write_text("")
     os.utime(later, (time.time() + 5,) * 2)
-    fresh.rt(f"{BUILDS}; touch -r '{later}' {SOURCES[-1]} && touch -r '{later}' target/bin/list_program")
+    fresh.rt(f"{BUILDS}; touch -r '{later}' {SOURCES[-1]} && touch -r '{later}' $out/$name")
     fresh.tries(test, "a source is newer", [BUILDING], 1, True)
     fresh.tries(test, "a source was saved while rt ran: built again", [BUILDING], 1, True)
 
@@ -179,6 +181,7 @@ def fails(test, fresh):
     fresh.rt(BUILDS)
     fresh.tries(test, "rt passes at last", [BUILDING], 1, True)
     fresh.program.unlink()
+    fresh.kept.unlink()
     fresh.rt(LEAVES)
     fresh.tries(test, "rt passes and leaves no program", [BUILDING, "remove"], 1, False)
 
@@ -261,5 +264,6 @@ def not_whole(test, fresh):
     fresh.program.unlink()
     fresh.tries(test, "a program that is gone is built again", [BUILDING], 1, True)
     fresh.program.write_bytes(b"")
+    fresh.kept.write_bytes(b"")
     fresh.rt(LEAVES)
     fresh.tries(test, "rt leaves no whole program", [BUILDING, "remove"], 1, False)

@@ -24,19 +24,25 @@ while read -r line <&3; do
     esac
 done"""
 # What rt says where frame is not proved.
+PROVED = "logic=proved functions=1"
+
+
+def begins(name):
+    return f"rt: chose --jobs 2 for {name}"
+
+
 NOT_PROVED = [
-    "rt: base proved (unchanged since it was last proved)",
-    "frame/src/lib.rt:1:1: error: a goal is left",
-    "rt: frame NOT PROVED (exit 1, 3 s)",
-    "rt: listing NOT PROVED: its dependency frame is not proved",
-    "rt: list_program NOT PROVED: its dependency listing is not proved",
-    "rt: FAILED: frame listing list_program",
+    begins("base"),
+    PROVED,
+    begins("frame"),
+    "src/lib.rt:1:1: error: a goal is left",
+    "logic=not-proved",
+    "rt: the library frame did not build, so nothing above it was checked",
 ]
-RUN_FAILED = [
-    *(f"rt: {name} proved (1 s)" for name in NAMES),
-    "rt: list_program: what the program wrote is not what its file 'stdout' has",
-    "rt: list_program proved, and its run FAILED (0 s)",
-    "rt: FAILED: list_program",
+PROGRAM_NOT_PROVED = [
+    *(line for name in NAMES[:-1] for line in (begins(name), PROVED)),
+    begins(NAMES[-1]),
+    "logic=not-proved",
 ]
 
 
@@ -144,9 +150,9 @@ def counts(test, fresh):
     with at_terminal(fresh) as (screen, live):
         feed(live)
         for number, name in enumerate(NAMES, 1):
+            say(fresh, begins(name))
             test(f"{name} is being proved", screen.shows(NOTICE, proving(name, number)), str(screen))
-            say(fresh, f"fn {name}::one: proved", f"rt: {name} proved ({number} s)")
-        say(fresh, "rt: list_program ran, and wrote what its file 'stdout' has (0 s)", "rt: ok, 4 crates proved")
+            say(fresh, f"fn {name}::one: proved", PROVED)
         say(fresh, "build")
         found = live.ended()
         test("the listing after the progress", (found.status, found.out) == (0, LISTING), str(found))
@@ -166,9 +172,9 @@ def passes_over(test, fresh):
     fresh.program.unlink()
     with at_terminal(fresh) as (screen, live):
         feed(live)
-        say(fresh, *(f"rt: {name} proved (unchanged since it was last proved)" for name in NAMES[:-1]))
+        say(fresh, begins(NAMES[-1]))
         test("proved crates are skipped", screen.shows(NOTICE, proving(NAMES[-1], 4)), str(screen))
-        say(fresh, f"rt: {NAMES[-1]} proved (2 s)", "build")
+        say(fresh, PROVED, "build")
         found = live.ended()
         right = (found.status, found.out) == (0, LISTING) and screen.last() == [NOTICE, ""]
         test("proved crates are skipped, the listing", right, f"{found}, {screen}")
@@ -197,9 +203,10 @@ def real_crates(test, root, fresh):
     with at_terminal(fresh) as (screen, live):
         feed(live)
         for number, name in enumerate(names, 1):
+            say(fresh, begins(name))
             right = screen.shows(NOTICE, proving(name, number, len(names)))
             test(f"{name} of the repository is being proved", right, str(screen))
-            say(fresh, f"rt: {name} proved (1 s)")
+            say(fresh, PROVED)
         say(fresh, "build")
         found = live.ended()
         test("the repository's crates, the listing", (found.status, found.out) == (0, LISTING), str(found))
@@ -213,8 +220,9 @@ def dependencies(test, fresh):
     with at_terminal(fresh) as (screen, live):
         feed(live)
         for number, name in enumerate(["base", "extra", "frame"], 1):
+            say(fresh, begins(name))
             test(f"{name} of 5 is being proved", screen.shows(NOTICE, proving(name, number, 5)), str(screen))
-            say(fresh, f"rt: {name} proved (1 s)")
+            say(fresh, PROVED)
         say(fresh, "build")
         found = live.ended()
         test("a crate more, the listing", (found.status, found.out) == (0, LISTING), str(found))
@@ -235,7 +243,7 @@ def one_terminal(test, fresh, room):
     stream = room / "a frame on first use"
     stream.write_bytes(STREAM)
     with at_terminal(fresh, ["list", stream], ["stdin", "stdout", "stderr"]) as (screen, live):
-        say(fresh, "rt: base proved (1 s)")
+        say(fresh, begins("frame"))
         test("one terminal, the progress", screen.shows(NOTICE, proving("frame", 2)), str(screen))
         say(fresh, "build")
         found = live.ended()
@@ -249,16 +257,16 @@ def no_progress(test, root, room):
         fresh = checkout(root, room, what)
         with at_terminal(fresh, TERM=term) as (screen, live):
             feed(live)
-            say(fresh, "rt: base proved (1 s)", "rt: frame proved (1 s)", "build")
+            say(fresh, begins("base"), begins("frame"), "build")
             found = live.ended()
             right = (found.status, found.out) == (0, LISTING) and screen.last() == [NOTICE, ""]
             test(what, right and b"\x1b" not in screen.written, f"{found}, {screen}")
     fresh = checkout(root, room, "no terminal")
-    say(fresh, *(f"rt: {name} proved (1 s)" for name in NAMES), "build")
+    say(fresh, *(begins(name) for name in NAMES), "build")
     found = fresh.use()
     test("no terminal: the notice alone", found.err.decode() == NOTICE + "\n" and found.out == LISTING, str(found))
     fresh = checkout(root, room, "standard error is closed")
-    say(fresh, "rt: base proved (1 s)", "build")
+    say(fresh, begins("frame"), "build")
     found = run(["sh", "-c", '"$0" list 2>&-', fresh.place / "bin/trogonreed"], data=STREAM, env=fresh.env)
     test("standard error is closed", found.is_quiet(LISTING), str(found))
 
@@ -267,7 +275,7 @@ def fails(test, root, room):
     """The line that says so names the crate that failed first, and the log."""
     for what, lines, named in [
         ("a proof fails", NOT_PROVED, ": frame failed"),
-        ("a run fails", RUN_FAILED, ": list_program failed"),
+        ("the program is not proved", PROGRAM_NOT_PROVED, ": list_program failed"),
         ("rt fails and says nothing of a crate", ["rt: crates.txt: line 1: expected NAME"], ""),
     ]:
         fresh = checkout(root, room, what)
@@ -294,7 +302,7 @@ def stopped(test, fresh):
         test("before the stop", screen.shows(NOTICE, proving("base", 1)), str(screen))
         os.killpg(live.process.pid, signal.SIGSTOP)
         test("a first use can be stopped", stands_still(live.process.pid))
-        say(fresh, "rt: base proved (1 s)")
+        say(fresh, begins("frame"))
         os.killpg(live.process.pid, signal.SIGCONT)
         test("after the stop", screen.shows(NOTICE, proving("frame", 2)), str(screen))
         say(fresh, "build")
@@ -311,7 +319,7 @@ def signals(test, fresh):
         for who, send in [("the front door", os.kill), ("all of the run", os.killpg)]:
             name = f"{number.name} to {who} at a terminal"
             ends(test, fresh, name, number, lambda _, pid, send=send, number=number: send(pid, number))
-    say(fresh, "rt: base proved (1 s)", "build")
+    say(fresh, begins("frame"), "build")
     fresh.called()
     fresh.tries(test, "the next use after all these", [BUILDING], 1, True)
 
@@ -347,11 +355,11 @@ def waits_for_another(test, fresh):
         with at_terminal(fresh) as (other, second):
             feed(second)
             waits = below(second.process.pid, "flock")
-            say(fresh, "rt: base proved (1 s)")
+            say(fresh, begins("frame"))
             right = screen.shows(NOTICE, proving("frame", 2)) and other.shows(NOTICE, "")
             test("only the use that proves shows the progress", waits and right, f"{screen}, {other}")
             said = fresh.log.read_text()
-            test("the log is that use's", said.endswith("\nrt: base proved (1 s)\n"), said)
+            test("the log is that use's", said.endswith(f"\n{begins('frame')}\n"), said)
             say(fresh, "build")
             for what, use, its in [("proves", live, screen), ("waits", second, other)]:
                 found = use.ended()

@@ -18,7 +18,8 @@ def first_use(test, root, room):
     crates = "\nreplay: listing extra\nextra:\nreplay_program: replay io\n"
     (fresh.place / "crates.txt").write_text(firstuse.CRATES + crates)
     folder = root / "target/bin"
-    fresh.rt(f'mkdir -p target/bin; cp "{folder}/$2" "target/bin/$2"')
+    (fresh.place / "crates/replay_program").mkdir()
+    fresh.rt(f'mkdir -p $out; cp "{folder}/$name" $out/$name; : >$out/$name.stamp')
     notice = "trogonreed: proving and building the {} program; this can take some minutes\n"
     capture = fresh.place / "capture"
     capture.write_bytes(REPLAY.one)
@@ -28,7 +29,7 @@ def first_use(test, root, room):
         found, called = fresh.use(*words), fresh.calls.read_text().splitlines()
         fresh.calls.write_text("")
         right = (found.status, found.out, found.err.decode()) == (0, out, said)
-        test(name, right and called == [f"{fresh.place} check {call}" for call in calls], f"{found}, {called}")
+        test(name, right and called == [f"{fresh.place}/crates/{call} run" for call in calls], f"{found}, {called}")
 
     uses("the first replay", ["replay", capture], listing, notice.format("replay"), ["replay_program"])
     uses("the second replay", ["replay", capture], listing, "", [])

@@ -10,13 +10,13 @@ from specs import claims_of
 from tree import files, name_of, text_of
 
 CALL = re.compile(r"^ *pub (?:extern \"C\" )?fn (\w+)(.*?)\{$", re.M | re.S)  # up to the brace that opens its body
-LIMIT, SENDING = {"limit": "frameLimit"}, {"first": "firstNumber", "max": "maxRepeats"}  # parameters: the code's own
+LIMIT, SENDING = {"limit": "frame_limit"}, {"first": "first_number", "max": "max_repeats"}  # parameters: the code's own
 ALL = LIMIT | SENDING
 OWN = {"link": SENDING, "transfer": ALL, "device": ALL, "stack_driver": ALL}  # in all other crates: LIMIT
-DEFINED = re.compile(r"^ghost use Rattle·(\w+?)(?:·specs\.specs|\.specs)\.(\w+)\.\{([^}]*)\};", re.M)
+DEFINED = re.compile(r"^ghost use Rattle\.(\w+?)\.specs\.(\w+)\.\{([^}]*)\};", re.M)
 LAYERS = ("message", "link", "transfer", "device", "firmware", "listing", "capture", "replay", "stack_driver")
 ALONE = ("capture", "stack_driver")  # cites definitions of other layers, and no theorem
-CITED = re.compile(r"^use Rattle·(\w+)\.proofs\.(\w+(?:\.\w+)*)(?:\.\{([^}]*)\})?", re.M)
+CITED = re.compile(r"^use Rattle\.(\w+)\.proofs\.(\w+(?:\.\w+)*)(?:\.\{([^}]*)\})?", re.M)
 
 
 def calls_in(text):
@@ -53,9 +53,10 @@ def unnamed(text, needed):
                 yield f"{name}: {place.group()}"
 
 
-def cited_inside(text, claims):
+def cited_inside(text, claims, own=""):
     """What a proof cites of the proofs of another layer, and that is not a claim there."""
-    cited = [(crate, names or module) for crate, module, names in CITED.findall(text) if crate != "base"]
+    open_to_all = {"base", "core", "std", own}
+    cited = [(crate, names or module) for crate, module, names in CITED.findall(text) if crate not in open_to_all]
     pairs = [(crate, name.split(" as ")[0].strip()) for crate, names in cited for name in names.split(",")]
     return [f"{crate}'s {name}" for crate, name in pairs if name not in claims(crate)]
 
@@ -78,38 +79,38 @@ def check_calls(checks):
 
 
 def check_parameters(checks):
-    text = "sumOf first max n = n\nsumOf first max (n) =\nboundOf limit = limit\n"
+    text = "sum_of first max n = n\nsum_of first max (n) =\nbound_of limit = limit\n"
     needed = parameters(text, SENDING)
-    checks.test("parameters are found", needed == {"sumOf": " firstNumber maxRepeats"})
-    checks.test("those of the frame too", parameters(text, ALL) == {**needed, "boundOf": " frameLimit"})
-    three = parameters("callOf limit first max n =\n", ALL)
-    checks.test("all three in their order", three == {"callOf": " frameLimit firstNumber maxRepeats"})
-    used = "ghost use Rattle·link·specs.specs.Sums.{sumOf};\n"
-    call = used + "pub fn f(n: u8) -> u8\n    ensures { r ≡ sumOf firstNumber maxRepeats n }\n{\n"
+    checks.test("parameters are found", needed == {"sum_of": " first_number max_repeats"})
+    checks.test("those of the frame too", parameters(text, ALL) == {**needed, "bound_of": " frame_limit"})
+    three = parameters("call_of limit first max n =\n", ALL)
+    checks.test("all three in their order", three == {"call_of": " frame_limit first_number max_repeats"})
+    used = "ghost use Rattle.link.specs.Sums.{sum_of};\n"
+    call = used + "pub fn f(n: u8) -> u8\n    ensures { r ≡ sum_of first_number max_repeats n }\n{\n"
     needed = {("link", "Sums"): needed}
     checks.test("a call with the code's own", not list(unnamed(call, needed)))
-    checks.test("one with a number is found", list(unnamed(call.replace("maxRepeats", "3"), needed)) == ["f: sumOf"])
+    checks.test("one with a number is found", list(unnamed(call.replace("max_repeats", "3"), needed)) == ["f: sum_of"])
     needed = needed_in_tree()
-    for crate, file, name in [("transfer", "Calls", "beginOf"), ("device", "Handling", "handleOf")]:
-        checks.test(f"the parameters of {name}", needed[crate, file].get(name) == three["callOf"])
+    for crate, file, name in [("transfer", "Calls", "begin_of"), ("device", "Handling", "handle_of")]:
+        checks.test(f"the parameters of {name}", needed[crate, file].get(name) == three["call_of"])
     paths = files("crates/*/src/**/*.rt")
-    stated = [name for path in paths for name in re.findall("frameLimit|maxRepeats", text_of(path))]
+    stated = [name for path in paths for name in re.findall("frame_limit|max_repeats", text_of(path))]
     checks.test("such definitions are stated", len(stated) > 30, f"{len(stated)}")
     for path in paths:
         checks.none(f"{name_of(path)}: other parameters", unnamed(text_of(path), needed))
 
 
 def check_layers(checks):
-    used = "use Rattle·frame.proofs.Round.{round-trip, made as good}\nuse Rattle·base.proofs.Tests.{tests}\n"
+    used = "use Rattle.frame.proofs.Round.{round-trip, made as good}\nuse Rattle.base.proofs.Tests.{tests}\n"
     checks.test("a citation of a claim", cited_inside(used, lambda _: {"round-trip", "made"}) == [])
     checks.test("one from inside a layer is found", cited_inside(used, lambda _: {"made"}) == ["frame's round-trip"])
-    module = "use Rattle·frame.proofs.Moves\n"
+    module = "use Rattle.frame.proofs.Moves\n"
     checks.test("a whole module of a layer is found", cited_inside(module, lambda _: {"made"}) == ["frame's Moves"])
     for layer in LAYERS:
         texts = {name_of(path): text_of(path) for path in files(f"crates/{layer}/proofs/**/*.antt")}
-        lost = [f"{name}: {fault}" for name, text in texts.items() for fault in cited_inside(text, claims_of)]
+        lost = [f"{name}: {fault}" for name, text in texts.items() for fault in cited_inside(text, claims_of, layer)]
         checks.none(f"{layer}: citations from inside another layer", lost)
-        is_citing = any(crate != "base" for crate in cited_crates(texts.values()))
+        is_citing = any(crate not in {"base", "core", "std", layer} for crate in cited_crates(texts.values()))
         checks.test(f"whether {layer} cites another layer", is_citing != (layer in ALONE))
 
 

@@ -11,7 +11,7 @@ KINDS = {"Statement": "Statements", "Model": "Model", "Claims": "Claims"}
 HEAD = re.compile(r"-- (Statement|Model|Claims): \S")
 GROUP = re.compile(r"-- (Statements|Model|Claims)\b(?! +\w)")
 MODULE = re.compile(r"pub mod (\w+)")
-HEADING = re.compile(r"^-- ---- ([a-z0-9]+(?:-[a-z0-9]+)*)(:|,|$)", re.M)  # of several words, it is a subtitle
+HEADING = re.compile(r"^-- ---- ([a-z0-9]+(?:[-_][a-z0-9]+)*)(:|,|$)", re.M)  # of several words, it is a subtitle
 
 
 def kind_of(text):

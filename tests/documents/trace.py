@@ -128,7 +128,7 @@ def check_rows(checks, good, tree):
     for place, old, new in [
         (1, "frame::Good", "frame::Bad"),
         (1, "frame::Good", "link::Good"),
-        (1, "sum-holds", "sum-lost"),
+        (1, "sum_holds", "sum_lost"),
         (2, "frame::stuffing", "frame::Stuffing"),
         (2, "frame::", "link::"),
         (3, "tests/lib", "tests/lost"),

@@ -14,7 +14,7 @@ def text_of(path):
 def files(*globs):
     """The files of these patterns, in order; what is built is not among them."""
     paths = (path for glob in globs for path in sorted(ROOT.glob(glob)))
-    return [path for path in paths if path.is_file() and "target" not in path.relative_to(ROOT).parts]
+    return [path for path in paths if path.is_file() and not {"target", "out"} & set(path.relative_to(ROOT).parts)]
 
 
 def name_of(path):

@@ -3,6 +3,7 @@
 Documents are tests/documents' business. Data (bytes, stored input and output, lock files) has no layout.
 """
 import pathlib
+import shutil
 import subprocess
 import sys
 
@@ -37,8 +38,10 @@ def places(paths):
 
 def main():
     checks = Checks("layout")
-    done = subprocess.run(["rt", "fmt", "--check"], cwd=ROOT, capture_output=True, text=True)
-    checks.test("rt fmt --check", done.returncode == 0, (done.stdout + done.stderr)[-300:])
+    rattle = pathlib.Path(shutil.which("rt") or "rt").resolve().with_name("rattle")
+    laid = sorted(str(path) for _, globs in SOURCES[:3] for glob in globs for path in ROOT.glob(glob))
+    done = subprocess.run([rattle, "fmt", "--check", *laid], cwd=ROOT, capture_output=True, text=True)
+    checks.test("rattle fmt --check", done.returncode == 0, (done.stdout + done.stderr)[-300:])
     checks.test("a line of 121 columns is found", long_lines("x" * 120 + "\n" + "x" * 121) == [2])
     for kind, globs in SOURCES:
         paths = sorted(path for glob in globs for path in ROOT.glob(glob) if path.is_file())

@@ -39,7 +39,7 @@ def edits():
     """(crate, path) of each edit, by crate and name."""
     found = [(path.parents[1].name, path) for path in ROOT.glob("crates/*/must-fail/*.edit")]
     found += [(path.parent.name, path) for path in ROOT.glob("tests/mutants/*/*.edit")]
-    order = [line.split(":")[0] for line in (ROOT / "crates.txt").read_text(encoding="utf-8").splitlines()]
+    order = [line.split(":")[0].split()[0] for line in (ROOT / "crates.txt").read_text(encoding="utf-8").splitlines()]
     return sorted(found, key=lambda entry: (order.index(entry[0]), entry[1].stem))
 
 

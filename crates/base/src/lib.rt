@@ -1,4 +1,6 @@
 // What the layers share: bytes at a place, big-endian numbers, slices of the caller's data, and the outcome of a write.
+#![tactic(auto)]
+
 mod bytes;
 mod puts;
 mod same;

@@ -1,4 +1,6 @@
 // Captures: a bench recorded in both directions, read from bytes that come in any pieces, and written. PROTOCOL 13.
+#![tactic(auto)]
+
 mod reading;
 mod record;
 mod writing;

@@ -1,7 +1,8 @@
 // A capture read from the front of what is left of it, one record to a call. PROTOCOL 13.4 to 13.10.
 ghost use Rattle.std.specs.Prelude.{◌≡◌, ◌+◌, ◌^◌, ◌≤◌, length};
 ghost use Rattle.capture.specs.Table.{direction_number, refusal_number, taken_of, end_row_of};
-ghost use Rattle.capture.specs.Reading.{agrees, in_range_of, head_of, record_in, record_of, next_of, lacking_of, end_of};
+ghost use Rattle.capture.specs.Reading.{agrees, in_range_of, head_of, record_in, record_of, next_of, lacking_of};
+ghost use Rattle.capture.specs.Reading.{end_of};
 
 use super::record::{Direction, size};
 
@@ -9,13 +10,13 @@ use super::record::{Direction, size};
 const MAX_PLACE: u64 = 4611686018427387904;
 
 // How far a capture is read: the place after the last byte taken. 0 where its head is not taken yet.
-#[derive(Drop)]
+#[derive(Clone, Copy)]
 pub struct Cursor {
     pub place: u64,
 }
 
 // Why a capture is refused: PROTOCOL 13.5 to 13.8.
-#[derive(Drop)]
+#[derive(Clone, Copy)]
 pub enum Refusal {
     Mark,
     Version,

@@ -9,7 +9,7 @@ ghost use Rattle.capture.specs.Table.{direction_number};
 const RECORD_HEAD: usize = 7;
 
 // Who sent the bytes of a record.
-#[derive(Drop)]
+#[derive(Clone, Copy)]
 pub enum Direction {
     FromModule,
     FromBox,

@@ -1,5 +1,7 @@
 // What the box does with an answer of the reader: the link receives the frame, and the reply is written. It adds no
 // rule to those of the layers below. PROTOCOL 16.
+#![tactic(auto)]
+
 mod answers;
 mod handles;
 mod hears;

@@ -1,4 +1,6 @@
 // The frame writer for the C firmware of a box, under one exported name. PROTOCOL 6.9, 6.10.
+#![tactic(auto)]
+
 ghost use Rattle.std.specs.Prelude.{◌≡◌};
 ghost use Rattle.frame.specs.Wire.{frame_limit};
 ghost use Rattle.frame.specs.Calls.{write_of};

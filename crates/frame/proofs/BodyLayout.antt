@@ -1,5 +1,6 @@
 -- body_layout and chunks_joined; made_good is in RoundTrip. Assumes nothing.
-use Rattle.std.proofs.Common.{◌≡◌, ℕ, ◌+◌, ◌-◌, ◌*◌, ◌%◌, ◌≤◌, List, [], ◌∷◌, ◌++◌, length, sym, refl, ap, ◌∙◌, append_assoc, arith, length-append, take_all, take_at}
+use Rattle.std.proofs.Common.{◌≡◌, ℕ, ◌+◌, ◌-◌, ◌*◌, ◌%◌, ◌≤◌, List, [], ◌∷◌, ◌++◌, length, sym, refl, ap, ◌∙◌}
+use Rattle.std.proofs.Common.{append_assoc, arith, length-append, take_all, take_at}
 use lib.Seq.{get_or_at}
 use Rattle.base.specs.Sums.{total, checksum}
 use Rattle.frame.specs.Wire.{length_of, found_sum, computed_sum, Good}

@@ -1,5 +1,7 @@
 -- The claims of Broken: each_decision at the bytes of each refused frame, and one byte of any reader. Assumes nothing.
-use Rattle.std.proofs.Common.{◌≡◌, ℕ, ◌+◌, ◌<◌, ◌≤◌, false, ltb, ◌≢◌, ◌⊎◌, List, [], ◌∷◌, ◌++◌, length, get_or, sym, refl, ap, ◌∙◌, inl, inr, append_assoc, arith, length-append, ltb-false, le-ltb, lt-ltb, ne_eqb}
+use Rattle.std.proofs.Common.{◌≡◌, ℕ, ◌+◌, ◌<◌, ◌≤◌, false, ltb, ◌≢◌, ◌⊎◌, List, [], ◌∷◌, ◌++◌, length, get_or, sym}
+use Rattle.std.proofs.Common.{refl, ap, ◌∙◌, inl, inr, append_assoc, arith, length-append, ltb-false, le-ltb, lt-ltb}
+use Rattle.std.proofs.Common.{ne_eqb}
 use Rattle.base.proofs.Tests.{either_way}
 use Rattle.frame.specs.Broken.{stream_of, Answers, EachLength, EachBreak, EachCut, EachSum, Says, StandsFor}
 use Rattle.frame.specs.Broken.{for_frame, for_short, for_long, for_stuff, for_stuff_late, for_cut, for_sum}

@@ -1,5 +1,6 @@
 -- each_decision and finish_correct. Assumes nothing.
-use Rattle.std.proofs.Common.{◌≡◌, ℕ, ◌+◌, ◌-◌, ◌^◌, ◌≤◌, false, cond, ◌||◌, eqb, List, [], ◌∷◌, ◌++◌, length, take, drop, sym, refl, ap, ◌∙◌, arith, take_at, drop_at}
+use Rattle.std.proofs.Common.{◌≡◌, ℕ, ◌+◌, ◌-◌, ◌^◌, ◌≤◌, false, cond, ◌||◌, eqb, List, [], ◌∷◌, ◌++◌, length, take}
+use Rattle.std.proofs.Common.{drop, sym, refl, ap, ◌∙◌, arith, take_at, drop_at}
 use mathlib.Core.List.{Memᴰ}
 use Rattle.frame.specs.FramesComputed.{unstuff}
 use Rattle.base.specs.Rows.{Row, row}

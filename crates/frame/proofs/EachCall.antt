@@ -1,6 +1,7 @@
 -- within, progress, empty_call, state_kept and finish_keeps. (in_pieces is in Stored, never-state in StreamCorrect.)
 -- Assumes nothing.
-use Rattle.std.proofs.Common.{◌≡◌, ℕ, ◌+◌, ◌^◌, ◌≤◌, true, false, leb, ◌≢◌, List, [], ◌∷◌, length, sym, refl, ap, ◌∙◌, true≢false, arith, le-leb, leb-true}
+use Rattle.std.proofs.Common.{◌≡◌, ℕ, ◌+◌, ◌^◌, ◌≤◌, true, false, leb, ◌≢◌, List, [], ◌∷◌, length, sym, refl, ap, ◌∙◌}
+use Rattle.std.proofs.Common.{true≢false, arith, le-leb, leb-true}
 use Rattle.base.specs.Keys.{among}
 use Rattle.frame.specs.Table.{verdict_number, verdict_values, count_of, event_row}
 use Rattle.frame.specs.Accounts.{feed_numbers}

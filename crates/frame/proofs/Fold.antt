@@ -1,6 +1,7 @@
 -- The reader as a fold over bytes, which goes on after a decision. What calls answer and leave is the fold of their
 -- stream. Assumes nothing.
-use Rattle.std.proofs.Common.{◌≡◌, ℕ, suc, ◌+◌, ◌^◌, ◌≤◌, Bool, true, false, cond, leb, List, [], ◌∷◌, ◌++◌, length, take, sym, refl, ap, ◌∙◌, true≢false, arith}
+use Rattle.std.proofs.Common.{◌≡◌, ℕ, suc, ◌+◌, ◌^◌, ◌≤◌, Bool, true, false, cond, leb, List, [], ◌∷◌, ◌++◌, length}
+use Rattle.std.proofs.Common.{take, sym, refl, ap, ◌∙◌, true≢false, arith}
 use Rattle.base.specs.Rows.{Row}
 use Rattle.frame.specs.Table.{event_row, further_of}
 use Rattle.frame.specs.Rules.{advance_of, decides_of, in_range_of}

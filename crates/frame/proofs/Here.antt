@@ -1,5 +1,6 @@
 -- `here` computes the body of the frame at the front of a list.
-use Rattle.std.proofs.Common.{◌≡◌, ℕ, ◌+◌, ◌≤◌, Bool, true, false, ◌&&◌, eqb, leb, List, [], ◌∷◌, ◌++◌, length, get_or, take, drop, refl, arith, take_at, eq-eqb, eqb-true, le-leb, leb-true}
+use Rattle.std.proofs.Common.{◌≡◌, ℕ, ◌+◌, ◌≤◌, Bool, true, false, ◌&&◌, eqb, leb, List, [], ◌∷◌, ◌++◌, length, get_or}
+use Rattle.std.proofs.Common.{take, drop, refl, arith, take_at, eq-eqb, eqb-true, le-leb, leb-true}
 use mathlib.Core.Option.{Option, none, some}
 use lib.ListN.{get_or-append}
 use Rattle.frame.specs.Wire.{wire, length_of, Good}

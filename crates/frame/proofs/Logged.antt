@@ -1,5 +1,7 @@
 -- From bytes to calls, and from calls to lists of calls. Assumes nothing.
-use Rattle.std.proofs.Common.{◌≡◌, ℕ, suc, ◌+◌, ◌^◌, ◌<◌, ◌≤◌, true, false, eqb, leb, ◌≢◌, ◌⊎◌, List, [], ◌∷◌, ◌++◌, length, get_or, take, sym, refl, ap, ◌∙◌, inl, inr, true≢false, add-zero, add-one, arith, length-append, length-take-le, ne_eqb, le-leb, leb-false, leb-true}
+use Rattle.std.proofs.Common.{◌≡◌, ℕ, suc, ◌+◌, ◌^◌, ◌<◌, ◌≤◌, true, false, eqb, leb, ◌≢◌, ◌⊎◌, List, [], ◌∷◌, ◌++◌}
+use Rattle.std.proofs.Common.{length, get_or, take, sym, refl, ap, ◌∙◌, inl, inr, true≢false, add-zero, add-one, arith}
+use Rattle.std.proofs.Common.{length-append, length-take-le, ne_eqb, le-leb, leb-false, leb-true}
 use mathlib.Core.List.Memᴰ
 use mathlib.Core.List.{cons≢nil, Memᴰ}
 use Rattle.frame.specs.Frames.{Found, front_body}

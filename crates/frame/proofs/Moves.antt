@@ -1,7 +1,9 @@
 -- One byte of the stream. A state stands for the bytes on the wire of the frame that it has begun, its pending bytes.
 -- A byte leaves the list of frames of the pending bytes and any rest as it is, except for the frame that it delivers.
 -- Assumes nothing.
-use Rattle.std.proofs.Common.{◌≡◌, ℕ, suc, ◌+◌, ◌-◌, ◌%◌, ◌^◌, ◌≤◌, true, false, cond, eqb, ◌≢◌, List, [], ◌∷◌, ◌++◌, length, get_or, take, sym, refl, ap, ◌∙◌, append_assoc, add-one, arith, length-append, eq-eqb, ne_eqb, eqb-true, le-leb}
+use Rattle.std.proofs.Common.{◌≡◌, ℕ, suc, ◌+◌, ◌-◌, ◌%◌, ◌^◌, ◌≤◌, true, false, cond, eqb, ◌≢◌, List, [], ◌∷◌, ◌++◌}
+use Rattle.std.proofs.Common.{length, get_or, take, sym, refl, ap, ◌∙◌, append_assoc, add-one, arith, length-append}
+use Rattle.std.proofs.Common.{eq-eqb, ne_eqb, eqb-true, le-leb}
 use mathlib.Core.Option.{none}
 use lib.Seq.{get_or_at}
 use borrow.Author.Tests.{eqb-false}

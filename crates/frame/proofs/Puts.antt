@@ -1,6 +1,8 @@
 -- A byte put at its place of the body: it is there, and nothing else changes. All laws of the reader rely on these
 -- facts alone. Assumes nothing.
-use Rattle.std.proofs.Common.{◌≡◌, ℕ, ◌+◌, ◌<◌, Bool, true, false, ◌≢◌, List, [], ◌∷◌, ◌++◌, length, get_or, take, sym, refl, ap, ◌∙◌, add-one, arith, length-set, length-take-le, get_or-set_other, get_or-take, take-suc, get_or-set_same, ext_get_or}
+use Rattle.std.proofs.Common.{◌≡◌, ℕ, ◌+◌, ◌<◌, Bool, true, false, ◌≢◌, List, [], ◌∷◌, ◌++◌, length, get_or, take, sym}
+use Rattle.std.proofs.Common.{refl, ap, ◌∙◌, add-one, arith, length-set, length-take-le, get_or-set_other, get_or-take}
+use Rattle.std.proofs.Common.{take-suc, get_or-set_same, ext_get_or}
 use Rattle.frame.specs.Rules.{put_of}
 
 pub put_other : (t : Bool) (body : List ℕ) (at v i : ℕ) → i ≢ at → get_or (put_of t body at v) i 0 ≡ get_or body i 0

@@ -1,5 +1,6 @@
 -- reader_ranges, range_kept, used_exactly, fresh_reader_lem and limits. Assumes nothing.
-use Rattle.std.proofs.Common.{◌≡◌, ℕ, ◌+◌, ◌^◌, ◌<◌, ◌≤◌, false, leb, ◌≢◌, List, [], ◌∷◌, length, refl, inl, inr, arith, le-leb, leb-false, leb-true}
+use Rattle.std.proofs.Common.{◌≡◌, ℕ, ◌+◌, ◌^◌, ◌<◌, ◌≤◌, false, leb, ◌≢◌, List, [], ◌∷◌, length, refl, inl, inr, arith}
+use Rattle.std.proofs.Common.{le-leb, leb-false, leb-true}
 use borrow.Author.Tests.{lt-leb}
 use Rattle.base.specs.Outcomes.{Outcome}
 use Rattle.base.proofs.Tests.{by_test, either_way, both}

@@ -1,6 +1,7 @@
 -- sent_whole: a sender that offers its bytes, in any pieces, until they are consumed has all of them consumed; and
 -- sent_again, from stream_correct. Assumes nothing.
-use Rattle.std.proofs.Common.{◌≡◌, ℕ, zero, suc, ◌+◌, ◌^◌, ◌≤◌, List, [], ◌∷◌, ◌++◌, length, take, drop, sym, refl, ap, ◌∙◌, append_assoc, arith, length-append, length-drop, take-append-drop}
+use Rattle.std.proofs.Common.{◌≡◌, ℕ, zero, suc, ◌+◌, ◌^◌, ◌≤◌, List, [], ◌∷◌, ◌++◌, length, take, drop, sym, refl, ap}
+use Rattle.std.proofs.Common.{◌∙◌, append_assoc, arith, length-append, length-drop, take-append-drop}
 use Rattle.frame.specs.Table.{count_of}
 use Rattle.base.specs.Outcomes.{Outcome}
 use Rattle.frame.specs.Calls.{fresh_of, feed_of}

@@ -1,6 +1,7 @@
 -- Where the data left always comes first in the next offer, the stream is the front of the bytes sent, and all of
 -- them once as many are consumed. Assumes nothing.
-use Rattle.std.proofs.Common.{◌≡◌, ℕ, ◌+◌, List, [], ◌∷◌, ◌++◌, length, take, drop, sym, refl, ap, ◌∙◌, append_assoc, append-nil, arith, length-append, take-append-drop}
+use Rattle.std.proofs.Common.{◌≡◌, ℕ, ◌+◌, List, [], ◌∷◌, ◌++◌, length, take, drop, sym, refl, ap, ◌∙◌, append_assoc}
+use Rattle.std.proofs.Common.{append-nil, arith, length-append, take-append-drop}
 use lib.Seq.{take-append-le}
 use Rattle.frame.specs.Logs.{Entry, consumed_in, offered, stream}
 use Rattle.frame.specs.Accounts.{Accounts}

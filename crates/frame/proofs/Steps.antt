@@ -1,8 +1,10 @@
 -- Laws of the reader: of one byte, of a run of bytes, and of a state in range. Assumes nothing.
-use Rattle.std.proofs.Common.{◌≡◌, ℕ, ◌+◌, ◌-◌, ◌*◌, ◌^◌, ◌<◌, ◌≤◌, true, false, eqb, ltb, leb, List, [], ◌∷◌, length, get_or, drop, ◌∙◌, add-one, arith, drop-cons, ltb-false, eqb-true, leb-true}
+use Rattle.std.proofs.Common.{◌≡◌, ℕ, ◌+◌, ◌-◌, ◌*◌, ◌^◌, ◌<◌, ◌≤◌, true, false, eqb, ltb, leb, List, [], ◌∷◌, length}
+use Rattle.std.proofs.Common.{get_or, drop, ◌∙◌, add-one, arith, drop-cons, ltb-false, eqb-true, leb-true}
 use lib.Seq.{drop-length}
 use Rattle.base.specs.Rows.{row}
-use Rattle.frame.specs.Rules.{Ready, in_range_of, completed_of, body_byte_of, on_ff_in, on_other_in, advance_of, decides_of}
+use Rattle.frame.specs.Rules.{Ready, in_range_of, completed_of, body_byte_of, on_ff_in, on_other_in, advance_of}
+use Rattle.frame.specs.Rules.{decides_of}
 use Rattle.frame.specs.Rules.{max_consumed, max_filled, put_of}
 use Rattle.frame.specs.Table.{event_row}
 use Rattle.base.specs.Outcomes.{outcome}

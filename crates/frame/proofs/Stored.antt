@@ -1,5 +1,7 @@
 -- byte_stored and stored_at; and in_pieces, of EachCall, which needs the same laws. Assumes nothing.
-use Rattle.std.proofs.Common.{◌≡◌, ℕ, suc, ◌+◌, ◌*◌, ◌^◌, ◌<◌, ◌≤◌, true, false, eqb, ltb, leb, ◌≢◌, ◌⊎◌, List, [], ◌∷◌, ◌++◌, length, get_or, sym, refl, ap, ◌∙◌, inl, inr, true≢false, add-zero, add_assoc, zero-add, arith, length-append, ne_eqb, le-leb}
+use Rattle.std.proofs.Common.{◌≡◌, ℕ, suc, ◌+◌, ◌*◌, ◌^◌, ◌<◌, ◌≤◌, true, false, eqb, ltb, leb, ◌≢◌, ◌⊎◌, List, [], ◌∷◌}
+use Rattle.std.proofs.Common.{◌++◌, length, get_or, sym, refl, ap, ◌∙◌, inl, inr, true≢false, add-zero, add_assoc}
+use Rattle.std.proofs.Common.{zero-add, arith, length-append, ne_eqb, le-leb}
 use Rattle.base.specs.Outcomes.{Outcome, outcome}
 use Rattle.base.proofs.Tests.{by_test, either_way}
 use Rattle.frame.specs.State.{Phase, Idle, Half, Header, Open, Escape, Step, State}

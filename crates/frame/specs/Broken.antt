@@ -1,6 +1,7 @@
 -- Claims: what each refused frame answers, in literal numbers. PROTOCOL 3.10 to 3.16, 4.2, 4.4 to 4.8, 4.19, 4.20,
 -- 5.10, 11.4.
-use Rattle.std.specs.Prelude.{◌≡◌, ℕ, ◌+◌, ◌*◌, ◌%◌, ◌<◌, ◌≤◌, ◌≢◌, ◌⊎◌, List, [], ◌∷◌, ◌++◌, length, take, slice_index, slice_set}
+use Rattle.std.specs.Prelude.{◌≡◌, ℕ, ◌+◌, ◌*◌, ◌%◌, ◌<◌, ◌≤◌, ◌≢◌, ◌⊎◌, List, [], ◌∷◌, ◌++◌, length, take, slice_index}
+use Rattle.std.specs.Prelude.{slice_set}
 use mathlib.Core.List.{Memᴰ}
 use Rattle.base.specs.Outcomes.{outcome}
 use Rattle.base.specs.Rows.{row}

@@ -1,6 +1,7 @@
 -- Model: the byte rules, held to the frames of a stream by stream_correct and each_decision.
 -- PROTOCOL 3.2, 3.4 to 3.18, 4.6, 4.17 to 4.20.
-use Rattle.std.specs.Prelude.{ℕ, ◌+◌, ◌-◌, ◌*◌, ◌%◌, ◌^◌, ◌≤◌, Bool, true, false, cond, ◌&&◌, List, ◌==◌, nat_le, nat_lt, slice_set}
+use Rattle.std.specs.Prelude.{ℕ, ◌+◌, ◌-◌, ◌*◌, ◌%◌, ◌^◌, ◌≤◌, Bool, true, false, cond, ◌&&◌, List, ◌==◌, nat_le}
+use Rattle.std.specs.Prelude.{nat_lt, slice_set}
 use Rattle.frame.specs.State.{Phase, Idle, Half, Header, Open, Escape, Scan, Step}
 use Rattle.frame.specs.Wire.{head_size, widest}
 use Rattle.frame.specs.declared.scan.Event.{Event}

@@ -1,6 +1,7 @@
 -- Statement: the frame on the wire. PROTOCOL 2.1 to 2.11, 6.6.
 -- A byte is a number; FF is 255 and 55 is 85.
-use Rattle.std.specs.Prelude.{◌≡◌, ℕ, ◌+◌, ◌-◌, ◌≤◌, Bool, true, false, List, [], ◌∷◌, ◌++◌, length, take, drop, ◌==◌, slice_index}
+use Rattle.std.specs.Prelude.{◌≡◌, ℕ, ◌+◌, ◌-◌, ◌≤◌, Bool, true, false, List, [], ◌∷◌, ◌++◌, length, take, drop, ◌==◌}
+use Rattle.std.specs.Prelude.{slice_index}
 use Rattle.base.specs.Numbers.{two_at, two}
 use Rattle.base.specs.Sums.{checksum}
 

@@ -1,5 +1,6 @@
 -- Claims: exactly when the writer refuses, and each byte of the caller's buffer. PROTOCOL 6.1 to 6.5, 6.8, 6.12.
-use Rattle.std.specs.Prelude.{◌≡◌, ℕ, ◌+◌, ◌/◌, ◌%◌, ◌<◌, ◌≤◌, ◌≢◌, List, [], ◌∷◌, ◌++◌, length, take, replicate, slice_index}
+use Rattle.std.specs.Prelude.{◌≡◌, ℕ, ◌+◌, ◌/◌, ◌%◌, ◌<◌, ◌≤◌, ◌≢◌, List, [], ◌∷◌, ◌++◌, length, take, replicate}
+use Rattle.std.specs.Prelude.{slice_index}
 use Rattle.base.specs.Asking.{AsksOnce}
 use Rattle.base.specs.Outcomes.{Output, output}
 use Rattle.base.specs.Rows.{Row, row}

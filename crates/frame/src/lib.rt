@@ -1,4 +1,6 @@
 // Frames of the Gizwits serial protocol: the writer, the streaming reader, and the fields of a body.
+#![tactic(auto)]
+
 mod body;
 mod place;
 mod reader;

@@ -2,11 +2,11 @@
 ghost use Rattle.std.specs.Prelude.{◌≡◌, ◌+◌, ◌-◌, ◌^◌, ◌<◌};
 
 // A place on the wire counts every byte received, a stuffed 55 too.
-#[derive(Drop)]
+#[derive(Clone, Copy)]
 pub struct WirePlace(pub u64);
 
 // A place in the body counts body bytes: an FF and its stuffed 55 are one.
-#[derive(Drop)]
+#[derive(Clone, Copy)]
 pub struct BodyPlace(pub usize);
 
 // The bytes that a reader may consume in all, 2^62: PROTOCOL 4.18.

@@ -11,14 +11,14 @@ use super::place::{MAX_CONSUMED, WirePlace};
 use super::scan::{Event, Phase, Scan, Verdict, advance, closed, decides, in_range};
 
 // A reader, with the array that holds a body: PROTOCOL 3.1.
-#[derive(Drop)]
+#[derive(Clone, Copy)]
 pub struct Reader {
     pub scan: Scan,
     pub body: [u8; 1026],
 }
 
 // The answers to a feed: PROTOCOL 4.1 to 4.11.
-#[derive(Drop)]
+#[derive(Clone, Copy)]
 pub enum FeedResult {
     More {
         count: usize,

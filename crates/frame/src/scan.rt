@@ -2,12 +2,13 @@
 ghost use Rattle.std.specs.Prelude.{◌≡◌, ◌^◌, ◌<◌, ◌≤◌};
 ghost use Rattle.frame.specs.State.{scan_of, step_of};
 ghost use Rattle.frame.specs.Rules.{closed_of, header_of, half_of, escape_of, silent_of, cut_of, stored_of, grown_of};
-ghost use Rattle.frame.specs.Rules.{ended_of, completed_of, body_byte_of, on_ff_of, outside_of, broken_of, on_escaped_of};
+ghost use Rattle.frame.specs.Rules.{ended_of, completed_of, body_byte_of, on_ff_of, outside_of, broken_of};
+ghost use Rattle.frame.specs.Rules.{on_escaped_of};
 ghost use Rattle.frame.specs.Rules.{on_other_of, advance_of, in_range_of, decides_of, Ready};
 
 use super::place::{BodyPlace, MAX_CONSUMED, WirePlace, next_place, previous_place};
 
-#[derive(Drop)]
+#[derive(Clone, Copy)]
 pub enum Phase {
     // No frame is open; the last byte is not FF, or there is none.
     Idle,
@@ -22,7 +23,7 @@ pub enum Phase {
 }
 
 // Where the reader is; docs/STATES.md has the range of each field.
-#[derive(Drop)]
+#[derive(Clone, Copy)]
 pub struct Scan {
     pub phase: Phase,
     pub consumed: WirePlace,
@@ -36,7 +37,7 @@ pub struct Scan {
 const HEAD_SIZE: usize = 6;
 
 // What an open frame ends in: PROTOCOL 4.2, 4.4 to 4.8.
-#[derive(Drop)]
+#[derive(Clone, Copy)]
 pub enum Verdict {
     Frame,
     Short,
@@ -50,14 +51,14 @@ pub enum Verdict {
 }
 
 // What one byte on the wire decides, if anything.
-#[derive(Drop)]
+#[derive(Clone, Copy)]
 pub enum Event {
     Quiet,
     Decided { verdict: Verdict },
 }
 
 // What one byte does: the next scan, the body byte to store, if any, and what is decided.
-#[derive(Drop)]
+#[derive(Clone, Copy)]
 pub struct Step {
     pub scan: Scan,
     pub put: bool,

@@ -1,5 +1,6 @@
 -- The history of every list of calls of a link that began fresh, and the accepted offer of each wait. Assumes nothing.
-use Rattle.std.proofs.Common.{◌≡◌, ℕ, ◌+◌, ◌<◌, Bool, true, false, cond, ◌⊎◌, List, [], ◌∷◌, ◌++◌, length, sym, refl, ap, subst, inl, inr, true≢false, zero-add, arith}
+use Rattle.std.proofs.Common.{◌≡◌, ℕ, ◌+◌, ◌<◌, Bool, true, false, cond, ◌⊎◌, List, [], ◌∷◌, ◌++◌, length, sym, refl}
+use Rattle.std.proofs.Common.{ap, subst, inl, inr, true≢false, zero-add, arith}
 use Rattle.link.specs.Calls.{link_of}
 use Rattle.link.specs.Logs.{Entry, accepted, ended, command_in, clock_in, number_in, numbers_used, waits_after}
 use Rattle.link.specs.Logs.{none_ends, due_ticks}
@@ -104,7 +105,7 @@ found_at e es t false false p q (inl n) = inl (n.0, rw q n.1)
 found : (t : Bool) (es : List Entry) → waits_after t es ≡ true → Found t es
 unfolding waits_after none_ends
 found t [] h = inl (h, refl)
-found t (e ∷ es) h = found_at e es t (accepted e) (ended e) refl refl (found _ es h)
+found t (e ∷ es) h = found_at e es t (accepted e) (ended e) refl refl (found (cond (accepted e) true (cond (ended e) false t)) es h)
 
 -- nothing waits before a whole log
 accepted_in_lem : {es : List Entry} → Found false es → OpenWait es

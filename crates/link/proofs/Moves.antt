@@ -1,5 +1,6 @@
 -- What one call of a link in range answers and leaves. Assumes nothing.
-use Rattle.std.proofs.Common.{◌≡◌, ℕ, ◌+◌, ◌≤◌, true, false, cond, ◌||◌, eqb, ltb, ◌≢◌, get_or, sym, refl, ◌∙◌, true≢false, arith, ltb-true, eqb-true, le-leb}
+use Rattle.std.proofs.Common.{◌≡◌, ℕ, ◌+◌, ◌≤◌, true, false, cond, ◌||◌, eqb, ltb, ◌≢◌, get_or, sym, refl, ◌∙◌}
+use Rattle.std.proofs.Common.{true≢false, arith, ltb-true, eqb-true, le-leb}
 use Rattle.base.specs.Rows.{Row}
 use Rattle.base.specs.Outcomes.{Outcome, outcome}
 use Rattle.base.proofs.Tests.{by_test, both}

@@ -1,5 +1,6 @@
 -- The numbers in order: the first one, below which there is none, and the one after the k-th. Assumes nothing.
-use Rattle.std.proofs.Common.{◌≡◌, ℕ, suc, ◌+◌, ◌-◌, ◌%◌, ◌<◌, ◌≤◌, true, eqb, leb, ap, add-zero, mod-lt, mod-eq_of_lt, add-one, arith, eqb-true, le-leb}
+use Rattle.std.proofs.Common.{◌≡◌, ℕ, suc, ◌+◌, ◌-◌, ◌%◌, ◌<◌, ◌≤◌, true, eqb, leb, ap, add-zero, mod-lt, mod-eq_of_lt}
+use Rattle.std.proofs.Common.{add-one, arith, eqb-true, le-leb}
 use native.Mathlib.Nat.{suc-mod, mod_self, add-mod_right, zero-mod}
 use borrow.Author.Tests.{eqb-false}
 use Rattle.base.proofs.Tests.{by_test}

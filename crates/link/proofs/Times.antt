@@ -1,5 +1,6 @@
 -- The difference of two readings modulo 2^32, and when a tick is due by it. Assumes nothing.
-use Rattle.std.proofs.Common.{◌≡◌, ℕ, ◌+◌, ◌-◌, ◌%◌, ◌^◌, ◌<◌, ◌≤◌, Bool, true, false, ◌&&◌, ltb, leb, refl, ap, arith, le-ltb, leb-true}
+use Rattle.std.proofs.Common.{◌≡◌, ℕ, ◌+◌, ◌-◌, ◌%◌, ◌^◌, ◌<◌, ◌≤◌, Bool, true, false, ◌&&◌, ltb, leb, refl, ap, arith}
+use Rattle.std.proofs.Common.{le-ltb, leb-true}
 use Rattle.link.specs.Clock.{elapsed_of}
 use Rattle.link.specs.Times.{ElapsedTimes, DueAhead, NeverDueBackward}
 

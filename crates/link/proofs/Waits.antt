@@ -1,12 +1,13 @@
 -- Logs, entry by entry: the numbers used, what stands after a part of a log, and what waits after an accepted offer.
 -- Assumes nothing.
-use Rattle.std.proofs.Common.{◌≡◌, ℕ, suc, ◌+◌, ◌≤◌, Bool, true, false, cond, List, [], ◌∷◌, ◌++◌, length, sym, refl, ap, ◌∙◌, true≢false, add-zero, add-one, arith}
+use Rattle.std.proofs.Common.{◌≡◌, ℕ, suc, ◌+◌, ◌≤◌, Bool, true, false, cond, List, [], ◌∷◌, ◌++◌, length, sym, refl}
+use Rattle.std.proofs.Common.{ap, ◌∙◌, true≢false, add-zero, add-one, arith}
 use Rattle.base.proofs.Tests.{by_test}
 use Rattle.link.specs.Sending.{number_at}
 use Rattle.link.specs.Calls.{link_of}
 use Rattle.link.specs.Logs.{Call, Entry, accepted, repeated, ended, number_in, numbers_used, numbers_from}
 use Rattle.link.specs.LogsComputed.{log_of}
-use Rattle.link.specs.Logs.{waits_after, none_ends, repeats_in, last_sent, due_ticks}
+use Rattle.link.specs.Logs.{sent_after, waits_after, none_ends, repeats_in, last_sent, due_ticks}
 use Rattle.link.specs.declared.state.Link.{Link}
 use Rattle.link.specs.declared.state.Wait.{Wait}
 use Rattle.link.specs.declared.state.Wait.TheVariants.{Idle, Waiting}
@@ -58,7 +59,7 @@ module _ (first max : ℕ) where
   unfolding numbers_used numbers_from
   numbered k w [] f = refl
   numbered k w (e ∷ es) f =
-      let rest = numbered _ _ es f.1 in
+      let rest = numbered (count_after e k) (wait_after e w) es f.1 in
       by_test (λ (l : List ℕ). l ≡ numbers_from first k (length l)) (accepted e)
       (λ a. rw (in_turn k w e f.0.shown a) (ap (λ (l : List ℕ). number_at first k ∷ l) (simp (a, add-one) at rest)))
       (λ a. simp a at rest)
@@ -77,7 +78,7 @@ module _ (first max : ℕ) where
   unfolding numbers_used waits_after
   stands k w t [] rest i f = record { wait = w; idle = i; follows = rw add-zero f }
   stands k w t (e ∷ before) rest i f =
-      let b = stands _ _ _ before rest (idle_after_lem e w t _ _ refl refl i) f.1 in
+      let b = stands (count_after e k) (wait_after e w) (cond (accepted e) true (cond (ended e) false t)) before rest (idle_after_lem e w t _ _ refl refl i) f.1 in
       let count = one_more length (accepted e) k (numbers_used before) (number_in e ∷ numbers_used before) refl in
       record { wait = b.wait; idle = b.idle; follows = rw count at b.follows }
 
@@ -102,7 +103,7 @@ module _ (first max : ℕ) where
       let a : accepted e ≡ false = f.0.shown.0 in
       let n = none_ends_lem (ended e) q in
       let i =
-      waited k command number _ _ during rest (simp (a, n.0) at f.0.holds) (simp (a, n.0) at f.1) n.1 in
+      waited k command number (sent_after sent e) (cond (repeated e) (repeats + 1) repeats) during rest (simp (a, n.0) at f.0.holds) (simp (a, n.0) at f.1) n.1 in
       let count = one_more (λ (m : ℕ). m) (repeated e) repeats (repeats_in during) (suc (repeats_in during)) refl in
       record {
         few = rw count at i.few;

@@ -1,5 +1,6 @@
 -- Claims: the figures of the code's own link, in literal numbers, over every list of calls. PROTOCOL 9.2, 9.6, 9.7.
-use Rattle.std.specs.Prelude.{◌≡◌, ℕ, ◌+◌, ◌%◌, ◌<◌, ◌≤◌, Bool, true, false, cond, List, [], ◌∷◌, ◌++◌, length, nat_lt, slice_index}
+use Rattle.std.specs.Prelude.{◌≡◌, ℕ, ◌+◌, ◌%◌, ◌<◌, ◌≤◌, Bool, true, false, cond, List, [], ◌∷◌, ◌++◌, length, nat_lt}
+use Rattle.std.specs.Prelude.{slice_index}
 use Rattle.base.specs.Rows.{Row, row}
 use Rattle.link.specs.Sending.{first_number, max_repeats}
 use Rattle.link.specs.Clock.{is_due}

@@ -1,6 +1,7 @@
 -- Statement: what holds of every list of calls of a link that began fresh. PROTOCOL 9.1 to 9.13, 9.15.
 -- The record `History` is the statement to be judged; link_history, in `Histories`, is its claim.
-use Rattle.std.specs.Prelude.{◌≡◌, ℕ, ◌+◌, ◌<◌, ◌≤◌, true, false, cond, ◌&&◌, ◌||◌, ◌≢◌, List, [], ◌∷◌, ◌++◌, length, ◌==◌, nat_lt}
+use Rattle.std.specs.Prelude.{◌≡◌, ℕ, ◌+◌, ◌<◌, ◌≤◌, true, false, cond, ◌&&◌, ◌||◌, ◌≢◌, List, [], ◌∷◌, ◌++◌, length}
+use Rattle.std.specs.Prelude.{◌==◌, nat_lt}
 use Rattle.base.specs.Rows.{Row}
 use Rattle.link.specs.Sending.{may_wait, number_at}
 use Rattle.link.specs.Clock.{is_due}

@@ -1,5 +1,6 @@
 -- Statement: what a list of calls answered, and what calls and answers alone say of the waits. PROTOCOL 9.1 to 9.9.
-use Rattle.std.specs.Prelude.{ℕ, zero, suc, Bool, true, false, cond, ◌&&◌, List, [], ◌∷◌, ◌==◌, slice_index, slice_index_or}
+use Rattle.std.specs.Prelude.{ℕ, zero, suc, Bool, true, false, cond, ◌&&◌, List, [], ◌∷◌, ◌==◌, slice_index}
+use Rattle.std.specs.Prelude.{slice_index_or}
 use Rattle.base.specs.Rows.{Row}
 use Rattle.link.specs.Sending.{number_at}
 use Rattle.link.specs.Clock.{is_due}

@@ -1,4 +1,6 @@
 // The link: when the box sends a command, under which sequence number, when again, and when no more. PROTOCOL 9.
+#![tactic(auto)]
+
 mod clock;
 mod offers;
 mod receives;

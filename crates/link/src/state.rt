@@ -6,14 +6,14 @@ ghost use Rattle.link.specs.Calls.{fresh_of, in_range, idle_of, following_of};
 use super::{FIRST_NUMBER, MAX_REPEATS};
 
 // A link; a box has one for its whole life. PROTOCOL 9.14, 9.15.
-#[derive(Drop)]
+#[derive(Clone, Copy)]
 pub struct Link {
     pub next: u8,
     pub wait: Wait,
 }
 
 // The command that waits for its reply, with its number, the clock at its last sending and its repeats so far.
-#[derive(Drop)]
+#[derive(Clone, Copy)]
 pub enum Wait {
     Idle,
     Waiting {

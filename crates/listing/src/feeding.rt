@@ -17,7 +17,7 @@ use frame::{FeedResult, Reader};
 const LINE_ROOM: usize = 132;
 
 // Why a loop stopped: all bytes are used, the next line might lack room, or the reader refuses them.
-#[derive(Drop)]
+#[derive(Clone, Copy)]
 pub enum Stop {
     Done,
     Room,

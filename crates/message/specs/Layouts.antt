@@ -1,6 +1,7 @@
 -- Statement: the layout of each kind of payload: sizes, allowed values, fields and parts. PROTOCOL 7.4 to 7.17, 7.21.
 -- It uses base's `among` of the model, held by looked_up.
-use Rattle.std.specs.Prelude.{ℕ, ◌+◌, ◌-◌, Bool, true, false, cond, ◌&&◌, ◌||◌, List, [], ◌∷◌, length, get_or, drop, eqb, leb}
+use Rattle.std.specs.Prelude.{ℕ, ◌+◌, ◌-◌, Bool, true, false, cond, ◌&&◌, ◌||◌, List, [], ◌∷◌, length, get_or, drop}
+use Rattle.std.specs.Prelude.{eqb, leb}
 use Rattle.base.specs.Keys.{among}
 use Rattle.base.specs.Numbers.{four_at, two_at}
 use Rattle.message.specs.Numbers.{bits, bit, eight_at}

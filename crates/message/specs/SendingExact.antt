@@ -1,6 +1,7 @@
 -- Claims: a call that writes a message: its answer and the caller's buffer, for every message.
 -- PROTOCOL 6.12, 7.22 to 7.25.
-use Rattle.std.specs.Prelude.{ℕ, ◌+◌, ◌<◌, ◌≤◌, ◌≡◌, Bool, true, false, ◌||◌, List, [], ◌∷◌, ◌++◌, length, drop, eqb, ltb, leb}
+use Rattle.std.specs.Prelude.{ℕ, ◌+◌, ◌<◌, ◌≤◌, ◌≡◌, Bool, true, false, ◌||◌, List, [], ◌∷◌, ◌++◌, length, drop, eqb}
+use Rattle.std.specs.Prelude.{ltb, leb}
 use Rattle.base.specs.Rows.{row}
 use Rattle.base.specs.Outcomes.{output}
 use Rattle.base.specs.Asking.{AsksOnce}

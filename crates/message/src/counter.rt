@@ -13,7 +13,7 @@ ghost use Rattle.message.specs.Counter.{status_in, control_in, status_bytes, con
 use super::bytes::{flagged, flagged_bit, lowest_bit};
 
 // What the counter does with the leaves: 0, 1, 2.
-#[derive(Drop)]
+#[derive(Clone, Copy)]
 pub enum Mode {
     Fold,
     Gather,
@@ -21,7 +21,7 @@ pub enum Mode {
 }
 
 // The state of the counter.
-#[derive(Drop)]
+#[derive(Clone, Copy)]
 pub struct Status {
     pub feeding: bool,
     pub lamp: bool,
@@ -34,7 +34,7 @@ pub struct Status {
 }
 
 // Which values of a control are set; the others are ignored.
-#[derive(Drop)]
+#[derive(Clone, Copy)]
 pub struct Flags {
     pub lamp: bool,
     pub mode: bool,
@@ -42,7 +42,7 @@ pub struct Flags {
 }
 
 // What the counter is to do.
-#[derive(Drop)]
+#[derive(Clone, Copy)]
 pub struct Control {
     pub flags: Flags,
     pub lamp: bool,

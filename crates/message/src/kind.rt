@@ -26,7 +26,7 @@ pub enum Kind {
 }
 
 // Why the box rejects a frame: a wrong sum, a refusal of its reading, or a command that only the box sends.
-#[derive(Drop)]
+#[derive(Clone, Copy)]
 pub enum Cause {
     Sum,
     Command,
@@ -36,7 +36,7 @@ pub enum Cause {
 }
 
 // The reply that is owed to a received frame. `AskBegin`, `AskStore` and `AskStop` hand 19, 1D and 1F to the caller.
-#[derive(Drop)]
+#[derive(Clone, Copy)]
 pub enum Owed {
     Nothing,
     AskInformation,

@@ -1,5 +1,7 @@
 // Messages of the Gizwits serial protocol and of our counter: read from a payload, written as a frame, replied to by
 // the box. PROTOCOL 7.1 to 8.13.
+#![tactic(auto)]
+
 mod bytes;
 mod counter;
 mod kind;

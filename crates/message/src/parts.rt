@@ -4,7 +4,7 @@ ghost use Rattle.std.specs.Prelude.{◌≡◌};
 ghost use Rattle.message.specs.Parts.{place, texts_and, no_texts, no_parts, PartAt};
 
 // The place of a part in the payload: its first byte and its size. Both are 0 where the message does not have the part.
-#[derive(Drop)]
+#[derive(Clone, Copy)]
 pub struct Place {
     pub start: usize,
     pub size: usize,
@@ -12,7 +12,7 @@ pub struct Place {
 
 // The places of the versions (of serial protocol, product's protocol, hardware, software), the product key, the secret,
 // a check code, and a piece's data.
-#[derive(Drop)]
+#[derive(Clone, Copy)]
 pub struct Parts {
     pub serial: Place,
     pub protocol: Place,

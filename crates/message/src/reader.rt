@@ -31,7 +31,7 @@ use super::values::{
 };
 
 // The answer: a message and the places of its parts, or a refusal, which has neither.
-#[derive(Drop)]
+#[derive(Clone, Copy)]
 pub enum ReadResult {
     Got { message: Message, parts: Parts },
     Command,

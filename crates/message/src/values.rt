@@ -6,14 +6,14 @@ ghost use Rattle.message.specs.Layouts.{way_allowed, way_number, code_allowed, c
 use super::counter::{Control, Status};
 
 // The ways to set the module up: PROTOCOL 7.11.
-#[derive(Drop)]
+#[derive(Clone, Copy)]
 pub enum Way {
     SoftAp,
     AirLink,
 }
 
 // The error codes of a rejection: PROTOCOL 7.13.
-#[derive(Drop)]
+#[derive(Clone, Copy)]
 pub enum Code {
     Sum,
     Command,
@@ -22,7 +22,7 @@ pub enum Code {
 }
 
 // What device information has in addition to texts, key and timeout: 66, 74 or 106 bytes. PROTOCOL 7.10.
-#[derive(Drop)]
+#[derive(Clone, Copy)]
 pub enum Extra {
     Absent,
     Attributes { attributes: u64 },
@@ -31,7 +31,7 @@ pub enum Extra {
 
 // The state of the module's networks, from bit 0 up; `strength` is bits 8 to 10, the last two are bits 11 and 12.
 // PROTOCOL 7.12.
-#[derive(Drop)]
+#[derive(Clone, Copy)]
 pub struct Network {
     pub softap: bool,
     pub station: bool,
@@ -45,14 +45,14 @@ pub struct Network {
 }
 
 // Seconds since 1970, where the payload has them.
-#[derive(Drop)]
+#[derive(Clone, Copy)]
 pub enum Unix {
     Absent,
     Seconds { seconds: u32 },
 }
 
 // The network's time. No value of it is tested: PROTOCOL 7.14.
-#[derive(Drop)]
+#[derive(Clone, Copy)]
 pub struct Time {
     pub year: u16,
     pub month: u8,
@@ -64,7 +64,7 @@ pub struct Time {
 }
 
 // A message: `Empty` is a command without payload; each other message has a payload of its own.
-#[derive(Drop)]
+#[derive(Clone, Copy)]
 pub enum Message {
     Empty { command: u8 },
     Information { timeout: u16, extra: Extra },

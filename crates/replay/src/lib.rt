@@ -1,4 +1,6 @@
 // The replay of a capture: its text, made over slices, with one reader for each direction. PROTOCOL 14.
+#![tactic(auto)]
+
 mod closing;
 mod playing;
 mod state;

@@ -10,7 +10,7 @@ use capture::{Cursor, NextResult};
 use frame::{FinishResult, Reader};
 
 // `fed` is how many bytes of the record at the cursor its reader has been fed.
-#[derive(Drop)]
+#[derive(Clone, Copy)]
 pub struct Replay {
     pub cursor: Cursor,
     pub fed: u16,

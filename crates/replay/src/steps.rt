@@ -17,7 +17,7 @@ use listing::Listed;
 
 // Why a play stopped: more bytes are needed, the next line might lack room, the capture is refused, or the state or the
 // count of bytes is.
-#[derive(Drop)]
+#[derive(Clone, Copy)]
 pub enum Stop {
     Done,
     Room,

@@ -137,7 +137,7 @@ module _ (limit first max : ℕ) where
   unfolding log_of account_after transfer_after buffer_after
   told_after a t buffer h [] = h
   told_after a t buffer h (c ∷ cs) =
-      told_after _ (call_of limit first max t buffer c).transfer (call_of limit first max t buffer c).buffer
+      told_after (account_step a (entry_of c (call_of limit first max t buffer c))) (call_of limit first max t buffer c).transfer (call_of limit first max t buffer c).buffer
       (keeps a t buffer h c) cs
 
   -- each entry that is STATE

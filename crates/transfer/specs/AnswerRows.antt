@@ -3,7 +3,8 @@
 use Rattle.std.specs.Prelude.{ℕ, ◌≡◌, List, [], ◌∷◌, map}
 use Rattle.base.specs.Rows.{row}
 use Rattle.base.specs.declared.writes.Unwritten.TheVariants as unwritten
-use Rattle.transfer.specs.Table.{refusal_number, check_number, arrive_row_of, cancel_row_of, progress_row_of, pair_row_of}
+use Rattle.transfer.specs.Table.{refusal_number, check_number, arrive_row_of, cancel_row_of, progress_row_of}
+use Rattle.transfer.specs.Table.{pair_row_of}
 use Rattle.transfer.specs.Calls.{Left, Both, Held, begun_of, stored_of, arrived_of, cancelled_of}
 use Rattle.transfer.specs.declared.state.Transfer.{Transfer}
 use Rattle.transfer.specs.declared.answers.Refusal.{Refusal}

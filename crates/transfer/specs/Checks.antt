@@ -1,5 +1,6 @@
 -- Model: the tests of each call, in their order (PROTOCOL 15.10), held to the rules by calls_exact and worked_refusals.
-use Rattle.std.specs.Prelude.{ℕ, ◌+◌, ◌-◌, ◌%◌, Bool, true, cond, not, ◌&&◌, ◌||◌, List, [], ◌∷◌, eqb, ltb, leb, length, take, drop}
+use Rattle.std.specs.Prelude.{ℕ, ◌+◌, ◌-◌, ◌%◌, Bool, true, cond, not, ◌&&◌, ◌||◌, List, [], ◌∷◌, eqb, ltb, leb, length}
+use Rattle.std.specs.Prelude.{take, drop}
 use Rattle.base.specs.Same.{same_bytes}
 use Rattle.link.specs.Calls.{in_range}
 use Rattle.link.specs.declared.state.Link.{Link}

@@ -1,5 +1,6 @@
 -- Claims: each call of a transfer in range, case by case, without a division. PROTOCOL 15.4 to 15.11.
-use Rattle.std.specs.Prelude.{ℕ, ◌+◌, ◌-◌, ◌*◌, ◌%◌, ◌≤◌, ◌<◌, min, ◌≡◌, ◌≢◌, true, false, cond, List, [], ◌∷◌, ◌++◌, eqb, length, take, drop}
+use Rattle.std.specs.Prelude.{ℕ, ◌+◌, ◌-◌, ◌*◌, ◌%◌, ◌≤◌, ◌<◌, min, ◌≡◌, ◌≢◌, true, false, cond, List, [], ◌∷◌, ◌++◌}
+use Rattle.std.specs.Prelude.{eqb, length, take, drop}
 use Rattle.base.specs.Rows.{row}
 use Rattle.base.specs.Numbers.{two}
 use Rattle.base.specs.Outcomes.{output, onto}

@@ -6,7 +6,7 @@ ghost use Rattle.transfer.specs.Payloads.{faulty, size_in, code_at, index_in, to
 use message::{Message, Place, ReadResult};
 
 // A 19: whether its payload is faulty, the size that it announces, and the place of its check code.
-#[derive(Drop)]
+#[derive(Clone, Copy)]
 pub(crate) struct Announcement {
     pub faulty: bool,
     pub size: u32,
@@ -14,7 +14,7 @@ pub(crate) struct Announcement {
 }
 
 // A 1D: whether its payload is faulty, the numbers in it, and the place of its bytes.
-#[derive(Drop)]
+#[derive(Clone, Copy)]
 pub(crate) struct Piece {
     pub faulty: bool,
     pub numbers: Numbers,
@@ -22,7 +22,7 @@ pub(crate) struct Piece {
 }
 
 // The number of a piece, and of how many.
-#[derive(Drop)]
+#[derive(Clone, Copy)]
 pub(crate) struct Numbers {
     pub index: u16,
     pub total: u16,

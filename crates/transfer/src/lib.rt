@@ -1,4 +1,6 @@
 // A transfer: a counting table that the module sends piece by piece, into the caller's buffer. PROTOCOL 15.
+#![tactic(auto)]
+
 mod announcements;
 mod answers;
 mod begins;

@@ -9,7 +9,7 @@ use super::MAX_PIECES;
 use super::pieces::{bytes_of, pieces_of};
 
 // A transfer: of `size` bytes in pieces of `piece` bytes, of which the first `stored` are in the buffer.
-#[derive(Drop)]
+#[derive(Clone, Copy)]
 pub enum Transfer {
     Absent,
     Open { size: u32, piece: u16, stored: u16 },

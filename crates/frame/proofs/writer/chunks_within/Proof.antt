@@ -1,6 +1,7 @@
 -- `chunks_within` meets its contract: what it measures is the frame on the wire, so it refuses and writes as the
 -- definition does.
-use Rattle.std.proofs.Common.{◌≡◌, ℕ, ◌+◌, ◌%◌, ◌<◌, ◌≤◌, List, [], ◌∷◌, length, ap, ◌∙◌, zero-add, arith, rules, le-ltb, lt-ltb}
+use Rattle.std.proofs.Common.{◌≡◌, ℕ, ◌+◌, ◌%◌, ◌<◌, ◌≤◌, List, [], ◌∷◌, length, ap, ◌∙◌, zero-add, arith, rules}
+use Rattle.std.proofs.Common.{le-ltb, lt-ltb}
 use lib.Seq.{sets}
 use Rattle.frame.specs.Wire.{wire, head_of, body_of, frame_of, joined_chunks}
 use Rattle.frame.specs.Calls.{framed, write_of}
