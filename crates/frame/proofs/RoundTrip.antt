@@ -1,6 +1,6 @@
 -- round_trip, read_anywhere and made_good: calls that consume a written frame end in FRAME at its last byte.
 -- Assumes nothing.
-use Rattle.std.proofs.Common.{◌≡◌, ℕ, ◌+◌, ◌-◌, ◌<◌, ◌≤◌, Bool, true, false, cond, eqb, ◌≢◌, List, [], ◌∷◌, ◌++◌}
+use Rattle.std.proofs.Common.{◌≡◌, ℕ, ◌+◌, ◌-◌, ◌<◌, ◌≤◌, Bool, true, false, cond, eqb, List, [], ◌∷◌, ◌++◌}
 use Rattle.std.proofs.Common.{length, get_or, take, drop, sym, refl, ap, ◌∙◌, append-nil, add-zero, arith}
 use Rattle.std.proofs.Common.{length-append, length-drop, take-append-drop, length-take-le, get_or-take, take_at}
 use Rattle.std.proofs.Common.{eqb-true}

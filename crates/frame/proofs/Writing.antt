@@ -1,7 +1,6 @@
 -- Laws of writing: bytes stuffed one by one, and a frame from its head, chunks and sum. Assumes nothing.
 use Rattle.std.proofs.Common.{◌≡◌, ℕ, suc, ◌+◌, ◌<◌, ◌≤◌, List, [], ◌∷◌, ◌++◌, length, get_or, drop, set, add-one}
 use Rattle.std.proofs.Common.{arith, length-append, drop_of_length-le, drop-cons, eq-eqb, ne_eqb}
-use lib.Seq.{sets}
 use Rattle.frame.specs.Wire.{stuff, wire, joined_chunks}
 use Rattle.frame.specs.Calls.{framed}
 use Rattle.base.specs.Stores.{PutAt}

@@ -1,6 +1,5 @@
 -- Claims: the stuffed form. PROTOCOL 2.1, 2.6 to 2.8, 2.10.
 use Rattle.std.specs.Prelude.{◌≡◌, ℕ, ◌*◌, ◌≤◌, false, ◌≢◌, List, [], ◌∷◌, ◌++◌, length}
-use Rattle.std.proofs.Math.Option.{none}
 use Rattle.frame.specs.FramesComputed.{unstuff}
 use Rattle.frame.specs.Wire.{stuff, wire, Good, widest}
 

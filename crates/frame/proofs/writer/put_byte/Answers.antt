@@ -1,0 +1,22 @@
+-- `put_byte` meets its contract: one store, and a second one after an FF.
+use Rattle.std.proofs.Common.{length, ap, add-one, arith, length-set}
+use Rattle.frame.specs.Wire.{stuff}
+use Rattle.frame.proofs.Writing.{stuff_ff, stuff_other}
+use Rattle.frame.proofs.writer.put_byte.Goals as goal
+
+pub bounds-out-at : goal.bounds-out-at
+unfolding stuff
+bounds-out-at c = omega arith
+
+pub bounds-out-at-then-v-eq255 : goal.bounds-out-at-then-v-eq255
+bounds-out-at-then-v-eq255 c = simp length-set (omega (arith, ap length (stuff_ff c.if-v-eq255.true)))
+
+pub returns-then-v-eq255 : goal.returns-then-v-eq255
+returns-then-v-eq255 c =
+    let e = stuff_ff c.if-v-eq255.true in
+    (rw e, rw (e, add-one))
+
+pub returns : goal.returns
+returns c =
+    let e = stuff_other c.if-v-eq255.false in
+    (rw e, rw e)
