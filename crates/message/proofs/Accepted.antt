@@ -7,7 +7,7 @@ use Rattle.base.specs.Rows.{Row, row}
 use Rattle.message.specs.Parts.{bytes_in}
 use Rattle.message.specs.Commands.{kind_of}
 use Rattle.message.specs.Layouts.{is_listed, allowed, values_of, parts_in, size_fits}
-use Rattle.message.specs.Messages.{command_in, message_in, read_in}
+use Rattle.message.specs.Messages.{command_in, read_in}
 use Rattle.message.specs.Table.{Read, got, refusal}
 use Rattle.message.specs.Reading.{decode_as, decode_of}
 use Rattle.message.specs.WrittenRead.{opaque_parts, Decodes}

@@ -1,11 +1,11 @@
 -- The table looked up: what holds of its commands and off the table holds of every command. Assumes nothing.
 use Prim.Native.Nat.{ℕ, ◌+◌}
 use mathlib.Core.Path.{◌≡◌, refl, sym, ap, ◌∙◌}
-use mathlib.Core.Bool.{Bool, true, false, cond, ◌&&◌, ◌||◌, true≢false}
+use mathlib.Core.Bool.{Bool, true, false, cond, ◌||◌, true≢false}
 use mathlib.Core.List.{List, [], ◌∷◌, map}
 use lib.Dec.{eqb}
 use Rattle.base.proofs.Keys.{agree}
-use Rattle.base.proofs.Tests.{by_test, either_way, cond_same, both}
+use Rattle.base.proofs.Tests.{by_test, either_way, cond_same}
 use Rattle.base.specs.Keys.{among}
 use Rattle.message.specs.Commands.{TableEntry, table, unlisted, profile_in, profile_of, kind_of, from_box, owed_of}
 use Rattle.message.specs.Layouts.{is_listed}

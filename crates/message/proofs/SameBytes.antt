@@ -11,7 +11,7 @@ use lib.Seq.{drop-cons, get_or-drop, take_at, drop_at, length-take-le, drop-drop
 use Rattle.base.proofs.Tests.{both}
 use Rattle.base.proofs.Keys.{among_holds}
 use Rattle.base.specs.Numbers.{two, four, two_at, four_at}
-use Rattle.message.specs.Numbers.{num, eight_at, eight}
+use Rattle.message.specs.Numbers.{eight_at, eight}
 use Rattle.base.specs.Keys.{among}
 use Rattle.message.specs.Counter.{status_values, status_allowed, control_values, control_allowed, status_in, control_in}
 use Rattle.message.specs.Counter.{status_bytes, control_bytes}

@@ -1,5 +1,5 @@
 -- What each message is written as, byte by byte. Assumes nothing.
-use Prim.Native.Nat.{ℕ, ◌+◌, ◌*◌, ◌/◌, ◌%◌}
+use Prim.Native.Nat.{ℕ, ◌*◌, ◌/◌, ◌%◌}
 use mathlib.Core.Path.{◌≡◌, refl, ap, ◌∙◌}
 use mathlib.Core.Bool.{Bool, true, false, cond, ◌&&◌}
 use mathlib.Core.List.{List, [], ◌∷◌, ◌++◌}
@@ -10,7 +10,7 @@ use Rattle.base.proofs.NumbersExact.{numbers_spelled}
 use Rattle.message.specs.Numbers.{num, eight}
 use Rattle.message.specs.Counter.{mode_number, status_bytes, control_bytes}
 use Rattle.message.specs.Messages.{network_bytes, time_bytes, unix_bytes}
-use Rattle.message.specs.WritingExact.{in_four, timeout_and, status_spelled, control_spelled, network_spelled}
+use Rattle.message.specs.WritingExact.{in_four, status_spelled, control_spelled, network_spelled}
 use Rattle.message.specs.WritingExact.{WritesExactly}
 use Rattle.message.specs.declared.counter.Status.{Status}
 use Rattle.message.specs.declared.counter.Control.{Control}

@@ -13,7 +13,7 @@ use Rattle.base.proofs.Tests.{both, cond_same}
 use Rattle.message.specs.Parts.{no_parts, bytes_in}
 use Rattle.message.specs.Commands.{from, counted, table, profile_in, kind_of}
 use Rattle.message.specs.Layouts.{is_listed, allowed, values_of, parts_in, fits, size_fits}
-use Rattle.message.specs.Messages.{unix_in, time_bytes, unix_bytes, command_in, message_in, read_in, payload_in}
+use Rattle.message.specs.Messages.{unix_in, time_bytes, unix_bytes, command_in, read_in, payload_in}
 use Rattle.message.specs.Table.{Read, got, refusal}
 use Rattle.base.specs.Keys.{among}
 use Rattle.message.specs.Reading.{decode_as}

@@ -1,0 +1,23 @@
+-- `write_time` meets its contract: the time, and the seconds since 1970 where it has them.
+use mathlib.Core.Path.{◌≡◌, refl, ◌∙◌}
+use mathlib.Core.Bool.{true}
+use Rattle.message.specs.Commands.{table, profile_in}
+use Rattle.message.proofs.Sending.{bare, dated}
+use Rattle.message.proofs.writer.write_time.Goals as goal
+
+pub returns-in-Absent : goal.returns-in-Absent
+unfolding table profile_in
+returns-in-Absent c =
+    let s = c.args in
+    let bytes = c.time_bytes-bytes.ensures ∙ dated s.time c.in-Absent.is in
+    let yes : true ≡ true = refl in
+    bare 0x18 s.number s.flags s.opaque.now s.out.now bytes yes c.write_bare.ensures
+
+pub returns-in-Seconds : goal.returns-in-Seconds
+unfolding table profile_in
+returns-in-Seconds c =
+    let s = c.args in
+    let bytes = c.time_bytes_and-bytes.ensures ∙ dated s.time c.in-Seconds.is in
+    let yes : true ≡ true = refl in
+    bare 0x18 s.number s.flags s.opaque.now s.out.now bytes yes
+    c.write_bare-in-Seconds.ensures
