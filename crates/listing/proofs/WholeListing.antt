@@ -1,5 +1,5 @@
 -- The stream alone decides the listing, however calls cut it. Assumes nothing.
-use Prim.Native.Nat.{ℕ, zero, suc, ◌+◌, ◌^◌, ◌≤◌}
+use Prim.Native.Nat.{ℕ, zero, suc, ◌^◌, ◌≤◌}
 use mathlib.Core.Path.{◌≡◌, sym, ap, ◌∙◌}
 use mathlib.Core.Logic.Dec
 use mathlib.Core.List.{List, [], ◌∷◌, ◌++◌, append-nil, append_assoc, List-discrete}

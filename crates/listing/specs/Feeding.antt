@@ -1,6 +1,6 @@
 -- Model: the loop that feeds bytes and makes lines, held to what lists of calls gave by loop_lists and left_whole.
 -- What a feed leaves is fed again, and the line of each answer follows the previous ones. PROTOCOL 10.9, 10.10.
-use Rattle.std.specs.Prelude.{ℕ, zero, suc, ◌+◌, ◌-◌, Bool, cond, ◌||◌, List, [], ◌++◌, length, drop, eqb, ltb}
+use Rattle.std.specs.Prelude.{ℕ, zero, suc, ◌+◌, ◌-◌, Bool, cond, ◌||◌, List, [], length, drop, eqb, ltb}
 use Rattle.base.specs.Outcomes.{Outcome}
 use Rattle.base.specs.Runs.{Run, stopped, onward, Left}
 use Rattle.frame.specs.Table.{count_of}

@@ -1,5 +1,5 @@
 -- Claims: one call of the loop: what it returns and leaves, why it stops, and that it moves on. PROTOCOL 10.8 to 10.10.
-use Rattle.std.specs.Prelude.{ℕ, ◌+◌, ◌≤◌, ◌<◌, ◌≡◌, ◌≢◌, true, List, [], ◌∷◌, ◌++◌, length, get_or, take, drop}
+use Rattle.std.specs.Prelude.{ℕ, ◌+◌, ◌≤◌, ◌<◌, ◌≡◌, ◌≢◌, true, List, [], ◌∷◌, ◌++◌, length, take, drop}
 use Rattle.base.specs.Runs.{Run}
 use Rattle.base.specs.Rows.{row}
 use Rattle.base.specs.Keys.{among}
