@@ -1,8 +1,8 @@
 -- Statement: what a list of calls of `next` took, each offered a window on what is left of a capture. PROTOCOL 13.10.
 -- It uses `next_of` and `end_of` of the model, held by each_next, each_finish and windows_read.
-use Rattle.std.specs.Prelude.{ℕ, ◌<◌, cond, ◌≡◌, ◌≢◌, ◌⊎◌, List, [], ◌∷◌, ◌++◌, get_or, take, drop, eqb}
+use Rattle.std.specs.Prelude.{ℕ, ◌<◌, cond, ◌≡◌, ◌⊎◌, List, [], ◌∷◌, ◌++◌, get_or, take, drop, eqb}
 use Rattle.base.specs.Rows.{Row}
-use Rattle.capture.specs.Reading.{next_of, end_of}
+use Rattle.capture.specs.Reading.{next_of}
 
 -- the bytes that an answer took: a record's or the head's count
 abbrev pub count_of : Row → ℕ

@@ -1,5 +1,5 @@
 -- Claims: worked runs of a link, by computation. PROTOCOL 9.1 to 9.13, example 11 of section 11.
-use Rattle.std.specs.Prelude.{◌≡◌, ℕ, true, false, List, [], ◌∷◌}
+use Rattle.std.specs.Prelude.{◌≡◌, true, false, List, [], ◌∷◌}
 use Rattle.base.specs.Rows.{Row, row}
 use Rattle.link.specs.Sending.{first_number, max_repeats, number_at}
 use Rattle.link.specs.Clock.{elapsed_of, is_due}
