@@ -11,7 +11,7 @@ use Rattle.frame.specs.State.{State as Reader}
 use Rattle.frame.specs.Calls.{fresh_of as fresh_reader}
 use Rattle.frame.specs.Decisions.{Decision, ListsDecisions}
 use Rattle.frame.specs.FramesComputed.{frames_of}
-use Rattle.frame.specs.Logs.{Call, finish, Entry, offered, consumed_in, stream, delivered, decisions_of, frames_in}
+use Rattle.frame.specs.Logs.{Call, finish, Entry, offered, consumed_in, stream, decisions_of}
 use Rattle.frame.specs.LogsComputed.{call_of, entry_of, log_of}
 use Rattle.frame.proofs.Decisions.{each_decision}
 use Rattle.frame.proofs.StreamCorrect.{stream_correct}

@@ -1,12 +1,12 @@
 -- Laws of the bytes that are moved to a buffer's front. Assumes nothing.
 use Prim.Native.Nat.{ℕ, ◌+◌, ◌-◌, ◌≤◌, ◌<◌, min}
-use mathlib.Core.Path.{◌≡◌, refl, sym, ◌∙◌}
+use mathlib.Core.Path.{◌≡◌}
 use mathlib.Core.List.{List, [], ◌++◌}
 use native.Mathlib.Nat.{zero-add}
 use native.Mathlib.Numerals.{add-one}
 use native.Mathlib.Omega.{arith}
 use lib.ListN.{length, get_or, take, drop, set, length-take, length-drop, drop_of_length-le}
-use lib.Seq.{paste, paste-suc, length-paste, length-take-le, take-length, get_or-append-add, get_or-drop, get_or-take}
+use lib.Seq.{paste-suc, length-paste, length-take-le, take-length, get_or-append-add, get_or-drop, get_or-take}
 use Rattle.base.specs.Outcomes.{onto}
 use Rattle.replay.specs.Window.{kept_of}
 

@@ -1,15 +1,14 @@
 -- The lines of records, and the bytes of a direction, with one record more. Assumes nothing.
-use Prim.Native.Nat.{ℕ, ◌+◌, ◌≤◌}
-use mathlib.Core.Path.{◌≡◌, refl, sym, ap, subst, ◌∙◌}
+use Prim.Native.Nat.{ℕ}
+use mathlib.Core.Path.{◌≡◌, refl, sym, ap, ◌∙◌}
 use mathlib.Core.Bool.{Bool, true, false, cond}
 use mathlib.Core.List.{List, [], ◌∷◌, ◌++◌, append-nil, append_assoc}
-use lib.ListN.{length, get_or, take, drop, length-append}
 use lib.Dec.{eqb}
-use Rattle.frame.specs.Decisions.{Decision, ListsDecisions}
+use Rattle.frame.specs.Decisions.{Decision}
 use Rattle.frame.proofs.Unique.{one_decisions}
 use Rattle.listing.specs.Listing.{decision_text, decisions_text}
 use Rattle.capture.specs.Format.{direction_of, payload_of}
-use Rattle.replay.specs.Lines.{Printed, printed_text, lines_of, decisions_in, prefix_of}
+use Rattle.replay.specs.Lines.{Printed, printed_text, lines_of, prefix_of}
 use Rattle.replay.specs.Replays.{heard_of, Adds, AreLines}
 
 -- a test that adds something in front, before others

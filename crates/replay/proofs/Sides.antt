@@ -4,7 +4,7 @@ use mathlib.Core.Bool.{Bool, true, false}
 use mathlib.Core.Path.{◌≡◌, refl, sym, ap, subst, ◌∙◌}
 use mathlib.Core.List.{List, [], ◌∷◌, ◌++◌, append-nil, append_assoc}
 use native.Mathlib.Omega.{arith}
-use lib.ListN.{length, take}
+use lib.ListN.{take}
 use Rattle.base.specs.Outcomes.{Outcome}
 use Rattle.base.specs.Runs.{Run}
 use Rattle.frame.specs.Wire.{widest}
@@ -12,7 +12,7 @@ use Rattle.frame.specs.State.{State as Reader}
 use Rattle.frame.specs.Rules.{in_range_of}
 use Rattle.frame.specs.Calls.{fresh_of as fresh_reader, finish_of}
 use Rattle.frame.specs.Decisions.{Decision, ListsDecisions, IsOpen}
-use Rattle.frame.specs.Logs.{Call, Entry, stream, decisions_of}
+use Rattle.frame.specs.Logs.{Call, stream, decisions_of}
 use Rattle.frame.specs.LogsComputed.{log_of, state_after}
 use Rattle.frame.specs.StreamCorrect.{FinishCorrect}
 use Rattle.frame.proofs.Decisions.{each_decision, finish_correct}

@@ -1,12 +1,10 @@
 -- The pieces of a replay's text, spelled. Assumes nothing.
-use Prim.Native.Nat.{ℕ, ◌+◌, ◌*◌}
+use Prim.Native.Nat.{ℕ}
 use mathlib.Core.Path.{◌≡◌, refl, ap, ◌∙◌}
-use mathlib.Core.Bool.{true, false}
 use mathlib.Core.Logic.{◌≢◌}
-use mathlib.Core.List.{List, [], ◌∷◌, ◌++◌}
+use mathlib.Core.List.{List, [], ◌∷◌}
 use borrow.Author.Tests.{eq-eqb, ne_eqb}
 use lib.ListN.{length}
-use lib.Dec.{eqb}
 use Rattle.frame.specs.Decisions.{Decision}
 use Rattle.listing.specs.Lines.{columns_of}
 use Rattle.listing.proofs.LineTexts.{lines_spelled}

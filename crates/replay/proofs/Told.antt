@@ -1,10 +1,9 @@
 -- What a replay has told of a capture, after any turns: the loop's invariant over its records. Assumes nothing.
-use Prim.Native.Nat.{ℕ, zero, suc, ◌+◌, ◌-◌, ◌^◌, ◌≤◌, ◌<◌}
+use Prim.Native.Nat.{ℕ, zero, suc, ◌+◌, ◌-◌, ◌^◌, ◌≤◌}
 use mathlib.Core.Path.{◌≡◌, refl, sym, ap, subst, ◌∙◌}
 use mathlib.Core.Bool.{Bool, true, false, cond}
 use mathlib.Core.Logic.{◌≢◌, ◌⊎◌, inl, inr}
 use mathlib.Core.List.{List, [], ◌∷◌, ◌++◌, append-nil, append_assoc}
-use native.Mathlib.Nat.{add-zero}
 use native.Mathlib.Omega.{arith}
 use borrow.Author.Tests.{eqb-true, eqb-false, eq-eqb, ne_eqb, le-leb}
 use lib.ListN.{length, get_or, take, drop, length-append, length-take, length-drop, take-append-drop}
@@ -32,7 +31,7 @@ use Rattle.capture.proofs.NextSays.{next_says}
 use Rattle.replay.specs.Lines.{Printed, printed_text, lines_of, prefix_of}
 use Rattle.replay.specs.State.{State, fresh_of, in_range_of, reader_of, with_reader}
 use Rattle.replay.specs.Replays.{heard_of, Adds, AreLines}
-use Rattle.replay.specs.Playing.{goes_on, part_of, record_run, record_in, head_in, step_in, step_of, play_in, play_of}
+use Rattle.replay.specs.Playing.{goes_on, record_run, head_in, step_in, step_of, play_in, play_of}
 use Rattle.replay.specs.TurnReplays.{TurnStops}
 use Rattle.replay.specs.Turns.{Turn, state_by, text_by, left_by as turns_left, AreWindows as TurnWindows}
 use Rattle.replay.proofs.LineLaws.{heard_more, adds_join, lines_of_text, printed_both, lines_more}

@@ -1,34 +1,32 @@
 -- The capture's bytes alone decide the text, however windows and rooms cut it. Assumes nothing.
-use Prim.Native.Nat.{ℕ, ◌+◌, ◌≤◌, ◌<◌}
-use mathlib.Core.Path.{◌≡◌, refl, sym, ap, subst, ◌∙◌}
-use mathlib.Core.Bool.{true, cond}
+use Prim.Native.Nat.{ℕ, ◌≤◌, ◌<◌}
+use mathlib.Core.Path.{◌≡◌, refl, sym, ap, ◌∙◌}
+use mathlib.Core.Bool.{true}
 use mathlib.Core.Logic.Dec
 use mathlib.Core.Logic.{◌≢◌, ◌⊎◌, inl, inr}
-use mathlib.Core.List.{List, [], ◌∷◌, ◌++◌, append-nil, append_assoc, List-discrete}
+use mathlib.Core.List.{List, [], ◌∷◌, ◌++◌, append-nil, List-discrete}
 use native.Mathlib.Decide.{ℕ_discrete}
 use native.Mathlib.Omega.{arith}
 use borrow.Author.Tests.{eqb-true, eqb-false, eq-eqb, ne_eqb, lt-ltb, le-ltb}
 use lib.ListN.{length, get_or, take}
 use lib.Dec.{eqb, ltb}
 use Rattle.base.specs.Keys.{among}
-use Rattle.base.specs.Rows.{Row, row}
+use Rattle.base.specs.Rows.{Row}
 use Rattle.base.specs.Outcomes.{Outcome}
 use Rattle.base.proofs.Lists.{append_cancel}
 use Rattle.base.proofs.Keys.{among_holds}
 use Rattle.base.proofs.Tests.{by_test, either_way}
 use Rattle.frame.specs.Wire.{widest}
 use Rattle.frame.specs.State.{State as Reader}
-use Rattle.frame.specs.Calls.{finish_of}
 use Rattle.frame.specs.Decisions.{Decision, IsOpen}
 use Rattle.frame.proofs.Decisions.{finish_correct}
 use Rattle.frame.proofs.Unique.{one_decisions}
-use Rattle.listing.specs.Lines.{last_of, refusal_text}
+use Rattle.listing.specs.Lines.{last_of}
 use Rattle.listing.specs.Listing.{decisions_text}
 use Rattle.capture.specs.Format.{direction_of, payload_of, size_of, IsRecord}
 use Rattle.capture.specs.Captures.{Stops, Reads, no_mark, no_version, with_head, whole, direction, ended}
 use Rattle.capture.specs.Reading.{next_of, end_in, end_of}
-use Rattle.capture.specs.ReadingExact.{Reading}
-use Rattle.capture.specs.Windows.{count_of, records_by}
+use Rattle.capture.specs.Windows.{records_by}
 use Rattle.capture.proofs.EachCall.{more_later}
 use Rattle.capture.proofs.NextSays.{next_says}
 use Rattle.capture.proofs.ReadingExact.{windows_read, one_reading}
@@ -36,7 +34,7 @@ use Rattle.replay.specs.Lines.{Printed, printed_text, lines_of, prefix_of, repla
 use Rattle.replay.specs.State.{State, fresh_of, in_range_of}
 use Rattle.replay.specs.Replays.{heard_of, Adds, AreLines, IsEndLine, IsEnding, IsReplay}
 use Rattle.replay.specs.Closing.{end_line, closing_text, closed}
-use Rattle.replay.specs.Turns.{Turn, state_by, text_by, left_by, AreWindows, Finishes, written_by}
+use Rattle.replay.specs.Turns.{state_by, text_by, left_by, Finishes}
 use Rattle.replay.specs.TurnReplays.{TurnsReplay, OneReplay, AnyTurns, TurnStops, TurnsStop, TurnsFinish}
 use Rattle.replay.specs.TurnReplays.{TurnsSoFar}
 use Rattle.replay.proofs.LineLaws.{printed_both, lines_of_text}

@@ -1,10 +1,10 @@
 -- Windows on a capture, with one call more; and the record at the front of a window. Assumes nothing.
-use Prim.Native.Nat.{ℕ, ◌+◌, ◌-◌, ◌≤◌, ◌<◌}
+use Prim.Native.Nat.{ℕ, ◌+◌, ◌≤◌, ◌<◌}
 use mathlib.Core.Path.{◌≡◌, refl, sym, ap, ◌∙◌}
 use mathlib.Core.List.{List, [], ◌∷◌, ◌++◌, append-nil, append_assoc}
 use native.Mathlib.Omega.{arith}
-use lib.ListN.{length, get_or, take, drop, length-append, length-drop, take-append-drop, get_or-append}
-use lib.Seq.{take-append-le, drop-append-le, take_at}
+use lib.ListN.{length, get_or, take, drop, length-drop, take-append-drop, get_or-append}
+use lib.Seq.{take-append-le, drop-append-le}
 use lib.Dec.{eqb}
 use Rattle.base.specs.Rows.{Row}
 use Rattle.capture.specs.Format.{direction_of, payload_size_of, payload_of, size_of, IsRecord}

@@ -1,5 +1,5 @@
 -- Claims: the capture's bytes alone decide the text, however windows and rooms cut it. PROTOCOL 14.1 to 14.6, 14.9.
-use Rattle.std.specs.Prelude.{ℕ, ◌+◌, ◌≤◌, ◌<◌, ◌≡◌, ◌≢◌, ◌⊎◌, true, List, [], ◌∷◌, ◌++◌, length, take}
+use Rattle.std.specs.Prelude.{ℕ, ◌≤◌, ◌≡◌, ◌≢◌, ◌⊎◌, true, List, [], ◌∷◌, ◌++◌, length, take}
 use Rattle.base.specs.Keys.{among}
 use Rattle.frame.specs.Wire.{widest}
 use Rattle.frame.specs.Decisions.{Decision}

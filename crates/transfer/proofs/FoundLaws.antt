@@ -1,6 +1,6 @@
 -- Frames of a stream, in the order of their starts, from frame's definitions and claims: those before a frame are the
 -- frames of the bytes before it, and a frame that begins where it ends is next. Assumes nothing.
-use Prim.Native.Nat.{ℕ, ◌+◌, ◌≤◌, ◌<◌}
+use Prim.Native.Nat.{ℕ, ◌≤◌, ◌<◌}
 use mathlib.Core.Path.{◌≡◌, refl, sym, ap, ◌∙◌}
 use mathlib.Core.Logic.{◌⊎◌, inl, inr}
 use mathlib.Core.List.Memᴰ

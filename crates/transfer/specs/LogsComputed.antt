@@ -1,7 +1,7 @@
 -- Model: the list of calls that `Calls` gives, held to `Logs` by log_exact and transfer_history. PROTOCOL 15.6 to 15.9.
 use Rattle.std.specs.Prelude.{ℕ, List, [], ◌∷◌, length}
 use Rattle.base.specs.Rows.{Row}
-use Rattle.transfer.specs.Calls.{Left, held, Both, begin_of, store_of, stop_of, cancel_of}
+use Rattle.transfer.specs.Calls.{Left, Both, begin_of, store_of, stop_of, cancel_of}
 use Rattle.transfer.specs.Logs.{Call, beginning, storing, stopping, cancelling, Entry}
 use Rattle.transfer.specs.declared.state.Transfer.{Transfer}
 

@@ -1,6 +1,6 @@
 -- Claims: how many pieces a table has, where each begins and which size it has, without a division. PROTOCOL 15.4,
 -- 15.5.
-use Rattle.std.specs.Prelude.{ℕ, suc, ◌+◌, ◌-◌, ◌*◌, ◌≤◌, ◌<◌, ◌≡◌, [], ◌∷◌, map}
+use Rattle.std.specs.Prelude.{ℕ, suc, ◌+◌, ◌*◌, ◌≤◌, ◌<◌, ◌≡◌, [], ◌∷◌, map}
 use Rattle.transfer.specs.Pieces.{max_pieces, pieces_of, start_of, piece_size, bytes_of}
 
 -- ---- pieces_exact: t pieces of the piece size reach the end of the table, and fewer do not

@@ -1,5 +1,5 @@
 -- Claims: each refusal and all that could compete with it, by computation, in the order of PROTOCOL 15.10.
-use Rattle.std.specs.Prelude.{ℕ, ◌+◌, ◌≡◌, Bool, true, false, cond, List, [], ◌∷◌, ◌++◌, replicate}
+use Rattle.std.specs.Prelude.{ℕ, ◌≡◌, Bool, true, false, cond, List, [], ◌∷◌, ◌++◌, replicate}
 use Rattle.base.specs.Rows.{Row}
 use Rattle.link.specs.Calls.{link_of}
 use Rattle.link.specs.declared.state.Link.{Link}
