@@ -33,7 +33,8 @@ module _ (bytes out : List ℕ) (at : ℕ) where
   put_first = rw add-zero
 
   pub put_next : (i : ℕ) → i < length bytes
-      → sets (set out (at + i) (get_or bytes i 0)) (at + (i + 1)) (drop (i + 1) bytes) ≡ sets out (at + i) (drop i bytes)
+      → sets (set out (at + i) (get_or bytes i 0)) (at + (i + 1)) (drop (i + 1) bytes)
+      ≡ sets out (at + i) (drop i bytes)
   put_next i h =
       let e : at + suc i ≡ suc (at + i) = omega arith in
       rw (add-one, e, drop-cons bytes i 0)

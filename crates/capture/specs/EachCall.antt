@@ -116,7 +116,8 @@ pub record RecordSaid (place : ℕ) (b : List ℕ) : Type 0 where
   pub after_head : 5 ≤ place
   pub within : size_of b ≤ length b
   pub is_record : IsRecord (take (size_of b) b)
-  pub answer : next_of place b ≡ outcome (row 1 (size_of b ∷ direction_of b ∷ milliseconds_of b ∷ [])) (place + size_of b)
+  pub answer : next_of place b
+      ≡ outcome (row 1 (size_of b ∷ direction_of b ∷ milliseconds_of b ∷ [])) (place + size_of b)
 
 -- by the answer's number
 pub record NextSays (place : ℕ) (b : List ℕ) : Type 0 where

@@ -36,7 +36,8 @@ record_in direction place b =
 
 -- its first byte is tested as soon as it is there; a missing one reads as 0
 abbrev pub record_of : ℕ → List ℕ → Outcome ℕ
-record_of place b = cond (ltb 1 (direction_of b)) (outcome (row 53 (place ∷ [])) place) (record_in (direction_of b) place b)
+record_of place b =
+    cond (ltb 1 (direction_of b)) (outcome (row 53 (place ∷ [])) place) (record_in (direction_of b) place b)
 
 -- a call of `next`
 abbrev pub next_of : ℕ → List ℕ → Outcome ℕ

@@ -33,7 +33,8 @@ unasked g = outcome (row 0 []) g.link
 -- and where the frame is
 abbrev pub received : ℕ → ℕ → Given → List ℕ → Outcome Link
 received first max g body =
-    outcome (ended_in (receive_of first max g.link (command_of body) (number_of body)).row) (link_after first max g body)
+    outcome (ended_in (receive_of first max g.link (command_of body) (number_of body)).row)
+    (link_after first max g body)
 
 module _ (limit first max : ℕ) (g : Given) (body : List ℕ) where
   abbrev heard : Outcome Link

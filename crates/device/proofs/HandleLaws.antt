@@ -173,6 +173,7 @@ module _ (limit first max : ℕ) (answer : Row) (body : List ℕ) (t : Transfer)
   unfolding handle_of
   answered linked ranged reply said p q =
       ap (λ (w : Output). answer_of limit first max w said body t clock piece buffer) p
-      ∙ ap (λ (y : Outcome Link). answer_of limit first max (reply_of limit answer body out) y body t clock piece buffer)
+      ∙ ap (λ (y : Outcome Link). answer_of limit first max (reply_of limit answer body out) y body t clock piece
+      buffer)
       q
       ∙ rw (linked, ranged)

@@ -74,7 +74,8 @@ out_by l e =
 in_by : (l : Link) → InRange l (ticking 0) → in_range first_number max_repeats l ≡ true
 in_by l h =
     either_way (in_range first_number max_repeats l) (λ e. e)
-    λ e. absurd (h (ap (λ (r : Row). r.number) ((refused_unchanged first_number max_repeats l (ticking 0)).out_state e)))
+    λ e. absurd
+    (h (ap (λ (r : Row). r.number) ((refused_unchanged first_number max_repeats l (ticking 0)).out_state e)))
 
 pub idle_in : (next : ℕ) → in_range first_number max_repeats (link_of next Idle) ≡ true
 idle_in next = in_by (link_of next Idle) ((link_ranges.each (ticking 0)).idle_in next)

@@ -163,7 +163,8 @@ pub record WorkedFrames (v : List ℕ) : Type 0 where
       ≡ shows (row 0 (10 ∷ 18 ∷ 1 ∷ 15 ∷ [])) (row 0 []) Absent reporting no_piece (rejection 7 1 0x20)
   -- SHORT, and every other answer: nothing
   pub short :
-      leaves_into 24 reporting (row 11 v) (reply06 7) ≡ shows (row 0 []) (row 0 []) Absent reporting no_piece (written [])
+      leaves_into 24 reporting (row 11 v) (reply06 7)
+      ≡ shows (row 0 []) (row 0 []) Absent reporting no_piece (written [])
   -- three repeats are out of range: STATE, for SUM too
   pub state :
       leaves_into 24 (link_of 8 (Waiting 0x05 7 100 3)) (row 15 v) (reply06 7)

@@ -73,7 +73,8 @@ examples =
     ∷ entry 3 (frame_written 0x07 0xF3 0 [] (zeros 10)) (output (row 0 (10 ∷ [])) bytes3)
     ∷ entry 3 (bytes_fed bytes3)
     (held (row 1 (10 ∷ 0 ∷ 10 ∷ [])) (0x00 ∷ 0x05 ∷ 0x07 ∷ 0xF3 ∷ 0x00 ∷ 0x00 ∷ 0xFF ∷ []) 0x07 0xF3 0 [])
-    ∷ entry 3 (bytes_fed (0xFF ∷ 0xFF ∷ 0x00 ∷ 0x05 ∷ 0x07 ∷ 0xF3 ∷ 0x00 ∷ 0x00 ∷ 0xFF ∷ [])) (answered (row 0 (9 ∷ [])))
+    ∷ entry 3 (bytes_fed (0xFF ∷ 0xFF ∷ 0x00 ∷ 0x05 ∷ 0x07 ∷ 0xF3 ∷ 0x00 ∷ 0x00 ∷ 0xFF ∷ []))
+    (answered (row 0 (9 ∷ [])))
     -- 4: a report
     ∷ entry 4 (message_written report 2 0 [] (zeros 19)) (output (row 0 (19 ∷ [])) bytes4)
     ∷ entry 4 (bytes_fed bytes4) (held (row 1 (19 ∷ 0 ∷ 19 ∷ []))

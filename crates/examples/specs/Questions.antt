@@ -1,5 +1,6 @@
 -- Statement: what an example asks of the definitions of the three layers, and what they answer. PROTOCOL 11.
--- Each definition is one that the contract of a public call states, at the limit of 1,024 (`read_of` is the row of one).
+-- Each definition is one that the contract of a public call states, at the limit of 1,024 (`read_of` is the row of
+-- one).
 -- They are of the models, held by stream_correct, writer_exact, reads_exactly and send_exactly.
 use Rattle.std.specs.Prelude.{ℕ, Bool, cond, ◌||◌, List, eqb}
 use Rattle.frame.specs.Wire.{frame_limit, command_of, number_of, flags_of, payload_of}

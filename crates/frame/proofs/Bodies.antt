@@ -119,7 +119,8 @@ whole_held body h v k full =
 pub broken_cases : (P : Verdict → Type 0) (filled x : ℕ) → (filled < head_size → P (Stuff x))
     → (head_size ≤ filled → P (StuffLate x)) → P (broken_of filled x)
 broken_cases P filled x early late =
-    by_test P (ltb filled head_size) (λ t. early (ltb-true filled head_size t)) (λ t. late (ltb-false filled head_size t))
+    by_test P (ltb filled head_size) (λ t. early (ltb-true filled head_size t))
+    (λ t. late (ltb-false filled head_size t))
 
 -- the byte v, after the body bytes b so far
 module _ {limit : ℕ} {b : List ℕ} (s : Scan) (p : Partial limit s.filled s.length s.sum b) (v : ℕ)

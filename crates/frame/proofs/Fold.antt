@@ -159,7 +159,8 @@ pub record Kept (limit : ℕ) (r q : State) (xs : List ℕ) : Type 0 where
   pub holds : Inv limit q
   pub place : q.scan.consumed ≡ r.scan.consumed + length xs
 
-pub kept : (limit : ℕ) → limit ≤ 65279 → (xs : List ℕ) (r : State) → Inv limit r → Kept limit r (after_all limit r xs) xs
+pub kept : (limit : ℕ) → limit ≤ 65279 → (xs : List ℕ) (r : State) → Inv limit r
+    → Kept limit r (after_all limit r xs) xs
 unfolding after_all
 kept limit small [] r i = record { holds = i; place = omega arith }
 kept limit small (x ∷ xs) r i =

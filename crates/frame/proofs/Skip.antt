@@ -19,7 +19,8 @@ module _ (limit : ℕ) where
   pub pass_other : (n x : ℕ) (t : List ℕ) → x ≢ 255 → frames_from limit n (x ∷ t) ≡ frames_from limit (suc n) t
   pass_other n x t h = pass n x t (here_none limit (x ∷ t) (λ b f. h (head-eq_of_cons-eq f.bytes)))
 
-  pub pass_pair : (n x y : ℕ) (t : List ℕ) → y ≢ 255 → frames_from limit n (x ∷ y ∷ t) ≡ frames_from limit (suc n) (y ∷ t)
+  pub pass_pair : (n x y : ℕ) (t : List ℕ) → y ≢ 255 → frames_from limit n (x ∷ y ∷ t)
+      ≡ frames_from limit (suc n) (y ∷ t)
   pass_pair n x y t h =
       pass n x (y ∷ t) (here_none limit (x ∷ y ∷ t) (λ b f. h (head-eq_of_cons-eq (tail-eq_of_cons-eq f.bytes))))
 

@@ -94,7 +94,8 @@ module _ {limit : ℕ} {bytes : List ℕ} {r₀ r : State} {i : ℕ} (at : At li
 -- ---- a state in range
 
 -- a state in range, with room for what may still be consumed
-pub is_in_range : (limit : ℕ) (s : Scan) → limit ≤ 65279 → in_range_of limit s ≡ true → Ready limit s (2 ^ 62 - s.consumed)
+pub is_in_range : (limit : ℕ) (s : Scan) → limit ≤ 65279 → in_range_of limit s ≡ true
+    → Ready limit s (2 ^ 62 - s.consumed)
 is_in_range limit s l e =
     let ranges = both (leb s.consumed max_consumed) e in
     let consumed : s.consumed ≤ max_consumed = leb-true _ _ ranges.0 in

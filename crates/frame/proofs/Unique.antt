@@ -36,8 +36,10 @@ lists_unique limit t l k a b =
     (λ f m. b.complete f (a.sound f m)) (λ f m. a.complete f (b.sound f m))
 
 pub one_list : OneList
-one_list limit small t =
-    (frames_of_lists limit small t, (λ l a. lists_unique limit t l (frames_of limit t) a (frames_of_lists limit small t)))
+one_list limit small t = (
+  frames_of_lists limit small t,
+  (λ l a. lists_unique limit t l (frames_of limit t) a (frames_of_lists limit small t)),
+)
 
 -- where a decision starts
 abbrev decision_start : Decision → ℕ

@@ -31,7 +31,8 @@ abbrev pub RoundTrip : Type 0
 RoundTrip =
     (limit : ℕ) → limit ≤ widest → (command number flags : ℕ) (payload : List ℕ) → length payload + 5 ≤ limit
     → (earlier later : List Call)
-    → stream (log_of limit (state_after limit (fresh_of limit) earlier) later) ≡ wire (body_of command number flags payload)
+    → stream (log_of limit (state_after limit (fresh_of limit) earlier) later)
+    ≡ wire (body_of command number flags payload)
     → ReadBack (length (stream (log_of limit (fresh_of limit) earlier))) command number flags payload
     (log_of limit (state_after limit (fresh_of limit) earlier) later)
 

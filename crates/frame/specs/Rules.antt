@@ -92,7 +92,8 @@ completed_of s v = cond (v == s.sum) (ended_of s v Frame) (ended_of s v (Sum v s
 
 -- SHORT and LONG: PROTOCOL 3.12
 abbrev pub measured_of : ℕ → Scan → ℕ → ℕ → Step
-measured_of limit s l v = cond (nat_lt l 5) (ended_of s v Short) (cond (nat_lt limit l) (ended_of s v Long) (grown_of s l v))
+measured_of limit s l v =
+    cond (nat_lt l 5) (ended_of s v Short) (cond (nat_lt limit l) (ended_of s v Long) (grown_of s l v))
 
 -- the body byte v: PROTOCOL 3.12 to 3.14. The second test against the limit is for a record that a
 -- caller made up: PROTOCOL 3.18

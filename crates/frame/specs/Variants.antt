@@ -22,9 +22,12 @@ wire_place n = record { 0 = n }
 -- bytes consumed in all
 pub record NamedRows : Type 0 where
   pub more : (c : ℕ) → row_of (answer.More c) ≡ row 0 (c ∷ [])
-  pub frame : (c s e : ℕ) → row_of (answer.Decided c (wire_place s) (wire_place e) verdict.Frame) ≡ row 1 (c ∷ s ∷ e ∷ [])
-  pub short : (c s e : ℕ) → row_of (answer.Decided c (wire_place s) (wire_place e) verdict.Short) ≡ row 11 (c ∷ s ∷ e ∷ [])
-  pub long : (c s e : ℕ) → row_of (answer.Decided c (wire_place s) (wire_place e) verdict.Long) ≡ row 12 (c ∷ s ∷ e ∷ [])
+  pub frame : (c s e : ℕ) → row_of (answer.Decided c (wire_place s) (wire_place e) verdict.Frame)
+      ≡ row 1 (c ∷ s ∷ e ∷ [])
+  pub short : (c s e : ℕ) → row_of (answer.Decided c (wire_place s) (wire_place e) verdict.Short)
+      ≡ row 11 (c ∷ s ∷ e ∷ [])
+  pub long : (c s e : ℕ) → row_of (answer.Decided c (wire_place s) (wire_place e) verdict.Long)
+      ≡ row 12 (c ∷ s ∷ e ∷ [])
   pub stuff : (c s e x : ℕ)
       → row_of (answer.Decided c (wire_place s) (wire_place e) (verdict.Stuff x)) ≡ row 13 (c ∷ s ∷ e ∷ x ∷ [])
   pub stuff_late : (c s e x : ℕ)

@@ -105,7 +105,8 @@ found_at e es t false false p q (inl n) = inl (n.0, rw q n.1)
 found : (t : Bool) (es : List Entry) → waits_after t es ≡ true → Found t es
 unfolding waits_after none_ends
 found t [] h = inl (h, refl)
-found t (e ∷ es) h = found_at e es t (accepted e) (ended e) refl refl (found (cond (accepted e) true (cond (ended e) false t)) es h)
+found t (e ∷ es) h =
+    found_at e es t (accepted e) (ended e) refl refl (found (cond (accepted e) true (cond (ended e) false t)) es h)
 
 -- nothing waits before a whole log
 accepted_in_lem : {es : List Entry} → Found false es → OpenWait es

@@ -78,7 +78,8 @@ module _ (first max : ℕ) where
   unfolding numbers_used waits_after
   stands k w t [] rest i f = record { wait = w; idle = i; follows = rw add-zero f }
   stands k w t (e ∷ before) rest i f =
-      let b = stands (count_after e k) (wait_after e w) (cond (accepted e) true (cond (ended e) false t)) before rest (idle_after_lem e w t _ _ refl refl i) f.1 in
+      let b = stands (count_after e k) (wait_after e w) (cond (accepted e) true (cond (ended e) false t)) before rest
+      (idle_after_lem e w t _ _ refl refl i) f.1 in
       let count = one_more length (accepted e) k (numbers_used before) (number_in e ∷ numbers_used before) refl in
       record { wait = b.wait; idle = b.idle; follows = rw count at b.follows }
 
@@ -103,7 +104,8 @@ module _ (first max : ℕ) where
       let a : accepted e ≡ false = f.0.shown.0 in
       let n = none_ends_lem (ended e) q in
       let i =
-      waited k command number (sent_after sent e) (cond (repeated e) (repeats + 1) repeats) during rest (simp (a, n.0) at f.0.holds) (simp (a, n.0) at f.1) n.1 in
+      waited k command number (sent_after sent e) (cond (repeated e) (repeats + 1) repeats) during rest
+      (simp (a, n.0) at f.0.holds) (simp (a, n.0) at f.1) n.1 in
       let count = one_more (λ (m : ℕ). m) (repeated e) repeats (repeats_in during) (suc (repeats_in during)) refl in
       record {
         few = rw count at i.few;

@@ -51,7 +51,8 @@ following_of first number = cond (number == 255) first (number + 1)
 -- the ranges of what waits; the clock of the last sending is free: PROTOCOL 9.15
 abbrev pub wait_in_range : ℕ → ℕ → Wait → Bool
 wait_in_range first max Idle = true
-wait_in_range first max (Waiting command number sent repeats) = nat_le first number && (nat_le repeats max && may_wait command)
+wait_in_range first max (Waiting command number sent repeats) =
+    nat_le first number && (nat_le repeats max && may_wait command)
 
 -- the ranges of a link: PROTOCOL 9.15. A link in range that no fresh one becomes has the same equations
 abbrev pub in_range : ℕ → ℕ → Link → Bool

@@ -24,7 +24,8 @@ idle_row first k (receiving command number) = stray_row
 abbrev pub waiting_row : ℕ → ℕ → ℕ → ℕ → ℕ → Call → Row
 waiting_row max waiting under sent repeats (offering command clock) = cond (may_wait command) busy_row unsent_row
 waiting_row max waiting under sent repeats (ticking clock) =
-    cond (is_due clock sent) (cond (nat_lt repeats max) (again_row waiting under) (given_up_row waiting under)) nothing_row
+    cond (is_due clock sent) (cond (nat_lt repeats max) (again_row waiting under) (given_up_row waiting under))
+    nothing_row
 waiting_row max waiting under sent repeats (receiving command number) =
     cond (command == waiting + 1 && number == under) (replied_row waiting under) stray_row
 

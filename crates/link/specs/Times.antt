@@ -15,7 +15,8 @@ ElapsedTimes = (clock since : ℕ) → clock < 2 ^ 32 → since < 2 ^ 32 → Ela
 -- ---- due_ahead: a clock that advanced by less than 2^32 is due exactly from 200 to below 2^31, over a wrap too
 abbrev pub DueAhead : Type 0
 DueAhead =
-    (sent by : ℕ) → sent < 2 ^ 32 → by < 2 ^ 32 → is_due ((sent + by) % 2 ^ 32) sent ≡ (nat_le 200 by && nat_lt by (2 ^ 31))
+    (sent by : ℕ) → sent < 2 ^ 32 → by < 2 ^ 32 → is_due ((sent + by) % 2 ^ 32) sent
+    ≡ (nat_le 200 by && nat_lt by (2 ^ 31))
 
 -- ---- never_due_backward: a clock that was set back by up to 2^31 since the last sending is not due: PROTOCOL 9.4
 abbrev pub NeverDueBackward : Type 0

@@ -50,7 +50,8 @@ pub record WorkedRun : Type 0 where
 
 -- a report sent at clock 0, and ticks
 abbrev pub wait_log : List Call → List Entry
-wait_log ticks = log_of first_number max_repeats (offer_of first_number max_repeats (fresh_of first_number) 0x05 0).state ticks
+wait_log ticks =
+    log_of first_number max_repeats (offer_of first_number max_repeats (fresh_of first_number) 0x05 0).state ticks
 
 -- those at 200 and 400 are due
 abbrev pub two_due : List Entry

@@ -75,7 +75,8 @@ module _ (l : List ℕ) (i : ℕ) (h : i < length l) where
 
   -- what is put: the space, the number, and the others after it
   pub columns_put : (out : List ℕ) (next : ℕ)
-      → sets (sets (set out next 32) (next + 1) (decimal_of (get_or l i 0))) (next + 1 + length (decimal_of (get_or l i 0)))
+      → sets (sets (set out next 32) (next + 1) (decimal_of (get_or l i 0)))
+      (next + 1 + length (decimal_of (get_or l i 0)))
       (columns_of (drop (i + 1) l))
       ≡ sets out next (columns_of (drop i l))
   columns_put out next = rw (columns_left, add-one next, sets-append)

@@ -23,7 +23,8 @@ use Rattle.listing.proofs.WholeListing.{only_joined, only_offered}
 
 module _ (limit : ℕ) where
   -- the states, and the logs
-  after_both : (a b : List Call) (r : State) → state_after limit r (a ++ b) ≡ state_after limit (state_after limit r a) b
+  after_both : (a b : List Call) (r : State) → state_after limit r (a ++ b)
+      ≡ state_after limit (state_after limit r a) b
   unfolding state_after
   after_both [] b r = refl
   after_both (c ∷ a) b r = after_both a b (call_of limit r c).state
@@ -100,7 +101,8 @@ run_adds prefix limit small calls only bytes room =
           ∙ (stream_both earlier later ∙ ap (λ (t : List ℕ). stream earlier ++ t) l.consumed_is);
       decisions_are = decisions;
       text_is = l.text_is
-          ∙ append_cancel (feed_text prefix earlier) (feed_text prefix later) (decisions_text prefix (decisions_of later))
+          ∙ append_cancel (feed_text prefix earlier) (feed_text prefix later)
+          (decisions_text prefix (decisions_of later))
           (lines
           ∙ ap (λ (t : List ℕ). t ++ decisions_text prefix (decisions_of later))
           (sym (each_listed prefix limit small calls)));

@@ -32,13 +32,15 @@ OneListing =
 abbrev pub SentListing : Type 0
 SentListing =
     (prefix : List ℕ) (limit : ℕ) → limit ≤ widest → (pieces : List (List ℕ)) → length (joined pieces) ≤ 2 ^ 62
-    → IsListing prefix limit (joined pieces) (listing_of prefix limit (send limit (fresh_of limit) pieces ++ finish ∷ []))
+    → IsListing prefix limit (joined pieces)
+    (listing_of prefix limit (send limit (fresh_of limit) pieces ++ finish ∷ []))
 
 -- ---- any_cut: the same bytes have the same listing, however they are cut, into calls that consume them or into
 -- pieces that are sent: PROTOCOL 10.7
 pub record AnyCut (prefix : List ℕ) (limit : ℕ) : Type 0 where
   pub calls : (ps qs : List Call)
-      → OnlyFeed ps → OnlyFeed qs → stream (log_of limit (fresh_of limit) ps) ≡ stream (log_of limit (fresh_of limit) qs)
+      → OnlyFeed ps → OnlyFeed qs → stream (log_of limit (fresh_of limit) ps)
+      ≡ stream (log_of limit (fresh_of limit) qs)
       → listing_of prefix limit (ps ++ finish ∷ []) ≡ listing_of prefix limit (qs ++ finish ∷ [])
   pub pieces : (ps qs : List (List ℕ)) → joined ps ≡ joined qs → length (joined ps) ≤ 2 ^ 62
       → listing_of prefix limit (send limit (fresh_of limit) ps ++ finish ∷ [])

@@ -95,7 +95,8 @@ pub record WorkedLoop : Type 0 where
 -- ---- worked_turns: two calls of the loop over the example's stream, the first with room for one line; what they used
 -- and wrote, and that they were offered the front of what was left
 abbrev pub example_turns : List Turn
-example_turns = record { bytes = example_stream; room = 132 } ∷ record { bytes = drop 10 example_stream; room = 500 } ∷ []
+example_turns =
+    record { bytes = example_stream; room = 132 } ∷ record { bytes = drop 10 example_stream; room = 500 } ∷ []
 
 -- wrong: the second call is offered the same bytes again
 abbrev pub same_turns : List Turn

@@ -126,7 +126,8 @@ command_lists =
 
 pub box_listed : BoxListed
 unfolding among table profile_in
-box_listed c h = agree (λ c. is_listed (kind_of c)) (λ _. true) box_commands c refl (sym (command_lists.from_box_is c) ∙ h)
+box_listed c h =
+    agree (λ c. is_listed (kind_of c)) (λ _. true) box_commands c refl (sym (command_lists.from_box_is c) ∙ h)
 
 -- a command that is handed to the caller is listed, and the module sends it
 module _ (c : ℕ) (h : handed (owed_of c) ≡ true) where

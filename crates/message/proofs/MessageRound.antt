@@ -45,7 +45,8 @@ wrote limit command number flags payload out count e = go (ltb limit (length pay
     written large narrow = cond large (output (row 21 (0 ∷ [])) out)
         (cond narrow (output (row 22 (length w ∷ [])) out) (output (row 0 (length w ∷ [])) (onto w out)))
 
-    go : (large narrow : Bool) → ltb limit (length payload + 5) ≡ large → (written large narrow).row ≡ row 0 (count ∷ [])
+    go : (large narrow : Bool) → ltb limit (length payload + 5) ≡ large → (written large narrow).row
+        ≡ row 0 (count ∷ [])
         → Wrote limit payload w count (written large narrow)
     go true narrow q e = refused e
     go false true q e = refused e
@@ -59,13 +60,15 @@ wrote limit command number flags payload out count e = go (ltb limit (length pay
 module _ (limit : ℕ) (m : Message) (number flags count : ℕ) (opaque out : List ℕ) where
   pub record SentFrame (o : Output) : Type 0 where
     pub writable : Writable m opaque
-    pub frame : Wrote limit (payload_in m opaque) (wire (body_of (command_in m) number flags (payload_in m opaque))) count o
+    pub frame : Wrote limit (payload_in m opaque) (wire (body_of (command_in m) number flags (payload_in m opaque)))
+        count o
 
   pub sent : (send_of limit m number flags opaque out).row ≡ row 0 (count ∷ [])
       → SentFrame (send_of limit m number flags opaque out)
   sent e =
       let o : Output = write_of limit (command_in m) number flags (payload_in m opaque) out in
-      let t = passed (λ (w : Output). w.row) (λ n. output (row n []) out) (λ n. refl) (is_listed (kind_of (command_in m)))
+      let t = passed (λ (w : Output). w.row) (λ n. output (row n []) out) (λ n. refl)
+      (is_listed (kind_of (command_in m)))
       (opaque_fits m (length opaque)) (allowed_in m) o e in
       let written : o.row ≡ row 0 (count ∷ []) = ap (λ (w : Output). w.row) (sym t.3) ∙ e in
       record {

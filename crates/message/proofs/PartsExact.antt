@@ -29,7 +29,8 @@ Spared r = r.row.number ≢ 0 → None r
 
 module _ (k : Kind) (command : ℕ) (p : List ℕ) where
   -- what is read has its kind's
-  read_parts : is_listed k ≡ true → size_fits k p ≡ true → allowed k p ≡ true → (decode_as k command p).parts ≡ parts_in k p
+  read_parts : is_listed k ≡ true → size_fits k p ≡ true → allowed k p ≡ true → (decode_as k command p).parts
+      ≡ parts_in k p
   read_parts l s a = rw (l, s, a)
 
   -- what is refused has none

@@ -61,7 +61,8 @@ pub control_read :
     → control_values (drop 1 p) ≡ control_in c
 control_read p c a =
     let first : get_or p 0 0 ≡ 1 = value 1 a.values in
-    let values : cond (eqb (get_or p 0 0) 1) (control_values (drop 1 p)) [] ≡ control_in c = ap (λ (l : List ℕ). drop 2 l)
+    let values : cond (eqb (get_or p 0 0) 1) (control_values (drop 1 p)) [] ≡ control_in c =
+    ap (λ (l : List ℕ). drop 2 l)
     a.values in
     rw first at values
 

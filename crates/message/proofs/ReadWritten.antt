@@ -69,7 +69,8 @@ module _ (p : List ℕ) (bytes : (i : ℕ) → get_or p i 0 < 256) where
   may_write (message.Piece index total) a = record { listed = refl; sized = refl; allows = refl }
 
   -- the payload and what is written again are read alike
-  again : (m : Message) → Accepted (kind_of (command_in m)) (command_in m) p (message_in m) → ReadWritten (command_in m) p m
+  again : (m : Message) → Accepted (kind_of (command_in m)) (command_in m) p (message_in m)
+      → ReadWritten (command_in m) p m
   again m a =
       let w : Writable m (opaque_of (command_in m) p) = may_write m a in
       let written = written_read m (opaque_of (command_in m) p) w in

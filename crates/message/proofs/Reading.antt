@@ -48,7 +48,8 @@ pub fits_counted : (before after : ℕ) (p : List ℕ)
 unfolding fits
 fits_counted before after p = ap (eqb (length p)) (omega arith)
 
-pub size_fits_lem : (k : Kind) (p : List ℕ) → size_fits k p ≡ (fits (sizes_of k) p && fits (chosen_of k (get_or p 0 0)) p)
+pub size_fits_lem : (k : Kind) (p : List ℕ) → size_fits k p
+    ≡ (fits (sizes_of k) p && fits (chosen_of k (get_or p 0 0)) p)
 unfolding size_fits
 size_fits_lem k p = refl
 
@@ -107,7 +108,8 @@ checked_one k command n p a values f size any listed none allows e =
 -- one byte, which was tested and stands for a value
 pub checked_byte :
     (k : Kind) (command n : ℕ) (p : List ℕ) {r : Read} (byte number : ℕ) (a : Bool)
-    → r ≡ checked_of (eqb (length p) n) a (command ∷ number ∷ []) no_parts → byte ≡ get_or p 0 0 → a ≡ allowed k (byte ∷ [])
+    → r ≡ checked_of (eqb (length p) n) a (command ∷ number ∷ []) no_parts → byte ≡ get_or p 0 0 → a
+    ≡ allowed k (byte ∷ [])
     → (allowed k (byte ∷ []) ≡ true → number ≡ byte)
     → sizes_of k ≡ exactly (n ∷ []) → chosen_of k (get_or p 0 0) ≡ from 0 → is_listed k ≡ true → parts_in k p ≡ no_parts
     → allowed k p ≡ allowed k (get_or p 0 0 ∷ []) → values_of k p ≡ get_or p 0 0 ∷ [] → r ≡ decode_as k command p

@@ -46,7 +46,8 @@ unlisted : (k : Kind) (command : ℕ) (p : List ℕ) → is_listed k ≡ false �
 unlisted k command p e = rw e
 
 -- the row of a command whose kind is known
-as_kind : (k : Kind) (command : ℕ) → kind_of command ≡ k → (p : List ℕ) → read_of command p ≡ (decode_as k command p).row
+as_kind : (k : Kind) (command : ℕ) → kind_of command ≡ k → (p : List ℕ) → read_of command p
+    ≡ (decode_as k command p).row
 as_kind k command is p = ap (λ (k : Kind). (decode_as k command p).row) is
 
 -- ---- numbers

@@ -51,7 +51,8 @@ unfilled false v e = absurd (cons≢nil e)
 
 -- ---- a control
 
-control_spelt : (c : Control) (f v h l : ℕ) → f < 8 → v < 8 → l < 256 → control_values (f ∷ v ∷ h ∷ l ∷ []) ≡ control_in c
+control_spelt : (c : Control) (f v h l : ℕ) → f < 8 → v < 8 → l < 256 → control_values (f ∷ v ∷ h ∷ l ∷ [])
+    ≡ control_in c
     → control_bytes c ≡ f ∷ ((f % 2) * (v % 2) + (f / 2 % 2) * (v / 2) * 2) ∷ (f / 4) * h ∷ (f / 4) * l ∷ []
 control_spelt c f v h l small-f small-v small-l e =
     let lamp = flagged c.flags.lamp _ _ _ (value 0 e) (value 3 e) in
@@ -186,7 +187,8 @@ module _ (p : List ℕ) (bytes : (i : ℕ) → get_or p i 0 < 256) where
       ≡ get_or p 1 0 ∷ ((get_or p 1 0 % 2) * (get_or p 2 0 % 2) + (get_or p 1 0 / 2 % 2) * (get_or p 2 0 / 2) * 2)
       ∷ (get_or p 1 0 / 4) * get_or p 3 0 ∷ (get_or p 1 0 / 4) * get_or p 4 0 ∷ []
   control_same c h e =
-      let flags : get_or p 1 0 < 8 = ltb-true _ _ (rw (get_or-drop 1 p 0 0) at (both (ltb (get_or (drop 1 p) 0 0) 8) h).0) in
+      let flags : get_or p 1 0 < 8 =
+      ltb-true _ _ (rw (get_or-drop 1 p 0 0) at (both (ltb (get_or (drop 1 p) 0 0) 8) h).0) in
       let rest = (both (ltb (get_or (drop 1 p) 1 0) 8) (both (ltb (get_or (drop 1 p) 0 0) 8) h).1).0 in
       let values : get_or p 2 0 < 8 = ltb-true _ _ (rw (get_or-drop 1 p 1 0) at rest) in
       control_spelt c (get_or p 1 0) (get_or p 2 0) (get_or p 3 0) (get_or p 4 0) flags values (bytes 4)

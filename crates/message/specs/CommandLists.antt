@@ -44,7 +44,8 @@ pub record CommandLists : Type 0 where
   pub sizes : map (λ e. e.sizes) table ≡ map (λ e. sizes_of e.profile.kind) table
   pub box : sent_by_box table ≡ box_commands
   pub from_box_is : (command : ℕ) → from_box command ≡ among command box_commands
-  pub listed : (command : ℕ) → is_listed (kind_of command) ≡ (among command empty_commands || among command other_commands)
+  pub listed : (command : ℕ) → is_listed (kind_of command)
+      ≡ (among command empty_commands || among command other_commands)
   pub empty : (command : ℕ) → among command empty_commands ≡ true → kind_of command ≡ kind.Empty
   pub others :
       map kind_of other_commands

@@ -119,7 +119,8 @@ form_of (message.Information timeout more) =
     opaque_form 0x02 (information_in timeout more) (λ n. eqb n (information_opaque more))
     (information_bytes (information_numbers timeout more))
 form_of (message.Control control) =
-    bare_read 0x03 (1 ∷ control_in control) (1 ∷ control_in (effective_control control)) true (1 ∷ control_bytes control)
+    bare_read 0x03 (1 ∷ control_in control) (1 ∷ control_in (effective_control control)) true
+    (1 ∷ control_bytes control)
 form_of message.Query = bare 0x03 (2 ∷ []) true (2 ∷ [])
 form_of (message.Status status) = bare 0x04 (3 ∷ status_in status) true (3 ∷ status_bytes status)
 form_of (message.Report status) = bare 0x05 (4 ∷ status_in status) true (4 ∷ status_bytes status)

@@ -31,5 +31,6 @@ pub record ReadWritten (command : ℕ) (p : List ℕ) (m : Message) : Type 0 whe
 -- of every command and every payload of bytes
 abbrev pub ReadsWritten : Type 0
 ReadsWritten =
-    (command : ℕ) (p : List ℕ) → ((i : ℕ) → get_or p i 0 < 256) → (m : Message) → read_of command p ≡ row 0 (message_in m)
+    (command : ℕ) (p : List ℕ) → ((i : ℕ) → get_or p i 0 < 256) → (m : Message) → read_of command p
+    ≡ row 0 (message_in m)
     → ReadWritten command p m

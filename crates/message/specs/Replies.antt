@@ -29,7 +29,8 @@ with_cause cause w = rowed (λ count. row 0 (count ∷ 0x12 ∷ code_number (cod
 
 -- 12 with a code, under the received sequence number
 abbrev pub reject_of : ℕ → Cause → ℕ → List ℕ → Output
-reject_of limit cause number out = with_cause cause (write_of limit 0x12 number 0 (code_number (code_for cause) ∷ []) out)
+reject_of limit cause number out =
+    with_cause cause (write_of limit 0x12 number 0 (code_number (code_for cause) ∷ []) out)
 
 -- ---- the reply
 

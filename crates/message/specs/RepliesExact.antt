@@ -116,7 +116,8 @@ pub record RepliesInto (limit : ℕ) (out : List ℕ) : Type 0 where
   pub is_delivered :
       (v body : List ℕ)
       → ReplyExact limit (command_of body) (number_of body) (payload_of body) out (reply_of limit (row 1 v) body out)
-  pub wrong_sum_lem : (v body : List ℕ) → RejectedWith limit (number_of body) 1 15 out (reply_of limit (row 15 v) body out)
+  pub wrong_sum_lem : (v body : List ℕ)
+      → RejectedWith limit (number_of body) 1 15 out (reply_of limit (row 15 v) body out)
 
 -- into every buffer, under every limit that allows a payload of one byte
 abbrev pub RepliesExact : Type 0

@@ -24,5 +24,6 @@ pub record Again (command : ℕ) (p : List ℕ) (m : Message) : Type 0 where
 -- of every command and every payload of bytes
 abbrev pub SameBytes : Type 0
 SameBytes =
-    (command : ℕ) (p : List ℕ) → ((i : ℕ) → get_or p i 0 < 256) → (m : Message) → read_of command p ≡ row 0 (message_in m)
+    (command : ℕ) (p : List ℕ) → ((i : ℕ) → get_or p i 0 < 256) → (m : Message) → read_of command p
+    ≡ row 0 (message_in m)
     → Again command p m

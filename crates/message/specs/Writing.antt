@@ -25,5 +25,6 @@ send_bare limit allows command number flags opaque payload out =
 -- a message, under a sequence number and flags
 abbrev pub send_of : ℕ → Message → ℕ → ℕ → List ℕ → List ℕ → Output
 send_of limit m number flags opaque out =
-    send_as limit (is_listed (kind_of (command_in m))) (opaque_fits m (length opaque)) (allowed_in m) (command_in m) number
+    send_as limit (is_listed (kind_of (command_in m))) (opaque_fits m (length opaque)) (allowed_in m) (command_in m)
+    number
     flags (payload_in m opaque) out

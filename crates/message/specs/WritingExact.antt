@@ -78,7 +78,8 @@ pub record WritesExactly (opaque : List ℕ) : Type 0 where
       (t : Time) (n : ℕ) → t.unix ≡ unix.Seconds n → payload_in (message.Time t) opaque ≡ time_spelled t (in_four n [])
   pub announcement :
       (size : ℕ)
-      → payload_in (message.Announcement size) opaque ≡ in_four size (length opaque / 256 ∷ length opaque % 256 ∷ opaque)
+      → payload_in (message.Announcement size) opaque
+      ≡ in_four size (length opaque / 256 ∷ length opaque % 256 ∷ opaque)
   pub ready :
       (piece : ℕ)
       → payload_in (message.Ready piece) opaque

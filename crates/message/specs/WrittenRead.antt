@@ -32,4 +32,5 @@ pub record Decodes (m : Message) (opaque : List ℕ) (command : ℕ) (p : List �
 
 -- of every message
 abbrev pub WrittenRead : Type 0
-WrittenRead = (m : Message) (opaque : List ℕ) → Writable m opaque → Decodes m opaque (command_in m) (payload_in m opaque)
+WrittenRead =
+    (m : Message) (opaque : List ℕ) → Writable m opaque → Decodes m opaque (command_in m) (payload_in m opaque)

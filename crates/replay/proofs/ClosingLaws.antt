@@ -105,7 +105,8 @@ module _ (r : Refusal) (place : ℕ) (out : List ℕ) {number : ℕ} (e : number
       → output (unwritten_row_of why) after
       ≡ closed (row (refusal_number r) (place ∷ [])) (refusal_text (refusal_number r) place) out
   refusal_unwritten why put =
-      unwritten_closed (row (refusal_number r) (place ∷ [])) (refusal_text (refusal_number r) place) out why (put ∙ named)
+      unwritten_closed (row (refusal_number r) (place ∷ [])) (refusal_text (refusal_number r) place) out why
+      (put ∙ named)
 
 -- ---- a call of `finish` of a replay in range, by the row of the capture's end
 
@@ -120,5 +121,6 @@ module _ (limit : ℕ) (s : State) (b out : List ℕ) (h : in_range_of limit s �
       rw (whole, refused, le-ltb (length out) 0 (omega arith)) at (ends e)
 
   pub refused_ends : (r : Refusal) (place : ℕ) → row (refusal_number r) (place ∷ []) ≡ end_of s.place b
-      → closed (row (refusal_number r) (place ∷ [])) (refusal_text (refusal_number r) place) out ≡ close_of limit s b out
+      → closed (row (refusal_number r) (place ∷ [])) (refusal_text (refusal_number r) place) out
+      ≡ close_of limit s b out
   refused_ends r place e = rw (refused_text_lem limit s r place) at (ends e)

@@ -500,7 +500,8 @@ module _ (limit : ℕ) (small : limit ≤ widest) (capture : List ℕ) (size : l
         picked_size true l = omega arith
         picked_size false l = omega arith
 
-        lines_text : SameRecord w raw → printed_text (lines_of (direction_of raw) new) ≡ decisions_text (prefix_of d) new
+        lines_text : SameRecord w raw → printed_text (lines_of (direction_of raw) new)
+            ≡ decisions_text (prefix_of d) new
         lines_text same =
             lines_of_text (direction_of raw) new ∙ ap (λ (k : ℕ). decisions_text (prefix_of k) new) (sym same.direction)
 

@@ -163,7 +163,8 @@ module _ (limit : ℕ) (small : limit ≤ widest) (capture : List ℕ) (size : l
 
 pub turns_replay : TurnsReplay
 turns_replay limit small capture size turns a w f =
-    (is_ended limit small capture size (state_by limit (fresh_of limit) turns) (left_by limit (fresh_of limit) capture turns)
+    (is_ended limit small capture size (state_by limit (fresh_of limit) turns)
+    (left_by limit (fresh_of limit) capture turns)
     (text_by limit (fresh_of limit) turns)
     (told_turns limit small capture size turns (fresh_of limit) capture [] (told_nothing limit capture) a) w f).replay
 

@@ -27,7 +27,8 @@ records_more p (v ∷ ws) w =
     ∙ front_first (eqb a.number 1) (take (count_of a) v) (records_by (next_of p v).state ws)
     (add_record (next_of (place_by (next_of p v).state ws) w).row w [])
 
-pub place_more : (p : ℕ) (ws : List (List ℕ)) (w : List ℕ) → place_by p (ws ++ w ∷ []) ≡ (next_of (place_by p ws) w).state
+pub place_more : (p : ℕ) (ws : List (List ℕ)) (w : List ℕ) → place_by p (ws ++ w ∷ [])
+    ≡ (next_of (place_by p ws) w).state
 unfolding place_by
 place_more p [] w = refl
 place_more p (v ∷ ws) w = place_more (next_of p v).state ws w

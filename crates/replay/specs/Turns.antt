@@ -1,5 +1,6 @@
 -- Statement: what several calls of `play`, the turns, and then `finish` write in all. PROTOCOL 14.2 to 14.5.
--- It uses `play_of` and `closing_text` of the models, held by turns_replay, and capture's `end_of`, held by each_finish.
+-- It uses `play_of` and `closing_text` of the models, held by turns_replay, and capture's `end_of`, held by
+-- each_finish.
 use Rattle.std.specs.Prelude.{ℕ, ◌<◌, ◌≡◌, ◌≢◌, ◌⊎◌, List, [], ◌∷◌, ◌++◌, drop}
 use Rattle.capture.specs.Reading.{next_of, end_of}
 use Rattle.replay.specs.Lines.{replay_heading}

@@ -13,7 +13,8 @@ use Rattle.device.specs.Handling.{After, handle_of}
 -- a link is offered a command, ticks, and receives a frame: what it answers to the frame
 abbrev pub link_turn_of : ℕ → ℕ → Link → ℕ → ℕ → ℕ → ℕ → ℕ → Row
 link_turn_of first max l command clock later received number =
-    (receive_of first max (tick_of first max (offer_of first max l command clock).state later).state received number).row
+    (receive_of first max (tick_of first max (offer_of first max l command clock).state later).state received
+    number).row
 
 -- what a fresh reader answers to data, and its state
 abbrev pub fed_of : ℕ → List ℕ → Outcome State

@@ -95,7 +95,8 @@ module _ (limit first max : ℕ) (t : Transfer) (l : Link) (clock : ℕ) (out : 
   pub cancel_busy : eqb r.number 41 ≡ true
       → left (output busy_row out) (both t l) ≡ cancel_of limit first max t l clock out
   cancel_busy b =
-      subst (λ (y : Outcome Link). left (output busy_row out) (both t l) ≡ cancel_with limit first max t l y out) offered
+      subst (λ (y : Outcome Link). left (output busy_row out) (both t l) ≡ cancel_with limit first max t l y out)
+      offered
       (simp (ranged, linked, b))
 
   pub cancel_accepted : eqb r.number 41 ≡ false
@@ -122,7 +123,8 @@ module _ (limit : ℕ) (t : Transfer) (number flags : ℕ) (payload buffer out :
       said ∙ ap (λ (b : Bool). first_refusal (store_tests t flags b index total bytes buffer)) q
       ∙ ap (λ k. first_refusal (store_tests t flags (faulty 0x1D payload) k total bytes buffer)) i
       ∙ ap (λ k. first_refusal (store_tests t flags (faulty 0x1D payload) (index_in payload) k bytes buffer)) s
-      ∙ ap (λ l. first_refusal (store_tests t flags (faulty 0x1D payload) (index_in payload) (total_in payload) l buffer)) d
+      ∙ ap (λ l. first_refusal
+      (store_tests t flags (faulty 0x1D payload) (index_in payload) (total_in payload) l buffer)) d
 
   pub store_accepted : n ≡ 0
       → settled (acknowledged limit 0x1E number out) (held t buffer) (put_in t index bytes buffer)
@@ -136,7 +138,8 @@ module _ (limit : ℕ) (t : Transfer) (number flags : ℕ) (payload buffer out :
       → left (refused_of limit n number out) (held t buffer) ≡ store_of limit t number flags payload buffer out
   store_refused h =
       by_refusal (settled (acknowledged limit 0x1E number out) (held t buffer)
-      (put_in t (index_in payload) (bytes_in payload) buffer)) (λ k. left (refused_of limit k number out) (held t buffer))
+      (put_in t (index_in payload) (bytes_in payload) buffer))
+      (λ k. left (refused_of limit k number out) (held t buffer))
       n _
       store_said h
 
@@ -191,9 +194,11 @@ module _ (limit first max : ℕ) (t : Transfer) (l : Link) (clock number : ℕ) 
       ∙ ap (λ (y : Outcome Link). begin_with limit first max t l y number payload piece room out) offered
 
   pub begin_refused : eqb n 0 ≡ false
-      → left (refused_of limit n number out) (both t l) ≡ begin_of limit first max t l clock number payload piece room out
+      → left (refused_of limit n number out) (both t l)
+      ≡ begin_of limit first max t l clock number payload piece room out
   begin_refused h =
       by_refusal (settled (pair_of limit number l.next piece (code_in payload) out) (both t l)
-      (both (Open (size_in payload) piece 0) next)) (λ k. left (refused_of limit k number out) (both t l)) n _ begin_said
+      (both (Open (size_in payload) piece 0) next)) (λ k. left (refused_of limit k number out) (both t l)) n _
+      begin_said
       h
       ∙ ap (λ (y : Outcome Link). begin_with limit first max t l y number payload piece room out) offered

@@ -434,7 +434,8 @@ module _ (limit : ℕ) (enough : 6 ≤ limit) (number flags : ℕ) (payload buff
       → Rejected _ k number out (held Absent buffer) (store_of limit Absent number flags payload buffer out)
   absent_store k f e a b c =
       rejected limit enough (held Absent buffer) (held Absent buffer) number (acknowledged limit 0x1E number out) out k
-      (first_refusal (store_tests Absent flags (faulty 0x1D payload) (index_in payload) (total_in payload) (bytes_in payload)
+      (first_refusal
+      (store_tests Absent flags (faulty 0x1D payload) (index_in payload) (total_in payload) (bytes_in payload)
       buffer)) (rw f e) a b c
 
 -- a link that is out of range

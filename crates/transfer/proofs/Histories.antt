@@ -73,7 +73,8 @@ module _ (limit first max : ℕ) (t : Transfer) (buffer : List ℕ) (ranged : in
       other : eqb (call_of limit first max t buffer (storing number flags payload out)).row.number 17 ≡ false
       other =
           not_state (held t buffer) (put_in t (index_in payload) (bytes_in payload) buffer) limit
-          (first_refusal (store_tests t flags (faulty 0x1D payload) (index_in payload) (total_in payload) (bytes_in payload)
+          (first_refusal
+          (store_tests t flags (faulty 0x1D payload) (index_in payload) (total_in payload) (bytes_in payload)
           buffer)) number (acknowledged limit 0x1E number out) out
           (rw ranged (other_refusal 17
           (test (faulty 0x1D payload) 32
@@ -88,7 +89,8 @@ module _ (limit first max : ℕ) (t : Transfer) (buffer : List ℕ) (ranged : in
           (acknowledged limit 0x20 number out) out
           (rw ranged (other_refusal 17 (test (faulty 0x1F payload) 32 ∷ []) refl (refl, tt)))
           (acknowledged_other limit 0x20 number out)
-  state_link (cancelling l clock out) e = either_way (in_range first max l) (λ h. absurd (no_state (other h) e)) (λ h. h)
+  state_link (cancelling l clock out) e =
+      either_way (in_range first max l) (λ h. absurd (no_state (other h) e)) (λ h. h)
     where
       other : in_range first max l ≡ true
           → eqb (call_of limit first max t buffer (cancelling l clock out)).row.number 17 ≡ false
@@ -132,12 +134,14 @@ module _ (limit first max : ℕ) where
 
   -- what is told after all calls
   told_after : (a : Account) (t : Transfer) (buffer : List ℕ) → Told a t buffer → (cs : List Call)
-      → Told (account_after a (log_of limit first max t buffer cs)) (transfer_after t (log_of limit first max t buffer cs))
+      → Told (account_after a (log_of limit first max t buffer cs))
+      (transfer_after t (log_of limit first max t buffer cs))
       (buffer_after buffer (log_of limit first max t buffer cs))
   unfolding log_of account_after transfer_after buffer_after
   told_after a t buffer h [] = h
   told_after a t buffer h (c ∷ cs) =
-      told_after (account_step a (entry_of c (call_of limit first max t buffer c))) (call_of limit first max t buffer c).transfer (call_of limit first max t buffer c).buffer
+      told_after (account_step a (entry_of c (call_of limit first max t buffer c)))
+      (call_of limit first max t buffer c).transfer (call_of limit first max t buffer c).buffer
       (keeps a t buffer h c) cs
 
   -- each entry that is STATE

@@ -62,7 +62,8 @@ module _ (flags : ℕ) (payload buffer : List ℕ) where
         let b = sym (bytes_read payload q.0) in
         by_test (λ (y : Held). Holds size piece start (with_piece (piece_in payload) ps) y.transfer y.buffer)
         (eqb (index_in payload) (length ps))
-        (λ e. again_told size piece start ps (Open size piece (length ps)) buffer h (index_in payload) (total_in payload)
+        (λ e. again_told size piece start ps (Open size piece (length ps)) buffer h (index_in payload)
+        (total_in payload)
         (bytes_in payload) a (piece_in payload) i b (eqb-true (index_in payload) (length ps) e))
         (λ e. next_told size piece start ps (Open size piece (length ps)) buffer h (index_in payload) (total_in payload)
         (bytes_in payload) a (piece_in payload) i b (eqb-false (index_in payload) (length ps) e))
@@ -83,7 +84,8 @@ module _ (limit first max : ℕ) (a : Account) (t : Transfer) (buffer : List ℕ
   -- what is told after a call
   abbrev After : Call → Type 0
   After c =
-      Told (account_step a (entry_of c (call_of limit first max t buffer c))) (call_of limit first max t buffer c).transfer
+      Told (account_step a (entry_of c (call_of limit first max t buffer c)))
+      (call_of limit first max t buffer c).transfer
       (call_of limit first max t buffer c).buffer
 
   -- an accepted call moves the account, and another keeps it
@@ -180,7 +182,8 @@ module _ (limit first max : ℕ) (a : Account) (t : Transfer) (buffer : List ℕ
   module _ (number flags : ℕ) (payload out : List ℕ) where
     abbrev store_number : ℕ
     store_number =
-        first_refusal (store_tests t flags (faulty 0x1D payload) (index_in payload) (total_in payload) (bytes_in payload)
+        first_refusal
+        (store_tests t flags (faulty 0x1D payload) (index_in payload) (total_in payload) (bytes_in payload)
         buffer)
 
     abbrev stores : Left Held

@@ -94,7 +94,8 @@ module _ (limit piece number : ℕ) (code rest : List ℕ) (small : limit ≤ 65
         → output payload_row o ≡ write_of limit 0x1B number 0 (ready_payload piece code) rest
     ready_other r h e =
         either_way (countable (length code))
-        (λ c. let z : (send_row_of r).number ≡ (write_of limit 0x1B number 0 (ready_payload piece code) rest).row.number =
+        (λ c. let z : (send_row_of r).number
+        ≡ (write_of limit 0x1B number 0 (ready_payload piece code) rest).row.number =
         ap (λ (v : Output). v.row.number) e
         ∙ ap (λ (v : Output). v.row.number) (ready_sent limit piece number code rest) ∙ rw c in
         absurd (omega (arith, z, high_row r h, low_number limit number (ready_payload piece code) rest)))
@@ -131,7 +132,8 @@ module _ (limit number next piece : ℕ) (code out : List ℕ) where
   -- too long; no room; written
   pub data Sent : Type 0 where
     long : sent ≡ output payload_row (drop from out) → both ≡ output payload_row out → Sent
-    no_room : length (ready_payload piece code) + 5 ≤ limit → sent ≡ output (row 22 (length second ∷ [])) (drop from out)
+    no_room : length (ready_payload piece code) + 5 ≤ limit → sent
+        ≡ output (row 22 (length second ∷ [])) (drop from out)
         → both ≡ output (row 22 ((length first + length second) ∷ [])) out → Sent
     wrote : sent ≡ output (row 0 (length second ∷ [])) (onto second (drop from out)) → from ≡ length first
         → length first + length second ≤ length out
@@ -163,7 +165,8 @@ module _ (limit number next piece : ℕ) (code out : List ℕ) where
           → both ≡ output (began_row (length first + length second) (length first)) (onto (first ++ second) out)
       roomy q =
           pair_put limit number next piece code out h (rw length-append q)
-          ∙ ap (λ (n : ℕ). output (began_row n (length first)) (onto (first ++ second) out)) (length-append first second)
+          ∙ ap (λ (n : ℕ). output (began_row n (length first)) (onto (first ++ second) out))
+          (length-append first second)
 
       not_sent : length (drop from out) < length second → Sent
       not_sent q =

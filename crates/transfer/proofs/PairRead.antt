@@ -234,7 +234,8 @@ module _ (limit number next piece : ℕ) (code : List ℕ) (fits : length (ready
         go [] q = refl
         go (f ∷ l) q =
             let there : Memᴰ f (frames_of limit before ++ (one ∷ other ∷ f ∷ l)) =
-            mathlib.Core.List.Memᴰ.append_right (frames_of limit before) (mathlib.Core.List.Memᴰ.tail (mathlib.Core.List.Memᴰ.tail (mathlib.Core.List.Memᴰ.head refl))) in
+            mathlib.Core.List.Memᴰ.append_right (frames_of limit before)
+            (mathlib.Core.List.Memᴰ.tail (mathlib.Core.List.Memᴰ.tail (mathlib.Core.List.Memᴰ.head refl))) in
             let inside = lies limit (before ++ ((wire accept ++ wire ready) ++ after)) f
             (lists.sound f (subst (λ k. Memᴰ f k) (sym q) there)) in
             let apart = apart_back (frames_of limit before) (one ∷ other ∷ f ∷ l)

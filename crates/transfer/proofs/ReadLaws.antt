@@ -151,7 +151,8 @@ bytes_read p e =
 -- a fault is a wrong size
 pub faulty_19 : (p : List ℕ) → faulty 0x19 p ≡ not (size_fits kind.Announcement p)
 unfolding table profile_in
-faulty_19 p = faulty_by (size_fits kind.Announcement p) (0x19 ∷ four_at p 0 ∷ []) (no_texts (place 6 (two_at p 4)) nowhere)
+faulty_19 p =
+    faulty_by (size_fits kind.Announcement p) (0x19 ∷ four_at p 0 ∷ []) (no_texts (place 6 (two_at p 4)) nowhere)
 
 pub faulty_1d : (p : List ℕ) → faulty 0x1D p ≡ not (size_fits kind.Piece p)
 unfolding table profile_in

@@ -11,7 +11,8 @@ use Rattle.transfer.specs.LogsComputed.{log_of}
 use Rattle.transfer.specs.WorkedTransfers.{WorkedTransfers}
 
 pub worked_transfers : WorkedTransfers
-unfolding among same_bytes total stuff body_of table profile_in fits size_fits transfer_after buffer_after log_of account_after
+unfolding among same_bytes total stuff body_of table profile_in fits size_fits transfer_after buffer_after log_of
+    account_after
     summed joined count_from
 worked_transfers =
     record {

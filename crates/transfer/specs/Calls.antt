@@ -115,7 +115,8 @@ Fits (Open size piece stored) index bytes buffer = index ≢ stored → start_of
 abbrev pub store_by : ℕ → ℕ → Transfer → ℕ → List ℕ → List ℕ → List ℕ → Left Held
 store_by limit refusal t number payload buffer out =
     cond (eqb refusal 0)
-    (settled (acknowledged limit 0x1E number out) (held t buffer) (put_in t (index_in payload) (bytes_in payload) buffer))
+    (settled (acknowledged limit 0x1E number out) (held t buffer)
+    (put_in t (index_in payload) (bytes_in payload) buffer))
     (left (refused_of limit refusal number out) (held t buffer))
 
 -- a 1D received under a number, with flags and a payload

@@ -42,4 +42,5 @@ unfoldable pub log_of : ℕ → ℕ → ℕ → Transfer → List ℕ → List C
 log_of limit first max t buffer [] = []
 log_of limit first max t buffer (c ∷ cs) =
     entry_of c (call_of limit first max t buffer c)
-    ∷ log_of limit first max (call_of limit first max t buffer c).transfer (call_of limit first max t buffer c).buffer cs
+    ∷ log_of limit first max (call_of limit first max t buffer c).transfer (call_of limit first max t buffer c).buffer
+    cs

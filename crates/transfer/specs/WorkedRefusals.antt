@@ -47,7 +47,8 @@ announcing misread many =
 -- STATE, SIZE, BUSY, EMPTY, TOOBIG, PIECES
 abbrev pub begin_case : Bool → Bool → Bool → Bool → Bool → Bool → ℕ
 begin_case out misread waits empty short many =
-    number_in (begin_of 1024 0 2 (any_transfer out) (any_link false waits) 0 5 (announcing misread many) (cond empty 0 1)
+    number_in
+    (begin_of 1024 0 2 (any_transfer out) (any_link false waits) 0 5 (announcing misread many) (cond empty 0 1)
     (cond short 9 70000) (replicate 30 9)).row
 
 -- the link's STATE and ROOM instead
@@ -91,7 +92,8 @@ store_room misread short hex narrow =
 -- that is too short or not
 abbrev pub store_again : Bool → Bool → Bool → Bool → ℕ
 store_again short hex total bytes =
-    number_in (store_of 1024 (Open 10 4 1) 6 (cond hex 3 2) (0 ∷ 1 ∷ 0 ∷ cond total 2 3 ∷ 7 ∷ 7 ∷ 7 ∷ cond bytes 8 7 ∷ [])
+    number_in
+    (store_of 1024 (Open 10 4 1) 6 (cond hex 3 2) (0 ∷ 1 ∷ 0 ∷ cond total 2 3 ∷ 7 ∷ 7 ∷ 7 ∷ cond bytes 8 7 ∷ [])
     (replicate (cond short 9 12) 7) (replicate 30 9)).row
 
 -- without a transfer: SIZE, HEXLINES, TURN, ROOM

@@ -10,7 +10,8 @@ use Rattle.base.proofs.writes.write_both.Goals as goal
 pub returns : goal.returns
 returns c =
     let whole : List ℕ = c.args.first.now ++ c.args.second.now in
-    let whole_length : length whole ≡ length c.args.first.now + length c.args.second.now = length-append c.args.first.now c.args.second.now in
+    let whole_length : length whole ≡ length c.args.first.now + length c.args.second.now =
+    length-append c.args.first.now c.args.second.now in
     let args = c.args in
     let one = put_fitting args.out.now 0 args.first.now (omega arith) c.put_bytes-at.ensures in
     let two = put_fitting c.put_bytes-at.new.out c.put_bytes-at.result args.second.now

@@ -24,17 +24,20 @@ pub returns-then-out-measure : goal.returns-then-out-measure
 returns-then-out-measure c =
     let payload : List ℕ = joined_chunks c.args.first.now c.args.second.now c.args.third.now in
     let payload_length : length payload ≡ length c.args.first.now
-    + (length c.args.second.now + length c.args.third.now) = chunks_length c.args.first.now c.args.second.now c.args.third.now in
+    + (length c.args.second.now + length c.args.third.now) =
+    chunks_length c.args.first.now c.args.second.now c.args.third.now in
     let out : List ℕ = c.args.out.now in
     let form : List ℕ = frame_of c.args.command c.args.number c.args.flags payload in
     let limit : ℕ = c.args.limit in
     let finished : Output = write_of limit c.args.command c.args.number c.args.flags payload out in
     let no_room : length payload + 5 ≤ limit → (needed : ℕ) → needed ≡ length form → length out < needed
-    → output (row 22 (needed ∷ [])) out ≡ finished = λ h needed e g. rw (le-ltb limit (length payload + 5) h) (not_placed form out e g) in
+    → output (row 22 (needed ∷ [])) out ≡ finished =
+    λ h needed e g. rw (le-ltb limit (length payload + 5) h) (not_placed form out e g) in
     let size : c.min.result + length c.args.third.now ≡ length payload = omega (arith, payload_length) in
     let short : length payload + 5 ≤ limit = omega (arith, payload_length) in
     let head : List ℕ = c.head_of-head.result in
-    let whole : framed head payload c.sized-measure.result.sum ≡ form = body-parts _ _ _ _ payload head c.sized-measure.result.sum size
+    let whole : framed head payload c.sized-measure.result.sum ≡ form =
+    body-parts _ _ _ _ payload head c.sized-measure.result.sum size
     c.head_of-head.ensures c.sized-measure.ensures.sum_is in
     let count : c.sized-measure.result.count ≡ length form = c.sized-measure.ensures.count_is ∙ ap length whole in
     no_room short _ count c.if-out-measure.true
@@ -43,7 +46,8 @@ pub returns : goal.returns
 returns c =
     let payload : List ℕ = joined_chunks c.args.first.now c.args.second.now c.args.third.now in
     let payload_length : length payload ≡ length c.args.first.now
-    + (length c.args.second.now + length c.args.third.now) = chunks_length c.args.first.now c.args.second.now c.args.third.now in
+    + (length c.args.second.now + length c.args.third.now) =
+    chunks_length c.args.first.now c.args.second.now c.args.third.now in
     let out : List ℕ = c.args.out.now in
     let form : List ℕ = frame_of c.args.command c.args.number c.args.flags payload in
     let limit : ℕ = c.args.limit in
@@ -58,7 +62,8 @@ returns c =
     let size : c.min.result + length c.args.third.now ≡ length payload = omega (arith, payload_length) in
     let short : length payload + 5 ≤ limit = omega (arith, payload_length) in
     let head : List ℕ = c.head_of-head.result in
-    let whole : framed head payload c.sized-measure.result.sum ≡ form = body-parts _ _ _ _ payload head c.sized-measure.result.sum size
+    let whole : framed head payload c.sized-measure.result.sum ≡ form =
+    body-parts _ _ _ _ payload head c.sized-measure.result.sum size
     c.head_of-head.ensures c.sized-measure.ensures.sum_is in
     let count : c.sized-measure.result.count ≡ length form = c.sized-measure.ensures.count_is ∙ ap length whole in
     let put = c.put_frame.ensures in

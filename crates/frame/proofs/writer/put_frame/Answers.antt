@@ -8,23 +8,28 @@ pub put_bytes-after_head-requires : goal.put_bytes-after_head-requires
 put_bytes-after_head-requires c =
     let payload : List ℕ = joined_chunks c.args.first.now c.args.second.now c.args.third.now in
     let room : 2 + length (stuff c.args.head) + length (stuff payload)
-    + length (stuff (c.args.sum ∷ [])) ≤ length c.args.out.now = omega (arith, framed-length c.args.head payload c.args.sum) in
+    + length (stuff (c.args.sum ∷ [])) ≤ length c.args.out.now =
+    omega (arith, framed-length c.args.head payload c.args.sum) in
     simp length-set (omega (arith, room))
 
 pub put_chunks-after_payload-requires : goal.put_chunks-after_payload-requires
 put_chunks-after_payload-requires c =
     let payload : List ℕ = joined_chunks c.args.first.now c.args.second.now c.args.third.now in
     let room : 2 + length (stuff c.args.head) + length (stuff payload)
-    + length (stuff (c.args.sum ∷ [])) ≤ length c.args.out.now = omega (arith, framed-length c.args.head payload c.args.sum) in
-    let kept : length c.put_bytes-after_head.new.out ≡ length c.args.out.now = simp length-set at c.put_bytes-after_head.auto.out in
+    + length (stuff (c.args.sum ∷ [])) ≤ length c.args.out.now =
+    omega (arith, framed-length c.args.head payload c.args.sum) in
+    let kept : length c.put_bytes-after_head.new.out ≡ length c.args.out.now =
+    simp length-set at c.put_bytes-after_head.auto.out in
     omega (arith, room, kept)
 
 pub put_byte-requires : goal.put_byte-requires
 put_byte-requires c =
     let payload : List ℕ = joined_chunks c.args.first.now c.args.second.now c.args.third.now in
     let room : 2 + length (stuff c.args.head) + length (stuff payload)
-    + length (stuff (c.args.sum ∷ [])) ≤ length c.args.out.now = omega (arith, framed-length c.args.head payload c.args.sum) in
-    let kept : length c.put_bytes-after_head.new.out ≡ length c.args.out.now = simp length-set at c.put_bytes-after_head.auto.out in
+    + length (stuff (c.args.sum ∷ [])) ≤ length c.args.out.now =
+    omega (arith, framed-length c.args.head payload c.args.sum) in
+    let kept : length c.put_bytes-after_head.new.out ≡ length c.args.out.now =
+    simp length-set at c.put_bytes-after_head.auto.out in
     omega (arith, room, kept)
 
 pub returns : goal.returns

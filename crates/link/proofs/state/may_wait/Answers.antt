@@ -11,4 +11,5 @@ returns-in-5 c = at_keys may_wait _ wait_commands _ refl c.in-5.is
 
 pub returns-in_default : goal.returns-in_default
 unfolding among
-returns-in_default c = is_in_range may_wait _ 0 256 (wait_commands ∷ []) _ refl (omega arith) c.in_default.in_default-own.rest
+returns-in_default c =
+    is_in_range may_wait _ 0 256 (wait_commands ∷ []) _ refl (omega arith) c.in_default.in_default-own.rest

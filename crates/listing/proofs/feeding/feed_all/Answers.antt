@@ -11,7 +11,8 @@ pub overflow_add-used : goal.overflow_add-used
 overflow_add-used c =
     let outcome : Outcome State = fed_of c.feed-fed.result in
     let onward : Onward frame_limit c.args.prefix.now c.args.bytes.now c.args.out.now
-    (state_of c.args.reader) c.loop-used.out c.loop-used.used c.loop-used.written outcome = at_onward c.loop-used.invariant c.if-used-bytes.false
+    (state_of c.args.reader) c.loop-used.out c.loop-used.used c.loop-used.written outcome =
+    at_onward c.loop-used.invariant c.if-used-bytes.false
     c.if-out-written.false outcome c.feed-fed.ensures
     (sym c.is_refusal.ensures ∙ c.if-is_refusal.false) in
     omega (arith, c.count-used.ensures, onward.within)
@@ -20,7 +21,8 @@ pub loop-used-smaller : goal.loop-used-smaller
 loop-used-smaller c =
     let outcome : Outcome State = fed_of c.feed-fed.result in
     let onward : Onward frame_limit c.args.prefix.now c.args.bytes.now c.args.out.now
-    (state_of c.args.reader) c.loop-used.out c.loop-used.used c.loop-used.written outcome = at_onward c.loop-used.invariant c.if-used-bytes.false
+    (state_of c.args.reader) c.loop-used.out c.loop-used.used c.loop-used.written outcome =
+    at_onward c.loop-used.invariant c.if-used-bytes.false
     c.if-out-written.false outcome c.feed-fed.ensures
     (sym c.is_refusal.ensures ∙ c.if-is_refusal.false) in
     omega (arith, c.count-used.ensures, onward.within, onward.some)
@@ -29,7 +31,8 @@ pub loop-used-preserved : goal.loop-used-preserved
 loop-used-preserved c =
     let outcome : Outcome State = fed_of c.feed-fed.result in
     let onward : Onward frame_limit c.args.prefix.now c.args.bytes.now c.args.out.now
-    (state_of c.args.reader) c.loop-used.out c.loop-used.used c.loop-used.written outcome = at_onward c.loop-used.invariant c.if-used-bytes.false
+    (state_of c.args.reader) c.loop-used.out c.loop-used.used c.loop-used.written outcome =
+    at_onward c.loop-used.invariant c.if-used-bytes.false
     c.if-out-written.false outcome c.feed-fed.ensures
     (sym c.is_refusal.ensures ∙ c.if-is_refusal.false) in
     let line = c.add_line-written.ensures in

@@ -7,7 +7,8 @@ use Rattle.listing.proofs.text.columns_width.Given as goal
 
 abbrev pub invariant-loop-i : goal.invariant-loop-i
 invariant-loop-i l =
-    (l.i ≤ length l.numbers) × (l.count ≤ 21 * l.i) × (l.count + length (columns_of (drop l.i l.numbers)) ≡ length (columns_of l.numbers))
+    (l.i ≤ length l.numbers) × (l.count ≤ 21 * l.i)
+    × (l.count + length (columns_of (drop l.i l.numbers)) ≡ length (columns_of l.numbers))
 
 abbrev pub decreases-loop-i : goal.decreases-loop-i
 decreases-loop-i l = length l.numbers - l.i

@@ -97,4 +97,5 @@ returns-in-31 c = c.to_box-in-31.ensures ∙ at_keys profile_of _ (one 0x1F) _ r
 
 pub returns-in_default : goal.returns-in_default
 unfolding among table profile_in
-returns-in_default c = c.to_box-in_default.ensures ∙ is_in_range profile_of _ 0 256 arms _ refl (omega arith) c.in_default.in_default-own.rest
+returns-in_default c = c.to_box-in_default.ensures ∙ is_in_range profile_of _ 0 256 arms _ refl (omega arith)
+    c.in_default.in_default-own.rest

@@ -22,7 +22,8 @@ returns-then-action-eq1 c =
 
 pub returns-then-action-eq2 : goal.returns-then-action-eq2
 returns-then-action-eq2 c =
-    chosen Action 3 _ _ true (2 ∷ []) c.checked-then-action-eq2.ensures refl (search sizes) (search sizes) (search sizes)
+    chosen Action 3 _ _ true (2 ∷ []) c.checked-then-action-eq2.ensures refl (search sizes) (search sizes)
+    (search sizes)
     (λ t. search (sizes, c.if-action-eq2.true))
 
 pub returns : goal.returns

@@ -26,7 +26,8 @@ pub returns-in-Network : goal.returns-in-Network
 returns-in-Network c = read_profile kind.Network _ _ c.requires c.in-Network.is 0x0D refl (search profiles)
 
 pub returns-in-ModuleReject : goal.returns-in-ModuleReject
-returns-in-ModuleReject c = read_profile kind.ModuleReject _ _ c.requires c.in-ModuleReject.is 0x11 refl (search profiles)
+returns-in-ModuleReject c =
+    read_profile kind.ModuleReject _ _ c.requires c.in-ModuleReject.is 0x11 refl (search profiles)
 
 pub returns-in-BoxReject : goal.returns-in-BoxReject
 returns-in-BoxReject c = read_profile kind.BoxReject _ _ c.requires c.in-BoxReject.is 0x12 refl (search profiles)

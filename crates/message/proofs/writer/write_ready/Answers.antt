@@ -16,5 +16,6 @@ pub returns : goal.returns
 unfolding table profile_in
 returns c =
     let code = c.args.code.now in
-    let bytes = joined c.two_bytes-count_bytes.ensures (ap (λ (x : List ℕ). code ++ x) c.two_bytes-size_bytes.ensures) in
+    let bytes =
+    joined c.two_bytes-count_bytes.ensures (ap (λ (x : List ℕ). code ++ x) c.two_bytes-size_bytes.ensures) in
     sent _ _ _ _ _ refl (le-leb _ _ c.if-count-gt65535.false) refl bytes c.write_chunks.ensures
