@@ -22,15 +22,18 @@ returns-in-Nothing c = rw (c.in-Nothing.is, c.as_heard.ensures) (as_replied _ _ 
 
 pub returns-in-InformationWanted : goal.returns-in-InformationWanted
 unfolding among
-returns-in-InformationWanted c = rw (c.in-InformationWanted.is, c.as_heard-in-InformationWanted.ensures) (as_replied _ _ _ _ _ _ _ _ _ _ _ refl)
+returns-in-InformationWanted c =
+    rw (c.in-InformationWanted.is, c.as_heard-in-InformationWanted.ensures) (as_replied _ _ _ _ _ _ _ _ _ _ _ refl)
 
 pub returns-in-StatusWanted : goal.returns-in-StatusWanted
 unfolding among
-returns-in-StatusWanted c = rw (c.in-StatusWanted.is, c.as_heard-in-StatusWanted.ensures) (as_replied _ _ _ _ _ _ _ _ _ _ _ refl)
+returns-in-StatusWanted c =
+    rw (c.in-StatusWanted.is, c.as_heard-in-StatusWanted.ensures) (as_replied _ _ _ _ _ _ _ _ _ _ _ refl)
 
 pub returns-in-Acknowledged : goal.returns-in-Acknowledged
 unfolding among
-returns-in-Acknowledged c = rw (c.in-Acknowledged.is, c.as_heard-in-Acknowledged.ensures) (as_replied _ _ _ _ _ _ _ _ _ _ _ refl)
+returns-in-Acknowledged c =
+    rw (c.in-Acknowledged.is, c.as_heard-in-Acknowledged.ensures) (as_replied _ _ _ _ _ _ _ _ _ _ _ refl)
 
 pub returns-in-Rejected : goal.returns-in-Rejected
 unfolding among

@@ -8,7 +8,8 @@ pub returns-then-not-in_range : goal.returns-then-not-in_range
 returns-then-not-in_range c = link_out_lem _ _ _ _ _ _ _ _ _ _ _ (caught c.in_range.ensures c.if-not-in_range.true-raw)
 
 pub returns-then-not-in_range-2 : goal.returns-then-not-in_range-2
-returns-then-not-in_range-2 c = transfer_out _ _ _ _ _ _ _ _ _ _ _ (caught c.in_range-2.ensures c.if-not-in_range-2.true-raw)
+returns-then-not-in_range-2 c =
+    transfer_out _ _ _ _ _ _ _ _ _ _ _ (caught c.in_range-2.ensures c.if-not-in_range-2.true-raw)
 
 pub returns : goal.returns
 returns c =

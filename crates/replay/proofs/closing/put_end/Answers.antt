@@ -18,7 +18,8 @@ pub returns : goal.returns
 returns c =
     let answer : Row = (finish_of frame_limit (state_of c.args.reader)).row in
     let text : List ℕ = last_of c.args.prefix.now answer in
-    let fits : length text ≤ length c.args.out.now = let consumed : c.args.reader.scan.consumed.0 < 2 ^ 64 = omega arith in
+    let fits : length text ≤ length c.args.out.now = let consumed : c.args.reader.scan.consumed.0 < 2 ^ 64 =
+    omega arith in
     let start : c.args.reader.scan.start.0 < 2 ^ 64 = omega arith in
     let below = end_below frame_limit (state_of c.args.reader) consumed start in
     omega (arith, longest.lasts c.args.prefix.now answer below) in

@@ -21,8 +21,10 @@ overflow_add-used c =
     } in
     let stepped : Stepped frame_limit c.args.bytes.now c.args.out.now (state_of c.args.replay)
     c.loop-from_module.out state c.loop-from_module.used c.loop-from_module.written c.play_one-done.result
-    (joined_at c.loop-from_module.written c.loop-from_module.out after) = at_step c.loop-from_module.invariant c.play_one-done.result after _ refl c.play_one-done.ensures c.play_one-done.auto.out in
-    let used_fits : c.loop-from_module.used + c.play_one-done.result.used < 2 ^ 64 = omega (arith, stepped.used_within) in
+    (joined_at c.loop-from_module.written c.loop-from_module.out after) = at_step c.loop-from_module.invariant
+    c.play_one-done.result after _ refl c.play_one-done.ensures c.play_one-done.auto.out in
+    let used_fits : c.loop-from_module.used + c.play_one-done.result.used < 2 ^ 64 =
+    omega (arith, stepped.used_within) in
     record { fits = used_fits }
 
 pub loop-from_module-smaller : goal.loop-from_module-smaller
@@ -36,7 +38,8 @@ loop-from_module-smaller c =
     } in
     let stepped : Stepped frame_limit c.args.bytes.now c.args.out.now (state_of c.args.replay)
     c.loop-from_module.out state c.loop-from_module.used c.loop-from_module.written c.play_one-done.result
-    (joined_at c.loop-from_module.written c.loop-from_module.out after) = at_step c.loop-from_module.invariant c.play_one-done.result after _ refl c.play_one-done.ensures c.play_one-done.auto.out in
+    (joined_at c.loop-from_module.written c.loop-from_module.out after) = at_step c.loop-from_module.invariant
+    c.play_one-done.result after _ refl c.play_one-done.ensures c.play_one-done.auto.out in
     let s = stepped in
     omega (arith, s.used_within, s.some c.if-done.false)
 
@@ -51,7 +54,8 @@ loop-from_module-preserved c =
     } in
     let stepped : Stepped frame_limit c.args.bytes.now c.args.out.now (state_of c.args.replay)
     c.loop-from_module.out state c.loop-from_module.used c.loop-from_module.written c.play_one-done.result
-    (joined_at c.loop-from_module.written c.loop-from_module.out after) = at_step c.loop-from_module.invariant c.play_one-done.result after _ refl c.play_one-done.ensures c.play_one-done.auto.out in
+    (joined_at c.loop-from_module.written c.loop-from_module.out after) = at_step c.loop-from_module.invariant
+    c.play_one-done.result after _ refl c.play_one-done.ensures c.play_one-done.auto.out in
     let met : State = record {
       place = c.play_one-done.result.cursor.place;
       fed = c.play_one-done.result.fed;
@@ -59,7 +63,14 @@ loop-from_module-preserved c =
       reader1 = reader_state_of c.match-direction.from_box;
     } in
     let met_is : met ≡ step_state state c.play_one-done.result = let l = c.play_one-done.result in
-    elim c.match-direction.branch [ in-FromModule w ↦ met_module state l c.match-direction.from_module c.match-direction.from_box w.in-FromModule.is w.from_module-is (ap reader_state_of w.from_box-is) | in-FromBox w ↦ met_box state l c.match-direction.from_module c.match-direction.from_box w.in-FromBox.is (ap reader_state_of w.from_module-is) w.from_box-is ] in
+    elim c.match-direction.branch [
+      | in-FromModule w ↦
+          met_module state l c.match-direction.from_module c.match-direction.from_box w.in-FromModule.is
+          w.from_module-is
+          (ap reader_state_of w.from_box-is)
+      | in-FromBox w ↦ met_box state l c.match-direction.from_module
+          c.match-direction.from_box w.in-FromBox.is (ap reader_state_of w.from_module-is) w.from_box-is
+    ] in
     rw met_is (stepped.again c.if-done.false)
 
 pub returns : goal.returns
@@ -73,7 +84,8 @@ returns c =
     } in
     let stepped : Stepped frame_limit c.args.bytes.now c.args.out.now (state_of c.args.replay)
     c.loop-from_module.out state c.loop-from_module.used c.loop-from_module.written c.play_one-done.result
-    (joined_at c.loop-from_module.written c.loop-from_module.out after) = at_step c.loop-from_module.invariant c.play_one-done.result after _ refl c.play_one-done.ensures c.play_one-done.auto.out in
+    (joined_at c.loop-from_module.written c.loop-from_module.out after) = at_step c.loop-from_module.invariant
+    c.play_one-done.result after _ refl c.play_one-done.ensures c.play_one-done.auto.out in
     let met : State = record {
       place = c.play_one-done.result.cursor.place;
       fed = c.play_one-done.result.fed;
@@ -81,5 +93,12 @@ returns c =
       reader1 = reader_state_of c.match-direction.from_box;
     } in
     let met_is : met ≡ step_state state c.play_one-done.result = let l = c.play_one-done.result in
-    elim c.match-direction.branch [ in-FromModule w ↦ met_module state l c.match-direction.from_module c.match-direction.from_box w.in-FromModule.is w.from_module-is (ap reader_state_of w.from_box-is) | in-FromBox w ↦ met_box state l c.match-direction.from_module c.match-direction.from_box w.in-FromBox.is (ap reader_state_of w.from_module-is) w.from_box-is ] in
+    elim c.match-direction.branch [
+      | in-FromModule w ↦
+          met_module state l c.match-direction.from_module c.match-direction.from_box w.in-FromModule.is
+          w.from_module-is
+          (ap reader_state_of w.from_box-is)
+      | in-FromBox w ↦ met_box state l c.match-direction.from_module
+          c.match-direction.from_box w.in-FromBox.is (ap reader_state_of w.from_module-is) w.from_box-is
+    ] in
     rw met_is (stepped.last c.if-done.true)

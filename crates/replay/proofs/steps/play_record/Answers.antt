@@ -16,7 +16,8 @@ pub returns-then-is_done : goal.returns-then-is_done
 returns-then-is_done c =
     let listed : listed_left c.list_part-listed.result c.list_part-listed.new.out
     ≡ left_by (record_run frame_limit (direction_number c.args.direction) (state_of c.args.replay)
-    c.args.bytes.now (length c.args.out.now)) c.args.out.now = rw (← part_is (state_of c.args.replay) c.args.bytes.now c.payload-payload.ensures.0
+    c.args.bytes.now (length c.args.out.now)) c.args.out.now =
+    rw (← part_is (state_of c.args.replay) c.args.bytes.now c.payload-payload.ensures.0
     c.part-part.ensures) c.list_part-listed.ensures in
     let args = c.args in
     record_done frame_limit (direction_number args.direction) (state_of args.replay) args.bytes.now
@@ -27,7 +28,8 @@ pub overflow_add-more : goal.overflow_add-more
 overflow_add-more c =
     let listed : listed_left c.list_part-listed.result c.list_part-listed.new.out
     ≡ left_by (record_run frame_limit (direction_number c.args.direction) (state_of c.args.replay)
-    c.args.bytes.now (length c.args.out.now)) c.args.out.now = rw (← part_is (state_of c.args.replay) c.args.bytes.now c.payload-payload.ensures.0
+    c.args.bytes.now (length c.args.out.now)) c.args.out.now =
+    rw (← part_is (state_of c.args.replay) c.args.bytes.now c.payload-payload.ensures.0
     c.part-part.ensures) c.list_part-listed.ensures in
     let fits : c.args.replay.fed + c.list_part-listed.result.used < 65536 = let byte = c.shared_slice_known-1.given in
     let fed : c.args.replay.fed < 65536 = omega (arith, c.struct_known-1.given) in
@@ -42,7 +44,8 @@ pub overflow_cast-more : goal.overflow_cast-more
 overflow_cast-more c =
     let listed : listed_left c.list_part-listed.result c.list_part-listed.new.out
     ≡ left_by (record_run frame_limit (direction_number c.args.direction) (state_of c.args.replay)
-    c.args.bytes.now (length c.args.out.now)) c.args.out.now = rw (← part_is (state_of c.args.replay) c.args.bytes.now c.payload-payload.ensures.0
+    c.args.bytes.now (length c.args.out.now)) c.args.out.now =
+    rw (← part_is (state_of c.args.replay) c.args.bytes.now c.payload-payload.ensures.0
     c.part-part.ensures) c.list_part-listed.ensures in
     let fits : c.args.replay.fed + c.list_part-listed.result.used < 65536 = let byte = c.shared_slice_known-1.given in
     let fed : c.args.replay.fed < 65536 = omega (arith, c.struct_known-1.given) in
@@ -57,7 +60,8 @@ pub returns : goal.returns
 returns c =
     let listed : listed_left c.list_part-listed.result c.list_part-listed.new.out
     ≡ left_by (record_run frame_limit (direction_number c.args.direction) (state_of c.args.replay)
-    c.args.bytes.now (length c.args.out.now)) c.args.out.now = rw (← part_is (state_of c.args.replay) c.args.bytes.now c.payload-payload.ensures.0
+    c.args.bytes.now (length c.args.out.now)) c.args.out.now =
+    rw (← part_is (state_of c.args.replay) c.args.bytes.now c.payload-payload.ensures.0
     c.part-part.ensures) c.list_part-listed.ensures in
     let args = c.args in
     record_left frame_limit (direction_number args.direction) (state_of args.replay) args.bytes.now

@@ -9,7 +9,8 @@ use Rattle.replay.proofs.window.keep.Given as goal
 
 abbrev pub invariant-loop-i : goal.invariant-loop-i
 invariant-loop-i l =
-    (l.i ≤ length (kept_of l.start l.end l.initial.buffer)) × (l.buffer ≡ moved l.initial.buffer (kept_of l.start l.end l.initial.buffer) l.i)
+    (l.i ≤ length (kept_of l.start l.end l.initial.buffer))
+    × (l.buffer ≡ moved l.initial.buffer (kept_of l.start l.end l.initial.buffer) l.i)
 
 abbrev pub decreases-loop-i : goal.decreases-loop-i
 decreases-loop-i l = l.count - l.i
