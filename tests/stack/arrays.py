@@ -17,7 +17,8 @@ NUMBER = re.compile(r"(0x[\da-fA-F_]+|0b[01_]+|0o[0-7_]+|\d[\d_]*?)_?([uif](?:8|
 OPERATORS = {"+", "-", "*", "/", "%", "(", ")", "<<", ">>"}
 KEYWORDS = {"as", "break", "const", "continue", "else", "enum", "extern", "false", "fn", "for", "if", "impl", "in"}
 KEYWORDS |= {"let", "loop", "match", "mut", "pub", "return", "struct", "true", "type", "while", "_"}
-BUILT_IN = {"len"}  # methods of the language
+BUILT_IN = {"len", "wrapping_add", "wrapping_sub"}  # methods of the language
+HIDING = {"for", "?"}  # call functions that they do not name
 OF_NUMBERS = {"count_ones", "leading_zeros", "trailing_zeros", "MAX", "MIN", "BITS"}  # in paths such as u64::MAX
 
 
@@ -55,7 +56,11 @@ def named_in(sources, item):
     """The items that an item names."""
     if item.kind == "fn" and (")", "(") in zip(item.tokens, item.tokens[1:]):
         raise Unreadable(f"{item.name}: what is called stands in brackets")
+    if item.kind == "fn" and HIDING & set(item.tokens):
+        raise Unreadable(f"{item.name}: {' '.join(HIDING & set(item.tokens))} calls what is not named")
     for path, after, before in paths_in(item.tokens[2:]):
+        if after == "!":
+            raise Unreadable(f"{item.name}: a macro, {path[-1]}")
         if before == "." and after == "(":
             methods = sources.methods.get(path[0], {}).values()
             if not methods and path[0] not in BUILT_IN:

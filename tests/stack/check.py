@@ -10,6 +10,7 @@ import subprocess
 import sys
 
 import check_arrays
+import check_mir
 import machine
 import mir
 from arrays import WIDEST, arrays_of, reached
@@ -20,8 +21,9 @@ ROOT = HERE.parents[1]
 sys.path.insert(0, str(HERE.parent / "lib"))
 from checks import Checks, seed_and_count  # noqa: E402
 
-KIT = pathlib.Path(shutil.which("rt") or "").resolve().parents[1]  # rt is in its bin/, the sources of std in its libs/
+KIT = pathlib.Path(shutil.which("rt") or "").resolve().parents[1]  # rt is in its bin/, the sources of std in rattle/
 MAX_ARRAY = 16  # bytes
+MAX_VARIABLE = 32  # bytes of one variable of the writer: a slice has 16, an answer 24, a body 1,026
 PATIENCE = 300  # seconds
 COUNT = re.compile(r"^(\d+) passed, (\d+) failed$")
 USE = re.compile(r"^stack: (.*): (\d+) bytes, (\d+) of them arguments", re.M)
@@ -39,7 +41,7 @@ COPYING = [
 def text_of(path, edits=()):
     """The text of a module: of the repository's crates, or of the kit's libraries; None where there is none."""
     inner = "/".join(path[1:]) or "lib"
-    for folder in (ROOT / "crates", KIT / "libs"):
+    for folder in (ROOT / "crates", KIT / "rattle"):
         file = folder / path[0] / "src" / f"{inner}.rt"
         if file.is_file():
             text = file.read_text(encoding="utf-8")
@@ -47,6 +49,11 @@ def text_of(path, edits=()):
                 text = text.replace(old, new, 1) if file == ROOT / "crates" / name else text
             return text
     return None
+
+
+def sources_of(edits=()):
+    """The sources of all crates; of the kit's libraries only what is named."""
+    return Sources(lambda path: text_of(path, edits), lambda crate: (ROOT / "crates" / crate).is_dir())
 
 
 def too_long(sources, item):
@@ -61,7 +68,7 @@ def functions(sources, items):
 
 def check_writer(checks):
     """The exported writer, from its sources."""
-    sources = Sources(text_of)
+    sources = sources_of()
     exported = sources.exported("firmware")
     names = [item.name for item in exported]
     checks.test("one function is exported", names == ["firmware::trogonreed_write_frame"], str(names))
@@ -72,26 +79,37 @@ def check_writer(checks):
     count = len(functions(sources, exported))
     checks.say(f"the writer reaches {count} functions; their largest array has {largest} bytes")
     for what, *edit in COPYING:
-        wrong = Sources(lambda path, edit=edit: text_of(path, [edit]))
+        wrong = sources_of([edit])
         checks.test(f"{what} is found", any(too_long(wrong, item) for item in wrong.exported("firmware")))
 
 
-def check_compiler(checks, crate):
+def check_compiler(checks, crate, folder):
     """The functions that the compiler has are those that the sources have, and none of its arrays is missing there.
 
     The sources may have larger ones, where they do not say how wide an element is. An array of one element, of at most
-    WIDEST bytes, is not looked for.
+    WIDEST bytes, is not looked for. Returns the compiler's functions.
     """
-    sources, program = Sources(text_of), mir.mir_of(ROOT, crate)
-    if program is None:
-        checks.test(f"rt mir {crate}", False, "it prints no program")
-        return
+    sources, top = sources_of(), folder / "mir" / crate
+    if not mir.build(ROOT, crate, top):
+        checks.test(f"{crate} is built as a library", False)
+        return {}
     exported = sources.exported(crate)
-    ours, theirs = functions(sources, exported), mir.functions_in(program)
+    program = mir.Libraries(top / "crates", KIT).reached(item.name for item in exported)
+    ours, theirs = functions(sources, exported), program.keys()
     checks.test(f"{crate}: the compiler has the same functions", ours == theirs, str(sorted(ours ^ theirs)))
     found = {size for item in exported for _, _, size in arrays_of(sources, item)}
-    lost = sorted(size for size in mir.arrays_in(program) - found if size > WIDEST)
+    theirs = {size for function in program.values() for size in mir.arrays_in(function)}
+    lost = sorted(size for size in theirs - found if size > WIDEST)
     checks.test(f"{crate}: the compiler has no other arrays", not lost, str(lost))
+    return program
+
+
+def check_variables(checks, program):
+    """No variable of the writer is so wide that it could have a copy of the body, of whatever type it is."""
+    widest = {name: max(mir.variables_in(function), default=0) for name, function in program.items()}
+    wide = {name: size for name, size in widest.items() if size > MAX_VARIABLE}
+    checks.test(f"the writer has no variable above {MAX_VARIABLE} bytes", widest and not wide, str(wide))
+    checks.say(f"by the compiler the largest variable of the writer has {max(widest.values(), default=0)} bytes")
 
 
 def run(program, *words):
@@ -156,16 +174,17 @@ def main():
     seed, _ = seed_and_count(sys.argv[2:], 0)
     try:
         check_arrays.check(checks)
+        check_mir.check(checks)
         check_writer(checks)
-        for crate in ("firmware", "stack_driver"):
-            check_compiler(checks, crate)
-    except (Unreadable, ValueError, IndexError) as error:
+        check_variables(checks, check_compiler(checks, "firmware", folder))
+        check_compiler(checks, "stack_driver", folder)
+    except (Unreadable, mir.Strange, ValueError, LookupError) as error:
         checks.test("the sources can be read", False, str(error))
     check_program(checks, uses, folder / "writer", seed)
     check_program(checks, uses, folder / "calls")
     limit, measured = check_header(checks, uses)
     check_copying(checks, folder / "copying", limit)
-    machine.check(checks, ROOT / "target" / "staticlib" / "libfirmware.a", limit, measured)
+    machine.check(checks, ROOT / "crates" / "firmware" / "out" / "libfirmware.a", limit, measured)
     check_page(checks, uses)
     return checks.end()
 

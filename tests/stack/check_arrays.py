@@ -5,13 +5,14 @@ from rattle import Sources, Unreadable
 CRATES = {
     ("box",): """
         // A writer [u8; 99] that reaches both other modules.
+        #![tactic(auto)]
+        ghost use Rattle.some.specs.Thing.{far, [], ◌∷◌};
         mod inner;
         use base::store;
-        ghost use Some.Thing.{far};
-        #[no_mangle]
+        #[unsafe(no_mangle)]
         pub extern "C" fn send(n: u8, bytes: &[u8]) -> u8
-            requires { ⌜ n ≡ 0 ⌝ }
-            ensures named { λ r. ⌜ r ≡ getD { [u8; 99] } ⌝ }
+            requires { n ≡ 0 }
+            ensures named { result ≡ get_or { [u8; 99] } }
         {
             let k = inner::put(n);
             store(k, bytes[1])
@@ -37,6 +38,7 @@ CRATES = {
         pub use kept::store;
         """,
     ("base", "kept"): """
+        #[derive(Clone, Copy)]
         pub struct Kept {
             pub first: u8,
             pub rest: u8,
@@ -54,6 +56,38 @@ CRATES = {
             both[0]
         }
         """,
+    ("kit",): """
+        // A library that is read only where it is named.
+        pub use inner::{Kind, wide};
+        pub(crate) mod inner;
+        mod never;
+        pub mod flat {
+            pub use crate::inner::Kind;
+            pub fn all(n: u8) -> u8 {
+                let b = [0u8; 31];
+                b[0]
+            }
+        }
+        pub mod strange {
+            macro all
+        }
+        """,
+    ("kit", "inner"): """
+        pub struct Kind(pub(crate) u8);
+        impl Eq for Kind {
+            ghost laws = { first; second };
+            fn eq(&self, other: &Kind) -> bool {
+                true
+            }
+        }
+        pub const fn wide(n: u8) -> u8
+            ensures value { result ≡ n }
+        {
+            let b = [0u8; 30];
+            b[0].wrapping_add(n)
+        }
+        """,
+    ("kit", "never"): "macro all",
     ("far",): """
         pub struct Made {
             n: u8,
@@ -108,6 +142,9 @@ FINDS = [
     ("a method of a crate that is read later", INNER, "let k =", "let b = far::make(n); n.least(); let k =", 1026),
     ("what a constant is", INNER, "let k =", "let b = TABLE[n]; let k =", 40),
     ("what is called inside a call", INNER, "let k =", "let k = apart(apart(n)); let k =", 8208),
+    ("what a library of the kit does", INNER, "let k =", "let b = kit::wide(n); let k =", 30),
+    ("what a module in a file does", INNER, "let k =", "let b = kit::flat::all(n); let k =", 31),
+    ("an array of a type of the kit", INNER, "let k =", "let b: [kit::Kind; 20] = kit::Kind::eq(n); let k =", 20),
 ]
 LOST = [
     ("a function", INNER, "let k =", "let b = far(n); let k ="),
@@ -123,6 +160,16 @@ LOST = [
     ("the end of a raw string", INNER, "let k =", 'let b = br"0123456789abcdefgh"; let k ='),
     ("the end of a comment", INNER, "let k =", '/* /* */ " */ let b = [0u8; 1026]; /* " */ let k ='),
     ("the second of two items of one name", INNER, "fn apart()", "type Put = u8; type Put = u8; fn apart()"),
+    ("a module of the kit", INNER, "let k =", "let b = kit::strange::all(n); let k ="),
+    ("a file of the kit", INNER, "let k =", "let b = kit::never::all(n); let k ="),
+]
+# What calls a function without its name.
+HIDDEN = [
+    ("what a macro writes", INNER, "let k =", "let b = far!(n); let k ="),
+    ("what a loop calls", INNER, "let k =", "for b in n { } let k ="),
+    ("what a ? calls", INNER, "k.least()", "k.least()?"),
+    ("what an operator calls", KEPT, "impl Kept", "impl Add for Kept { fn add(self) -> u8 { 0 } } impl Kept"),
+    ("what a derived operator calls", KEPT, "derive(Clone, Copy)", "derive(Clone, Copy, PartialEq)"),
 ]
 
 
@@ -132,7 +179,11 @@ def edited(module, old, new):
     assert crates[module].count(old) == 1
     crates[module] = crates[module].replace(old, new)
     crates[INNER] += NAMED
-    return Sources(crates.get)
+    return sources_of(crates)
+
+
+def sources_of(crates):
+    return Sources(crates.get, lambda crate: crate != "kit")
 
 
 def largest(sources):
@@ -149,7 +200,7 @@ def is_lost(sources):
 
 
 def check(checks):
-    sources = Sources(CRATES.get)
+    sources = sources_of(CRATES)
     (start,) = sources.exported("box")
     names = {item.name for item in reached(sources, start)}
     inner = {f"box::inner::{name}" for name in ("put", "SIZE", "EIGHT")}
@@ -161,3 +212,5 @@ def check(checks):
         checks.test(f"{what} is found", found == size, f"{found} bytes, not {size}")
     for what, *edit in LOST:
         checks.test(f"{what} that is not there is not passed over", is_lost(edited(*edit)))
+    for what, *edit in HIDDEN:
+        checks.test(f"{what} is not passed over", is_lost(edited(*edit)))

@@ -1,89 +1,152 @@
-"""What the compiler itself says of a crate, as `rt mir` prints it: its functions and all they reach, and their arrays.
+"""What the compiler itself says of a crate: its functions and all they reach, their variables and their arrays.
 
 It is a second opinion on arrays.py, which reads the sources: both have to find the same functions and the same arrays
-above a size.
+above a size. `rt lib` keeps the compiler's own representation, MIR, of each library that it builds. Of a static library
+it keeps none, so the crate is built once more as a library, in a folder of its own.
 """
-import re
+import json
+import os
+import pathlib
+import shutil
 import subprocess
 
 import layout
 
-TOKEN = re.compile(r'\(|\)|"[^"]*"|[^\s()"]+')
-EMPTY = "rt_empty::main"  # the program around a library
-KINDS = ("fields", "variants")  # another pair is a type's name and its lifetimes
-PLAIN = {"tyBool": (1, 1), "tyUnit": (0, 1), "tyPtr": (8, 8), "tyRef": (8, 8)}
+PLAIN = {"Bool": (1, 1), "Unit": (0, 1), "Ptr": (8, 8)}
+RLIB = pathlib.Path("out", "rlib")  # in a crate: the library that rt lib makes of it
+PARTS = (pathlib.Path("src"), pathlib.Path("specs"), pathlib.Path("proofs"), RLIB)
+PATIENCE = 900  # seconds
 
 
-def parsed(text):
-    """A symbolic expression as lists in lists."""
-    stack = [[]]
-    for token in TOKEN.findall(text):
-        if token == "(":
-            stack.append([])
-        elif token == ")":
-            inner = stack.pop()
-            stack[-1].append(inner)
-        else:
-            stack[-1].append(token.strip('"'))
-    return stack[0]
+class Strange(Exception):
+    """Something in the MIR that is not understood, or not there: it could use any amount of stack."""
 
 
-def mir_of(root, crate):
-    """The program that a crate is, or None."""
-    done = subprocess.run(["rt", "mir", crate], cwd=root, capture_output=True, text=True, check=False)
-    line = next((line for line in done.stdout.splitlines() if line.startswith("program ")), None)
-    return parsed(line) if done.returncode == 0 and line else None
+def below(root, crate):
+    """A crate and those below it, each with the libraries that it names."""
+    lines = (root / "crates.txt").read_text(encoding="utf-8").splitlines()
+    heads = [line.partition(":") for line in lines if line.partition("#")[0].strip()]
+    named = {head.split()[0]: rest.split() for head, _, rest in heads}
+    found, waiting = {}, [crate]
+    while waiting:
+        name = waiting.pop()
+        if name in named and name not in found:
+            found[name] = named[name]
+            waiting.extend(named[name])
+    return found
+
+
+def linked_or_copied(source, target):
+    try:
+        os.link(source, target)
+    except OSError:
+        shutil.copy(source, target)
+
+
+def build(root, crate, top):
+    """Builds a crate as a library in a folder of its own, over the libraries that are built; whether it is proved."""
+    crates = below(root, crate)
+    for name in crates:
+        source, target = root / "crates" / name, top / "crates" / name
+        for part in PARTS:
+            if (source / part).is_dir() and (name, part) != (crate, RLIB):
+                copy = linked_or_copied if part == RLIB else shutil.copy
+                shutil.copytree(source / part, target / part, copy_function=copy)
+    lines = [f"{name}: {' '.join(used)}\n" for name, used in crates.items()]
+    (top / "crates.txt").write_text("".join(lines), encoding="utf-8")
+    folder = top / "crates" / crate
+    done = subprocess.run(["rt", "lib"], cwd=folder, capture_output=True, text=True, timeout=PATIENCE, check=False)
+    return done.returncode == 0
+
+
+class Libraries:
+    """The functions of libraries: of those that are built in a folder, and of the kit's."""
+
+    def __init__(self, crates, kit):
+        self.crates, self.kit, self.read = crates, kit, {}
+
+    def functions(self, crate):
+        """Each function of a library by its name."""
+        if crate not in self.read:
+            inside = pathlib.Path(f"{crate}.rlib", "toolchain", "mir.json")
+            files = [self.crates / crate / RLIB / inside, self.kit / "rlibs" / inside]
+            file = next((file for file in files if file.is_file()), None)
+            if file is None:
+                raise Strange(f"there is no MIR of {crate}")
+            self.read[crate] = dict(json.loads(file.read_text(encoding="utf-8")))
+        return self.read[crate]
+
+    def reached(self, starts):
+        """Functions and all that they call, by their names."""
+        found, waiting = {}, list(starts)
+        while waiting:
+            name = waiting.pop()
+            if name not in found:
+                function = self.functions(name.partition("::")[0]).get(name)
+                if function is None:
+                    raise Strange(f"there is no MIR of {name}")
+                found[name] = function
+                waiting.extend(called(name, function))
+        return found
 
 
 def nodes(tree):
-    """Every list in a tree."""
+    """Every object in a tree."""
     waiting = [tree]
     while waiting:
         node = waiting.pop()
-        if isinstance(node, list):
+        if isinstance(node, dict):
             yield node
+            waiting.extend(node.values())
+        elif isinstance(node, list):
             waiting.extend(node)
 
 
-def functions_in(tree):
-    """The names of all functions."""
-    names = {node[1] for node in nodes(tree) if node and node[0] == "fn-def"}
-    return names - {EMPTY}
-
-
-def declared_in(tree):
-    """Of each declared type its fields, or its variants."""
-    return {node[1]: node[2] for node in nodes(tree) if len(node) == 3 and node[0] == "pair" and node[2][0] in KINDS}
-
-
-def listed(node):
-    """The entries of a list that is written as pairs: (tcons a (tcons b tnil))."""
-    while isinstance(node, list):
-        yield node[1]
-        node = node[2]
+def called(name, function):
+    """The functions that one names. One with parameters of types could call another for each type."""
+    if any(function["generics"][key] for key in ("types", "bounds", "impls")):
+        raise Strange(f"{name} has parameters of types")
+    for node in nodes(function["body"]):
+        if "Call" in node and list(node["Call"][0]) != ["Fn"]:
+            raise Strange(f"{name} calls {node['Call'][0]}")
+        if "Fn" in node:
+            yield node["Fn"][0]
 
 
 def layout_of(kind, declared):
     """The size and the alignment of a type."""
-    name = kind if isinstance(kind, str) else kind[0]
-    if name in PLAIN:
-        return PLAIN[name]
-    if name in ("tyInt", "tyFloat"):
-        return int(kind[1]) // 8, int(kind[1]) // 8
-    if name == "tyArray":
-        return layout.of_array(layout_of(kind[1], declared), int(kind[2][1]))
-    if name == "tyStruct":
-        return layout.laid_out([layout_of(field, declared) for field in listed(kind[2])])
-    if name == "tyNamed":
-        return layout_of(declared[kind[1][1]], declared)
-    if name == "fields":
-        return layout.laid_out([layout_of(field, declared) for field in listed(kind[1])])
-    if name == "variants":
-        return layout.of_enum([[layout_of(field, declared) for field in listed(each)] for each in listed(kind[1])])
-    raise ValueError(f"rt mir has a type {name}")
+    if isinstance(kind, str) and kind in PLAIN:
+        return PLAIN[kind]
+    word, inside = next(iter(kind.items())) if isinstance(kind, dict) else (kind, None)
+    if word in ("Int", "Float"):
+        return inside // 8, inside // 8
+    if word in ("Ref", "Ptr"):
+        return PLAIN["Ptr"]
+    if word == "Array" and "Lit" in inside[1]:
+        return layout.of_array(layout_of(inside[0], declared), inside[1]["Lit"])
+    if word == "Struct":
+        return layout.laid_out([layout_of(field, declared) for field in inside[1]])
+    if word == "Named" and not inside[1] and inside[0]["name"] in declared:
+        return layout_of(declared[inside[0]["name"]], declared)
+    if word == "Fields":
+        return layout.laid_out([layout_of(field, declared) for field in inside])
+    if word == "Variants":
+        return layout.of_enum([[layout_of(field, declared) for field in each] for each in inside])
+    raise Strange(f"the MIR has a type {kind}")
 
 
-def arrays_in(tree):
-    """The bytes of each array type in a program."""
-    declared = declared_in(tree)
-    return {layout_of(node, declared)[0] for node in nodes(tree) if node and node[0] == "tyArray"}
+def declared_in(function):
+    return {each["name"]: each["shape"] for each in function["types"]}
+
+
+def arrays_in(function):
+    """The bytes of each array type in a function, also in the types that it names."""
+    declared = declared_in(function)
+    return {layout_of(node, declared)[0] for node in nodes([function[key] for key in ("locals", "types", "body")])
+            if "Array" in node}
+
+
+def variables_in(function):
+    """The bytes of each variable of a function, its parameters and its result among them."""
+    declared = declared_in(function)
+    return [layout_of(local["ty"], declared)[0] for local in function["locals"]]

@@ -1,7 +1,8 @@
 """Reads sources of Rattle: their tokens, the items that each module declares, and what a name in a module means.
 
 It knows as much of the language as that takes. What it cannot read is an Unreadable, and never passed over: a function
-that is not found could use any amount of stack.
+that is not found could use any amount of stack. So is what calls a function without its name: an `impl` of a trait
+that stands behind an operator or a `?`, and a `for`, which calls an iterator's.
 """
 import dataclasses
 import re
@@ -17,6 +18,7 @@ TOKEN = re.compile(
 )
 PAIRS = {"(": ")", "[": "]", "{": "}"}
 DECLARING = ("fn", "struct", "enum", "const", "type")
+DERIVED = {"Clone", "Copy", "Drop"}  # what a derive makes of these is called by a name, or calls nothing
 
 
 class Unreadable(Exception):
@@ -124,23 +126,28 @@ def imports_in(tokens):
 
 
 class Sources:
-    """The crates of a tree. `read` gives the text of a module, crate first, or None where there is none."""
+    """The crates of a tree. `read` gives the text of a module, crate first, or None where there is none.
 
-    def __init__(self, read):
-        self.read, self.modules, self.methods = read, {}, {}
+    Of a crate that is_whole every module is read. Of another one, which has much of the language that is not known
+    here, only those that are named on the way.
+    """
+
+    def __init__(self, read, is_whole=lambda crate: True):
+        self.read, self.is_whole = read, is_whole
+        self.modules, self.methods, self.inline = {}, {}, {}
 
     def module(self, path):
         """The items, the imports and the inner modules of a module."""
         if path not in self.modules:
-            text = self.read(path)
-            if text is None:
+            text = None if path in self.inline else self.read(path)
+            if text is None and path not in self.inline:
                 raise Unreadable(f"there is no module {'::'.join(path)}")
             self.modules[path] = found = ({}, {}, set())
             try:
-                self.declare(path, tokens_of(text), found)
+                self.declare(path, self.inline[path] if text is None else tokens_of(text), found)
             except (IndexError, ValueError) as error:
                 raise Unreadable(f"{'::'.join(path)}: {error}") from error
-            for inner in found[2]:
+            for inner in found[2] if self.is_whole(path[0]) else ():
                 self.module((*path, inner))
         return self.modules[path]
 
@@ -150,27 +157,33 @@ class Sources:
         place, is_exported = 0, False
         while place < len(tokens):
             if tokens[place] == "#":
-                end = closing(tokens, place + 1) + 1
+                opening = place + 1 + (tokens[place + 1] == "!")
+                end = closing(tokens, opening) + 1
+                self.look_at_derives(path, tokens[opening + 1 : end - 1])
                 is_exported, place = is_exported or "no_mangle" in tokens[place:end], end
             elif tokens[place] == "(":  # after `pub`
                 place = closing(tokens, place) + 1
-            elif tokens[place] in ("pub", "extern", '"C"'):
+            elif tokens[place] in ("pub", "extern", '"C"') or tokens[place : place + 2] == ("const", "fn"):
                 place += 1
             elif tokens[place] == "ghost":
-                place = tokens.index(";", place) + 1
+                place = end_of_item(tokens, place, "const")
             elif tokens[place] == "use":
                 end = tokens.index(";", place)
                 imports.update(imports_in(tokens[place + 1 : end]))
                 place = end + 1
             elif tokens[place] == "mod":
-                inner.add(tokens[place + 1])
-                place += 3
+                name, end = tokens[place + 1], place + 3
+                if tokens[place + 2] == "{":
+                    end = closing(tokens, place + 2) + 1
+                    self.inline[(*path, name)] = tokens[place + 3 : end - 1]
+                inner.add(name)
+                place = end
             elif tokens[place] == "impl":
                 place = self.declare_methods(path, tokens, place)
             elif tokens[place] in DECLARING:
                 kind, name, end = tokens[place], tokens[place + 1], end_of_item(tokens, place, tokens[place])
-                # `const fn`; arrays.is_local goes by the capital
-                if name in items or name == "fn" or kind != "fn" and not name[0].isupper():
+                # arrays.is_local goes by the capital
+                if name in items or kind != "fn" and not name[0].isupper():
                     raise Unreadable(f"{'::'.join(path)}: {kind} {name}")
                 items[name] = Item(kind, (*path, name), path, without_contract(tokens[place:end]), is_exported)
                 place, is_exported = end, False
@@ -180,12 +193,20 @@ class Sources:
     def declare_methods(self, path, tokens, at):
         """Enters the functions of an `impl`, each under its own name, and returns the place after it."""
         opening = tokens.index("{", at)
-        end, found = closing(tokens, opening), ({}, {}, set())
-        owner = tokens[tokens.index(">", at) + 1 if tokens[at + 1] == "<" else at + 1]
+        end, found, head = closing(tokens, opening), ({}, {}, set()), tokens[at + 1 : opening]
+        if "for" in head and self.is_whole(path[0]):
+            raise Unreadable(f"{'::'.join(path)}: impl {' '.join(head)}")
+        head = head[head.index("for") + 1 :] if "for" in head else head
+        owner = head[head.index(">") + 1 if head[0] == "<" else 0]
         self.declare((*path, owner), tokens[opening + 1 : end], found)
         for name, item in found[0].items():
             self.methods.setdefault(name, {})[item.path] = dataclasses.replace(item, home=path)
         return end + 1
+
+    def look_at_derives(self, path, attribute):
+        """What is derived in a crate that is read whole may not be called without a name."""
+        if attribute[0] == "derive" and self.is_whole(path[0]) and not set(attribute[2:-1]) <= DERIVED | {","}:
+            raise Unreadable(f"{'::'.join(path)}: {' '.join(attribute)}")
 
     def exported(self, crate):
         """The functions that a crate exports for C."""
