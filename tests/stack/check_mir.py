@@ -49,6 +49,8 @@ STRANGE = [
     ("a function that is not there", [call("base::lost")], BYTE),
     ("a library that is not there", [call("best::store")], BYTE),
     ("a call by a trait", [{"Call": [{"Method": ["next", 0]}, [], {}]}], BYTE),
+    ("a call of a function of C", [{"Foreign": ["write", []]}], BYTE),
+    ("a word that is not known", ["Leap"], BYTE),
     ("a type that is a parameter", [], {"Param": 0}),
     ("an array as long as a parameter says", [], {"Array": [BYTE, {"Param": 0}]}),
     ("a type with parameters", [], named("A", BYTE)),

@@ -12,6 +12,9 @@ import subprocess
 
 import layout
 
+# Statements of a function's body: those with parts, and the others, which are words.
+STATEMENTS = {"Assign", "Call", "Exit", "If", "LendStatic", "Switch"}
+WORDS = {"Block", "Loop", "Return", "Seq", "Skip", "Unreachable"}
 PLAIN = {"Bool": (1, 1), "Unit": (0, 1), "Ptr": (8, 8)}
 RLIB = pathlib.Path("out", "rlib")  # in a crate: the library that rt lib makes of it
 PARTS = (pathlib.Path("src"), pathlib.Path("specs"), pathlib.Path("proofs"), RLIB)
@@ -102,10 +105,23 @@ def nodes(tree):
             waiting.extend(node)
 
 
+def flat(body):
+    """The statements of a body, which stand in lists in lists."""
+    for each in body:
+        if isinstance(each, list):
+            yield from flat(each)
+        else:
+            yield each
+
+
 def called(name, function):
     """The functions that one names. One with parameters of types could call another for each type."""
     if any(function["generics"][key] for key in ("types", "bounds", "impls")):
         raise Strange(f"{name} has parameters of types")
+    for statement in flat(function["body"]):
+        known, word = (STATEMENTS, *statement) if isinstance(statement, dict) else (WORDS, statement)
+        if word not in known:
+            raise Strange(f"{name} has a statement {word}")
     for node in nodes(function["body"]):
         if "Call" in node and list(node["Call"][0]) != ["Fn"]:
             raise Strange(f"{name} calls {node['Call'][0]}")
