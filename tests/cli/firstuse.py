@@ -32,7 +32,7 @@ LISTING = model.listing(STREAM).encode()
 
 # What each stand-in for rt does, in the folder where it is called; $PROGRAM is the listing program.
 BUILDS = 'mkdir -p $out && cp "$PROGRAM" $out/$name && : >$out/$name.stamp'
-LEAVES = "! [ -e $out/$name ] || : >$out/$name.stamp"
+LEAVES = ": >$out/$name.stamp"
 FAILS = "exit 1"
 FAILS_LATE = f"{BUILDS}; rm $out/$name.stamp; exit 1"
 SLOW = f"sleep 0.5; {BUILDS}"
@@ -40,6 +40,9 @@ STUCK = "sleep 600"
 STUBBORN = "trap '' HUP INT QUIT TERM; sleep 600"
 # rt leaves a program alone that it has proved, as its stamp says.
 BY_STAMP = f"[ -e $out/$name ] || {{ {BUILDS}; }}; : >$out/$name.stamp"
+# A program whose sources change while rt runs is built and run, and has no stamp.
+UNSTAMPED = f"{BUILDS}; rm $out/$name.stamp"
+SECOND = f"[ -e $out/$name ] && {{ {BUILDS}; exit; }}; {UNSTAMPED}"
 
 
 def skeleton(root, place):
@@ -122,6 +125,7 @@ def all_uses(test, root, room):
     builds(test, Checkout(root, room, "builds"))
     rebuilds(test, Checkout(root, room, "rebuilds"))
     fails(test, Checkout(root, room, "fails"))
+    runs(test, Checkout(root, room, "runs"))
     lacks(test, Checkout(root, room, "lacks"))
     two_at_once(test, Checkout(root, room, "two at once"))
     broken_off(test, Checkout(root, room, "broken off"))
@@ -184,6 +188,27 @@ def fails(test, fresh):
     fresh.kept.unlink()
     fresh.rt(LEAVES)
     fresh.tries(test, "rt passes and leaves no program", [BUILDING, "remove"], 1, False)
+    fresh.rt(SECOND)
+    fresh.tries(test, "rt passes and does not call the program proved: once more", [BUILDING], 2, True)
+    fresh.program.unlink()
+    fresh.rt(UNSTAMPED)
+    fresh.tries(test, "nor does it then", [BUILDING, FAILED], 2, False)
+
+
+def runs(test, fresh):
+    """A program is used only if it prints what the stored output has, where there is stored input."""
+    stored = fresh.place / "crates/list_program"
+    (stored / "stdin").write_bytes(STREAM)
+    for name, data, listed in [("another text", b"clean 0\n", False), ("its text", LISTING, True)]:
+        (stored / "stdout").write_bytes(data)
+        fresh.rt(BUILDS)
+        said = [BUILDING] if listed else [BUILDING, ": list_program failed; see "]
+        fresh.tries(test, f"a program that prints {name}", said, 1, listed)
+    fresh.tries(test, "a program that printed its text: not again", [], 0, True)
+    fresh.program.unlink()
+    for name, data in [("a line break less", LISTING[:-1]), ("a line break more", LISTING + b"\n"), ("nothing", b"")]:
+        (stored / "stdout").write_bytes(data)
+        fresh.tries(test, f"the stored output has {name}", [BUILDING, ": list_program failed; see "], 1, False)
 
 
 def lacks(test, fresh):

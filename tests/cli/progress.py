@@ -23,14 +23,15 @@ while read -r line <&3; do
     *) printf '%s\\n' "$line" ;;
     esac
 done"""
-# What rt says where frame is not proved.
-PROVED = "logic=proved functions=1"
+PROVED = "logic=proved functions=1"  # what rt says at a crate's end
 
 
 def begins(name):
+    """What rt says when it begins with a crate that is not kept."""
     return f"rt: chose --jobs 2 for {name}"
 
 
+# What rt says where frame is not proved.
 NOT_PROVED = [
     begins("base"),
     PROVED,
@@ -43,6 +44,27 @@ PROGRAM_NOT_PROVED = [
     *(line for name in NAMES[:-1] for line in (begins(name), PROVED)),
     begins(NAMES[-1]),
     "logic=not-proved",
+]
+RUN_FAILED = [*(line for name in NAMES for line in (begins(name), PROVED)), "rt: running out/list_program"]
+# Where a source is no program text: with libraries that are kept, and with none.
+NOT_COMPILED = [
+    begins("frame"),
+    "src/reader.rt:11:48: error[unknown-name]: unresolved import",
+    "{place}/crates/frame/src/reader.rt:11:48: error[unknown-name]: unresolved import",
+    "rt: the library frame did not build, so nothing above it was checked",
+]
+NOTHING_KEPT = [
+    "{place}/crates/frame/src/reader.rt:11:48: error[unknown-name]: unresolved import",
+    "{place}/crates/listing/src/lines.rt:1:1: error[unknown-name]: unresolved import",
+    "rt: mend these first: no library was built",
+]
+MORE_READ = [
+    "{place}/crates/base/src/lib.rt:1:1: error[unknown-name]: unresolved import",
+    "rt: the quick pass above also reads functions that this crate may not reach",
+    *(line for name in NAMES[:2] for line in (begins(name), PROVED)),
+    begins("listing"),
+    "logic=not-proved",
+    "rt: the library listing did not build, so nothing above it was checked",
 ]
 
 
@@ -275,21 +297,31 @@ def fails(test, root, room):
     """The line that says so names the crate that failed first, and the log."""
     for what, lines, named in [
         ("a proof fails", NOT_PROVED, ": frame failed"),
+        ("a run fails", RUN_FAILED, ": list_program failed"),
         ("the program is not proved", PROGRAM_NOT_PROVED, ": list_program failed"),
+        ("a library is not compiled", NOT_COMPILED, ": frame failed"),
+        ("a library is not compiled and nothing is kept", NOTHING_KEPT, ": frame failed"),
+        ("a pass over the sources reads more than is proved", MORE_READ, ": listing failed"),
         ("rt fails and says nothing of a crate", ["rt: crates.txt: line 1: expected NAME"], ""),
     ]:
         fresh = checkout(root, room, what)
+        lines = [line.format(place=fresh.place) for line in lines]
+        logged, end = [*RT_SAYS, *lines], "fail"
+        if what == "a run fails":
+            for name in ("stdin", "stdout"):  # it prints more than it is given
+                (fresh.place / "crates/list_program" / name).write_bytes(STREAM)
+            logged, end = [*logged, "trogonreed: a run failed: list_program"], "build"
         line = f"trogonreed: the listing program could not be proved and built{named}; see {fresh.log}"
         for way in ("on a terminal", "again"):
             with at_terminal(fresh) as (screen, live):
                 feed(live)
-                say(fresh, *lines, "fail")
+                say(fresh, *lines, end)
                 found = live.ended()
                 right = (found.status, found.out) == (2, b"") and screen.last() == [NOTICE, line, ""]
                 test(f"{what}, {way}", right, f"{found}, {screen}")
         said = fresh.log.read_text()
-        test(f"{what}, the log has one run", said.splitlines() == [*RT_SAYS, *lines], said)
-        say(fresh, *lines, "fail")
+        test(f"{what}, the log has one run", said.splitlines() == logged, said)
+        say(fresh, *lines, end)
         found = fresh.use()
         right = (found.status, found.err.decode()) == (2, f"{NOTICE}\n{line}\n")
         test(f"{what}, not on a terminal", right, str(found))
