@@ -109,7 +109,7 @@ SAID = b"table 129\n"
 def all_uses(test, root, seed):
     program = root / "target/bin/box_program"
     if not program.exists():
-        test(f"there is none at {program}: rt check box_program", False)
+        test(f"there is none at {program}, where .ci/run puts it", False)
         return
     folder = root / "crates/box_program"
     test("box_program, its stored input", (folder / "stdin").read_bytes() == SENT)
