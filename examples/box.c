@@ -3,8 +3,8 @@
  * section 11, example 4). It prints the bytes of the frame in hex; a real box sends them over its serial line.
  *
  * Build it at the top of the repository:
- *     rt staticlib firmware
- *     gcc -std=c99 -Iinclude examples/box.c target/staticlib/libfirmware.a -o target/box
+ *     bin/firmware host
+ *     gcc -std=c99 -Iinclude examples/box.c target/firmware/host/libfirmware.a -o target/box
  */
 #include <stdio.h>
 

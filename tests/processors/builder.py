@@ -16,13 +16,15 @@ HERE = pathlib.Path(__file__).resolve().parent
 sys.path[1:1] = [str(HERE.parent / name) for name in ("lib", "cli")]
 from checks import Checks  # noqa: E402
 from door import as_started_by_a_person  # noqa: E402
-from module import FIRST, OTHERWISE, PROCESSOR, bitcode_of, changed, module_of, text_of, with_layout  # noqa: E402
+from module import FIRST, FOR_HOST, OTHERWISE, bitcode_of, changed, module_of, text_of, with_layout  # noqa: E402
 from page import PAGE, page_rows  # noqa: E402
-from place import (DAMAGED, FAILS, HOST, NO_MODULE, ON, PATIENCE, ROOT, SAYS_NOTHING, SLOW, TOOLS,  # noqa: E402
+from place import (BIN, DAMAGED, FAILS, HOST, NO_MODULE, PATIENCE, ROOT, SAYS_NOTHING, SLOW, TOOLS,  # noqa: E402
                    TWO_MODULES, WHOLE, Place, Run, kit_of)
 
 TRIPLE = "thumbv6m-none-eabi"
 FILES = ["libfirmware.a", "trogonreed.h"]
+PROVED = ["base", "frame", "firmware"]  # the writer, and what it is made of
+PAIR = re.compile(r"^  (%\w+) = load \{ (i64, i8) \}, ptr (%\w+), align 8\n", re.M)
 
 
 def written(test, place, module, folder):
@@ -99,7 +101,7 @@ def kits(test, place, module):
     ]:
         refused(test, place, what, text, module, word)
     for tool in TOOLS:
-        path = place.kit / ON / "toolchain/bin" / tool
+        path = place.kit / BIN / tool
         kept = path.readlink()
         path.unlink()
         refused(test, place, f"a kit without {tool}", WHOLE, module, f"no {tool}")
@@ -114,7 +116,7 @@ def kits(test, place, module):
 def counted(test, place, module):
     """What clang counts of the stack, with the arguments, is what was measured: the page's figures."""
     place.stand_in(WHOLE, module)
-    clang = place.kit / ON / "toolchain/bin/clang"
+    clang = place.kit / BIN / "clang"
     kept, count = clang.readlink(), place.kit / "counted"
     clang.unlink()
     clang.write_text(f'#!/bin/sh\n{kept} "$@" || exit\nfor word; do\n    case $word in\n'
@@ -134,7 +136,7 @@ def counted(test, place, module):
 
 def stacks(test, place, module):
     """What clang counts of the stack: too much, a use that depends on the input, two functions, none."""
-    clang = place.kit / ON / "toolchain/bin/clang"
+    clang = place.kit / BIN / "clang"
     kept = clang.readlink()
     clang.unlink()
     for counted in ["f 1024 static", "f 960 static", "f 100 dynamic", "f 100 static\ng 8 static", "f x static", ""]:
@@ -170,18 +172,25 @@ def modules(test, place, tools, module):
 
 
 def retargeted(test, place, text, layout):
-    """The change itself: three places of the module, and no other line."""
+    """The change itself: three places of the module, each pair that is loaded whole, and no other line."""
     exported = re.search(r"^(define noundef i32 @trogonreed_write_frame.*) #", text, re.M)[1]
     places = {"layout": layout, "triple": HOST, "to_layout": "LAYOUT", "to_triple": "TRIPLE", "exported": exported}
     words = ["awk", *(word for name, value in places.items() for word in ("-v", f"{name}={value}"))]
+    file = place.kit / "module.ll"
 
     def run(module):
+        file.write_text(module, encoding="ascii")
         programs = [word for name in ("memory", "retarget") for word in ("-f", place.root / f"cross/{name}.awk")]
-        return Run([*words, *programs, "-"], input=module)
+        return Run([*words, *programs, file, file])
     found = run(text)
-    wants = text.replace(f'"{layout}"', '"LAYOUT"').replace(f'"{HOST}"', '"TRIPLE"')
-    wants = wants.replace(' "probe-stack"="inline-asm" "target-cpu"="x86-64"', "")
-    test("three places change, and no other", found.status == 0 and found.out == wants and wants.count("x86") == 0)
+    wants = text.replace(f'"{layout}"', '"LAYOUT"').replace(f'"{HOST}"', '"TRIPLE"').replace(f" {FOR_HOST}", "")
+    wants, pairs = PAIR.subn(in_parts, wants)
+    right = found.status == 0 and found.out == wants and wants.count("x86") == 0
+    test("three places change, and each pair, and no other", right and pairs == text.count("= load {") > 0)
+    found = run(changed(text, FIRST, FIRST + "  %z = alloca [33 x i8], align 8\n"
+                        "  %y = load { i8, ptr, i16, i64, i1 }, ptr %z, align 8\n"))
+    parts = re.findall(r"^  %y\.place\d = getelementptr i8, ptr %z, i64 (\d+)$", found.out, re.M)
+    test("parts are loaded from their places on x86-64", parts == ["0", "8", "16", "24", "32"], str(found)[-300:])
     words += ["-v", 'more=module asm "x"']
     found = run(text)
     test("a line is added at the end", found.status == 0 and found.out == wants + 'module asm "x"\n')
@@ -192,18 +201,36 @@ def retargeted(test, place, text, layout):
         ("no triple", triple_line, ""), ("two triples", triple_line, triple_line * 2),
         ("another triple", triple_line, triple_line.replace("gnu", "musl")),
         ("a call of nothing", FIRST, FIRST + "  call void @none()\n"),
-        ("two groups", "attributes #1", f'attributes #2 = {{ "probe-stack"="inline-asm" {PROCESSOR} }}\nattributes #1'),
+        ("two groups", "attributes #1", f"attributes #3 = {{ nounwind {FOR_HOST} }}\nattributes #1"),
+        ("parameters with other names", "i64 noundef %a1) #0", "i64 noundef %a2) #0"),
+        ("two functions of one name", '@"base::slices::min"', '@"core::num::wrapping_add_u8"'),
+        ("a copy that is not declared", "declare void @llvm.memmove", "; declare void @llvm.memmove"),
+        ("zeros that are not declared", "declare void @llvm.memset", "; declare void @llvm.memset"),
         ("nothing", text, ""),
     ]:
         found = run(text.replace(old, new, 1))
-        test(f"{what}: refused in one line", found.status == 1 and found.err.count("\n") == 1, str(found)[-300:])
+        right = found.status == 1 and found.err.count("\n") == 1 and found.out == ""
+        test(f"{what}: refused in one line", right, str(found)[-300:])
+
+
+def in_parts(found):
+    """A pair that was loaded whole is loaded part by part, from its places."""
+    result, pair, pointer = found.groups()
+    lines, made = [], "poison"
+    for i, (part, place) in enumerate(zip(pair.split(", "), (0, 8)), 1):
+        name = result if i == 2 else f"{result}.with{i}"
+        lines += [f"  {result}.place{i} = getelementptr i8, ptr {pointer}, i64 {place}\n",
+                  f"  {result}.part{i} = load {part}, ptr {result}.place{i}, align 1\n",
+                  f"  {name} = insertvalue {{ {pair} }} {made}, {part} {result}.part{i}, {i - 1}\n"]
+        made = name
+    return "".join(lines)
 
 
 def interrupted(test, place):
     """A signal ends it and what it started; nothing stands where it was to write."""
     place.stand_in(SLOW)
     for number in (signal.SIGTERM, signal.SIGINT, signal.SIGHUP):
-        sleeping = place.root / "target/sleeping"
+        sleeping = place.root / "crates/firmware/out/sleeping"
         sleeping.unlink(missing_ok=True)
         temporary = place.folder / "temporary"
         temporary.mkdir()
@@ -273,10 +300,15 @@ def is_gone(process):
     return False
 
 
+def left_out(folder, _):
+    """Of the other crates, what was built."""
+    folder = pathlib.Path(folder)
+    return ["out"] if folder.parent == ROOT / "crates" and folder.name not in PROVED else []
+
+
 def not_proved(test, place):
     """The real rt, and a writer that has another number for PAYLOAD."""
-    for name in ["crates", "target/rlib", "target/stamp", "target/log"]:
-        shutil.copytree(ROOT / name, place.root / name, dirs_exist_ok=True)
+    shutil.copytree(ROOT / "crates", place.root / "crates", ignore=left_out, dirs_exist_ok=True)
     shutil.copy(ROOT / "crates.txt", place.root)
     source = place.root / "crates/firmware/src/lib.rt"
     text = source.read_text("utf-8")

@@ -1,7 +1,5 @@
 """Builds the test program for a processor, with the kit's compiler or with another one."""
-import os
 import pathlib
-import platform
 import shutil
 import subprocess
 
@@ -22,8 +20,7 @@ class Unbuilt(Exception):
 
 def kit_tool(name):
     """A tool of the kit that has `rt`."""
-    home = os.environ.get("RATTLE_HOME") or pathlib.Path(shutil.which("rt") or "").resolve().parents[1]
-    return str(pathlib.Path(home) / "on" / platform.machine() / "toolchain" / "bin" / name)
+    return str(pathlib.Path(shutil.which("rt") or "").resolve().parents[1] / "toolchain" / "bin" / name)
 
 
 def run(words, folder):

@@ -1,18 +1,23 @@
 """The module that the kit makes of firmware, and modules that look otherwise."""
-import os
 import shutil
 import subprocess
 
-from place import HOST, ON, PATIENCE, ROOT
+from place import BIN, HOST, PATIENCE, ROOT
 
 # Modules that look otherwise: what is changed, at its last place, into what, and a word of the line that refuses it.
 # Each is a module that clang itself takes.
 FIRST = "start:\n"
 DECLARED = "declare void @llvm.memmove"
-PROCESSOR = '"target-cpu"="x86-64"'
-TAKEN = "  store ptr %a3, ptr %r0, align 8\n"
-CALLED = '(i8 %a0, i8 %a1, i16 %a2, ptr %r0, ptr %r2)'
+PROCESSOR = '"target-cpu"="x86-64-v2"'
+FOR_HOST = '"probe-stack"="inline-asm" "stack-probe-size"="3072" ' + PROCESSOR
+TAKEN = "  store ptr %r4, ptr %r0, align 8\n"
+CALLED = '(i8 %a0, i8 %a1, i16 %a2, ptr %r6, i64 %r8, ptr %r15, i64 %r17)'
 COPY = "  call void @llvm.memmove.p0.p0.i64(ptr %r0, ptr %a3, "
+FILL = "  call void @llvm.memset.p0.i64(ptr "
+WRITES = '  call void @"frame::writer::write"(ptr %r5, '
+INNER = "  %r14 = load ptr, ptr %r3, align 8, !noundef !1\n"
+LEAST = "  %r2 = icmp ule i64 %a0, %a1\n"
+WITHIN = '  call void @"frame::writer::write_within"(ptr %r0, i64 1024, '
 OTHERWISE = [
     ("another processor", PROCESSOR, '"target-cpu"="x86-64-v3"', "attributes"),
     ("a feature of the processor", PROCESSOR, PROCESSOR + ' "target-features"="+avx2"', "attributes"),
@@ -60,7 +65,7 @@ OTHERWISE = [
     ("a call with fewer arguments", CALLED, "(i8 %a0, i8 %a1, i16 %a2, ptr %r0)", "other types"),
     ("a call with a wider argument", CALLED, CALLED.replace("i8 %a0", "i64 %a4"), "other types"),
     ("a function that calls itself", '@"firmware::trogonreed_write_frame"' + CALLED,
-     "@trogonreed_write_frame(i8 %a0, i8 %a1, i16 %a2, ptr %a3, i64 %a4, ptr %a5, i64 %a6)", "stand above"),
+     "@trogonreed_write_frame(i8 %a0, i8 %a1, i16 %a2, ptr %a3, i64 %a4, ptr %a5, i64 %a6)", "for C alone"),
     ("another promise to clang", '{ nounwind "probe', '{ nounwind willreturn "probe', "attributes"),
     ("numbers of 128 bits", FIRST, FIRST + "  %z = alloca i128, align 16\n", "form"),
     ("numbers with a point", FIRST, FIRST + "  %z = fadd double 1.0, 2.0\n", "form"),
@@ -75,26 +80,61 @@ OTHERWISE = [
     ("another name", " @trogonreed_write_frame(", " @trogonreed_writes(", "exports"),
     ("no export", "define noundef i32 @trogonreed", "define internal noundef i32 @trogonreed", "export"),
     ("lengths of 32 bits", None, None, "exports"),
+    ("an inner function that calls itself", LEAST, LEAST + '  %z = call i64 @"base::slices::min"(i64 %a0, i64 %a1)\n',
+     "may call itself"),
+    ("two functions that call each other", WITHIN, '  %z = call i32 @"firmware::trogonreed_write_frame"'
+     "(i8 %a1, i8 %a2, i16 %a3, ptr %a4, i64 %a5, ptr %a6, i64 %a7)\n" + WITHIN, "may call itself"),
+    ("addresses compared in C's function", TAKEN, TAKEN + "  %z = icmp eq ptr %a3, %a5\n", "form"),
+    ("an address compared in another function", INNER, INNER + "  %z = icmp eq ptr %a3, null\n", "form"),
+    ("zeros where an address was", FIRST, FIRST + "  %z = alloca ptr, align 8\n"
+     f"{FILL}%z, i8 0, i64 8, i1 false)\n", "for more"),
+    ("zeros beyond memory", TAKEN, TAKEN + FILL + "%r0, i8 0, i64 17, i1 false)\n", "beyond"),
+    ("zeros above 32 bits", TAKEN, TAKEN + FILL + "%r0, i8 0, i64 4294967312, i1 false)\n", "form"),
+    ("zeros of a computed size", TAKEN, TAKEN + FILL + "%a3, i8 0, i64 %a4, i1 false)\n", "form"),
+    ("zeros that are volatile", TAKEN, TAKEN + FILL + "%r0, i8 0, i64 16, i1 true)\n", "form"),
+    ("another number than zeros", TAKEN, TAKEN + FILL + "%r0, i8 7, i64 16, i1 false)\n", "form"),
+    ("a pair stored whole", TAKEN, TAKEN + "  store { ptr, i64 } zeroinitializer, ptr %r0, align 8\n", "form"),
+    ("a pair of 128 bits", TAKEN, TAKEN + "  %z = load { i128, ptr }, ptr %r0, align 8\n", "form"),
+    ("a pair in a pair", TAKEN, TAKEN + "  %z = load { { ptr, i32 }, i32 }, ptr %r0, align 8\n", "form"),
+    ("a pair without room between its parts", TAKEN, TAKEN + "  %z = load <{ ptr, i64 }>, ptr %r0, align 8\n", "form"),
+    ("a pair with an address as a number", TAKEN, TAKEN + "  %z = load { i64, i64 }, ptr %r0, align 8\n",
+     "address as a number"),
+    ("a pair with a number as an address", TAKEN, TAKEN + "  %z = load { i32, ptr }, ptr %r0, align 8\n"
+     "  %y = getelementptr i8, ptr %r0, i64 8\n  store i64 %a4, ptr %y, align 8\n", "an address as a number"),
+    ("a pair beyond memory", TAKEN, TAKEN + "  %y = getelementptr i8, ptr %r0, i64 8\n"
+     "  %z = load { i64, i8 }, ptr %y, align 8\n", "beyond"),
+    ("a pair in the memory of an address", FIRST, FIRST + "  %z = alloca ptr, align 8\n"
+     "  %y = load { ptr, i64 }, ptr %z, align 8\n", "for more"),
+    ("a pair of the caller's", TAKEN, TAKEN + "  %z = load { i64, i8 }, ptr %a3, align 1\n", "more than a byte"),
+    ("a function that writes numbers where its caller has an address", WRITES, WRITES.replace("%r5", "%r10"),
+     "a number as an address"),
+    ("a function that writes beyond its caller's memory", WRITES, WRITES.replace("%r5", "%r7"), "beyond"),
+    ("a function that takes it that its caller's memory is aligned", "  store i64 %r19, ptr %a0, align 1\n",
+     "  store i64 %r19, ptr %a0, align 16\n", "not aligned"),
+    ("a function that writes more than bytes to C's memory", WRITES, WRITES.replace("%r5", "%r19"), "not known"),
+    ("a copy of what C passes", TAKEN, TAKEN + COPY + "i64 16, i1 false)\n", "not its own"),
 ]
 
 
 def module_of(place, tools):
     """The module that the kit makes of firmware: a clang that keeps what it is to compile."""
     kept = place.folder / "kept"
-    real = tools.parents[3]
-    on = real / ON
-    for folder, left_out in [(real, "on"), (on, "toolchain"), (on / "toolchain", "bin"), (tools, "clang")]:
+    real = tools.parents[1]
+    for folder, left_out in [(real, ["bin", "toolchain"]), (real / "bin", ["rt", "rtlib.py"]),
+                             (real / "toolchain", ["bin"]), (tools, ["clang"])]:
         target = kept / "kit" / folder.relative_to(real)
         target.mkdir(parents=True)
         for path in folder.iterdir():
-            if path.name != left_out:
+            if path.name not in left_out:
                 (target / path.name).symlink_to(path)
-    clang = kept / "kit" / ON / "toolchain/bin/clang"
+    for name in ["rt", "rtlib.py"]:  # rt finds its kit by the real path of its own file
+        shutil.copy(real / "bin" / name, kept / "kit/bin")
+    clang = kept / "kit" / BIN / "clang"
     clang.write_text(f"#!/bin/sh\nfor word; do case $word in *.bc) cp \"$word\" '{kept}/module.bc' ;; esac; done\n"
                      f"exec '{tools}/clang' \"$@\"\n", encoding="utf-8")
     clang.chmod(0o755)
-    subprocess.run(["rt", "staticlib", "firmware"], cwd=ROOT, check=True, capture_output=True, timeout=PATIENCE,
-                   env={**os.environ, "RATTLE_HOME": str(kept / "kit")})
+    subprocess.run([kept / "kit/bin/rt", "lib", "--backend", "llvm"], cwd=ROOT / "crates/firmware", check=True,
+                   capture_output=True, timeout=PATIENCE)
     module = (kept / "module.bc").read_bytes()
     shutil.rmtree(kept)
     return module

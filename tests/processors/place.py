@@ -5,31 +5,31 @@ proof, and the module can be one that the kit does not make.
 """
 import os
 import pathlib
-import platform
 import shutil
 import subprocess
 
 ROOT = pathlib.Path(__file__).resolve().parents[2]
 PATIENCE = 300  # seconds
 TOOLS = ["clang", "ld.lld", "llvm-ar"]
-ON = pathlib.Path("on") / platform.machine()
+BIN = pathlib.Path("toolchain/bin")
 HOST = "x86_64-unknown-linux-gnu"
 
-# Stand-ins for rt. module.bc is in their folder.
+# Stand-ins for rt, run in the crate's folder. module.bc is in their own folder, and their kit is around that.
 COMPILES = """
-mkdir -p target/staticlib && rm -f target/staticlib/libfirmware.a
-root=$PWD here=$(dirname "$(readlink -f "$0")") bin=$RATTLE_HOME/on/$(uname -m)/toolchain/bin
+mkdir -p out && rm -f out/libfirmware.a
+crate=$PWD here=$(dirname "$(readlink -f "$0")")
+bin=${here%/bin}/toolchain/bin
 cd "$(mktemp -d "$here/XXXXXX")" && cp "$here/module.bc" . || exit
 compile() { "$bin/clang" -w --target=x86_64-unknown-linux-gnu -c -x ir -O3 "$1.bc" -o "$1.o"; }
 """
-ARCHIVES = '"$bin/llvm-ar" rcs "$root/target/staticlib/libfirmware.a" module.o'
+ARCHIVES = '"$bin/llvm-ar" rcs "$crate/out/libfirmware.a" module.o'
 WHOLE = f"{COMPILES}compile module && {ARCHIVES}"
 TWO_MODULES = f"{COMPILES}cp module.bc more.bc && compile more && compile module && {ARCHIVES}"
 DAMAGED = f"{COMPILES}echo none >module.bc; compile module; exit 0"
-NO_MODULE = "mkdir -p target/staticlib && : >target/staticlib/libfirmware.a"
-FAILS = "echo 'rt: frame NOT PROVED (1 s)'; exit 1"
+NO_MODULE = "mkdir -p out && : >out/libfirmware.a"
+FAILS = "echo 'rt: the library frame did not build, so nothing above it was checked'; exit 1"
 SAYS_NOTHING = "exit 2"
-SLOW = "mkdir -p target; sleep 60 & echo $! >target/sleeping; wait"
+SLOW = "mkdir -p out; sleep 60 & echo $! >out/sleeping; wait"
 
 
 class Run:
@@ -58,15 +58,15 @@ class Place:
         self.folder, self.kit, self.root = folder, folder / "kit", folder / "repository"
         self.out = folder / "out"
         (self.kit / "bin").mkdir(parents=True)
-        (self.kit / ON / "toolchain/bin").mkdir(parents=True)
+        (self.kit / "bin/rtlib.py").touch()  # the kit's rt has it beside itself
+        (self.kit / BIN).mkdir(parents=True)
         for tool in TOOLS:
-            (self.kit / ON / "toolchain/bin" / tool).symlink_to(tools / tool)
-        self.root.mkdir()
+            (self.kit / BIN / tool).symlink_to(tools / tool)
+        (self.root / "crates/firmware").mkdir(parents=True)
         for name in ["bin", "cross", "include"]:
             shutil.copytree(ROOT / name, self.root / name)
         self.door = str(self.root / "bin/firmware")
         self.environment = {**os.environ, "PATH": f"{self.kit / 'bin'}:{os.environ['PATH']}"}
-        self.environment.pop("RATTLE_HOME", None)
 
     def stand_in(self, text, module=None):
         rt = self.kit / "bin/rt"
@@ -86,5 +86,4 @@ class Place:
 
 def kit_of():
     """The folder of the kit's tools."""
-    kit = os.environ.get("RATTLE_HOME") or pathlib.Path(shutil.which("rt")).resolve().parents[1]
-    return pathlib.Path(kit) / ON / "toolchain/bin"
+    return pathlib.Path(shutil.which("rt")).resolve().parents[1] / BIN
