@@ -113,7 +113,7 @@ def misvalued(text):
 
 def claims_in(text):
     """The claims that an edit names."""
-    return re.findall(r"^claim: (\S+)$", text, re.M)
+    return re.findall(r"^# claim: (\S+)$", text, re.M)
 
 
 def unnamed(path, text):

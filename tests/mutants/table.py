@@ -1,7 +1,7 @@
 #!/usr/bin/env python3
 """Writes docs/WRONG_PROGRAMS.md from the edits: table.py > docs/WRONG_PROGRAMS.md.
 
-The first line of an edit says what the program does wrong; its `claim:` lines name the theorems that refuse it.
+The first line of an edit says what the program does wrong; its `# claim:` lines name the theorems that refuse it.
 """
 import pathlib
 import re
@@ -47,7 +47,7 @@ def what(text):
     """What the program does wrong: the lines that begin an edit."""
     lines = []
     for line in text.splitlines():
-        if not line.startswith("#"):
+        if not line.startswith("#") or line.startswith("# claim: "):
             break
         lines.append(line.lstrip("# ").strip())
     return " ".join(lines)
@@ -56,7 +56,7 @@ def what(text):
 def item(crate, path):
     """The entry of an edit."""
     text = path.read_text(encoding="utf-8")
-    claims = re.findall(r"^claim: (\S+)$", text, re.M)
+    claims = re.findall(r"^# claim: (\S+)$", text, re.M)
     refused = f" → {', '.join(f'`{claim}`' for claim in claims)}" if claims else ""
     return textwrap.fill(f"- `{crate}/{path.stem}`: {what(text)}{refused}", WIDTH, subsequent_indent="  ",
                          break_long_words=False, break_on_hyphens=False)
