@@ -271,7 +271,7 @@ def link_or_copy(source, target):
 
 
 def link(source, target):
-    """A folder of what rt proved: links, since rt never writes in such a file, and copies of the rest, where it does."""
+    """A folder of what rt proved: links, since rt never writes in such a file, and copies of the rest."""
     shutil.copytree(source, target, symlinks=True,
                     copy_function=lambda one, two: (link_or_copy if one.endswith(".oantt") else shutil.copy2)(one, two))
 

@@ -26,8 +26,8 @@ contract. A claim must refuse it.
 Each entry below is such a program, an edit of one crate; a theorem named after the arrow is no longer admitted. A
 second list for each crate has the edits of the code alone, which a contract refuses. `tests/mutants` tries all of
 them over a crate that is proved first, and looks for each named theorem among the refused ones. At least one of each
-crate stands in `crates/NAME/must-fail/` and is tried from nothing by `rt ci`. This page is made by
-`tests/mutants/table.py` from the edits, and `tests/documents` holds it to them.
+crate stands in `crates/NAME/must-fail/` and is tried by `rt ci` too. This page is made by `tests/mutants/table.py` from
+the edits, and `tests/documents` holds it to them.
 
 What no claim can refuse: a constructor of the logic has no field names, so a variant whose two fields of one type
 are declared in the other order, with code to match, is not refused. `docs/API.md` names the fields of each variant in
