@@ -219,25 +219,29 @@ def unrefused(edit, output):
 
 
 def unread(output):
-    """The first error that says that the prover could not read a text of src/ or specs/, or ''.
+    """The first error that says that the prover did not admit a text of src/ or specs/, or ''.
 
-    These are the edits that rt calls bad: an error that names no declaration, or one about a name.
+    No proof stands there, so such an error is about the text of the edit: a name that is gone, or a type that does not
+    fit. The function that asks for claims is no part of it.
     """
     for error in ERROR.finditer(output):
-        if error["file"].startswith(("src/", "specs/")) and not FOLLOWS.search(error["text"]):
-            if not error["name"] or MISFITS.search(error["text"].split("\n")[0]):
+        if error["file"].startswith(("src/", "specs/")) and error["file"] != f"src/{ASKING}.rt":
+            if not FOLLOWS.search(error["text"]):
                 return error.group(0)
     return ""
 
 
-def misfit_of(output):
+def misfit_of(edit, output, error):
     """The first message that says that a proof's text does not fit, or ''.
 
     Some `rule_` edits need another proof for a function, whose error may come later: there the first one and those of
-    the claims count.
+    the claims count. Of an edit of the code each one counts, in all of its lines.
     """
-    errors = (error.group(0) for error in ERROR.finditer(output))
-    return next((error for error in errors if MISFITS.search(error)), "")
+    if edit.stem.startswith("rule_"):
+        return error.group(0) if MISFITS.search(error.group(0)) else ""
+    first = re.match(r".*(?:\n +.*)*", output[error.start():]).group(0)
+    messages = (first, *(other.group(0) for other in ERROR.finditer(output)))
+    return next((message for message in messages if MISFITS.search(message)), "")
 
 
 def fault_of(edit, output, verdict):
@@ -249,8 +253,8 @@ def fault_of(edit, output, verdict):
         return f"refused without a place: {output[-300:]}", ""
     place = error.group(1).removeprefix("./")
     if bad := unread(output):
-        return f"the prover cannot read its text: {bad[:300]}", place
-    if misfit := misfit_of(error.group(0) if edit.stem.startswith("rule_") else output):
+        return f"the prover does not admit its text: {bad[:300]}", place
+    if misfit := misfit_of(edit, output, error):
         return f"refused where a proof file does not fit the code: {misfit[:300]}", place
     wrong = unrefused(edit, output)
     return wrong and f"{wrong}; first at {place}", place
