@@ -55,7 +55,10 @@ MAY_CHANGE = {"code": ("src/",), "rule": ("src/", "specs/")}
 MISFITS = re.compile(r"has no `Need-|can be named from here|has no field|is not in scope|is no name|exports no `"
                      r"|operand is missing|expected the end|cannot continue|was not expected"
                      r"|explicit (?:fields?|arguments?), (?:and|but) this pattern|and this pattern writes")
-ERROR = re.compile(r"^(?:\./)?(?P<file>[^\s:]+):\d+:\d+: error: (?:`(?P<name>[^`]+)`: )?(?P<text>.*(?:\n +.*)*)", re.M)
+ERROR = re.compile(r"^(?:\./)?(?P<file>[^\s:]+):\d+:\d+: error(?:\[[^]]*\])?: (?:`(?P<name>[^`]+)`: )?"
+                   r"(?P<text>.*(?:\n +.*)*)", re.M)
+VERDICT = re.compile(r"^(logic=(?:not-)?proved\b|only=\d+ proved=\d+$)", re.M)
+NOT_BUILT = re.compile(r"^rt: the library \w+ did not build", re.M)
 FOLLOWS = re.compile(r"\d+ declarations? that depends? on `(?P<cause>[^`]+)`, which was (?:not admitted|rejected), "
                      r"(?:was|were) not checked: (?P<names>.*)")
 
@@ -145,6 +148,19 @@ def asking(crate, claims):
             f"proofs/{ASKING}/{ASKING}/Answers.antt": answers}
 
 
+def verdict_of(status, output):
+    """Whether a check proved what it was asked for, refused it, or neither, by its status and its last word on it.
+
+    Where a library below is not built, that word is of a pass over the sources.
+    """
+    said = VERDICT.findall(output)
+    if not said or NOT_BUILT.search(output):
+        return "stopped"
+    if status == 0 and said[-1] != "logic=not-proved":
+        return "proved"
+    return "refused" if status == 1 and said[-1] != "logic=proved" else "stopped"
+
+
 def prove(room, name, only):
     """The output of a check, whether it proved the crate, refused it, or neither, and its processor seconds.
 
@@ -158,12 +174,7 @@ def prove(room, name, only):
         ran.returncode = os.waitstatus_to_exitcode(status)
         told.seek(0)
         output = told.read().decode("utf-8", "replace")
-    verdict = "stopped"
-    if ran.returncode == 0 and re.search(r"^(?:logic=proved|only=\d+ proved=\d+$)", output, re.M):
-        verdict = "proved"
-    elif ran.returncode == 1 and re.search(r"^(?:logic=not-proved|only=\d+ proved=\d+$)", output, re.M):
-        verdict = "refused"
-    return output, verdict, used.ru_utime + used.ru_stime
+    return output, verdict_of(ran.returncode, output), used.ru_utime + used.ru_stime
 
 
 def first_error(output):
@@ -252,6 +263,8 @@ def fault_of(edit, output, verdict):
     if not error:
         return f"refused without a place: {output[-300:]}", ""
     place = error.group(1).removeprefix("./")
+    if not place.startswith(("src/", "specs/", "proofs/")):
+        return f"refused outside the crate: {error.group(0)[:300]}", place
     if bad := unread(output):
         return f"the prover does not admit its text: {bad[:300]}", place
     if misfit := misfit_of(edit, output, error):
@@ -442,6 +455,7 @@ def main():
     with tempfile.TemporaryDirectory(prefix="mutants.") as folder, \
             concurrent.futures.ThreadPoolExecutor(WORKERS) as pool:
         check_claims.check(checks, fault_of, folder)
+        check_claims.check_verdicts(checks, verdict_of)
         for what, wrong, line in tests(Rooms(folder), pool, sys.argv[1:]):
             checks.test(what, not wrong, wrong)
             if not wrong and line:
