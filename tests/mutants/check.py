@@ -442,8 +442,6 @@ def tests(rooms, pool, words):
             yield f"{name}/{edit.stem}", wrong, line
     left = {edit for _, edit in tried} - {edit for _, batch in turns for edit in batch}
     yield "no edit is left out", ", ".join(edit.stem for edit in left), account(rooms.checked)
-    for name, seconds in rooms.seconds.items():
-        yield f"{name} in time", "", f"{len(seconds)} checks in {sum(seconds):.0f} s of processor time"
     lost = [word for word in words if not any(is_wanted(job, [word]) for job in jobs)]
     yield "there are edits to try", "" if jobs and not lost else f"there is none {', '.join(lost)}".strip(), ""
 
@@ -456,10 +454,13 @@ def main():
             concurrent.futures.ThreadPoolExecutor(WORKERS) as pool:
         check_claims.check(checks, fault_of, folder)
         check_claims.check_verdicts(checks, verdict_of)
-        for what, wrong, line in tests(Rooms(folder), pool, sys.argv[1:]):
+        rooms = Rooms(folder)
+        for what, wrong, line in tests(rooms, pool, sys.argv[1:]):
             checks.test(what, not wrong, wrong)
             if not wrong and line:
                 checks.say(f"{what}: {line}")
+    for name, seconds in rooms.seconds.items():
+        checks.say(f"{name}: {len(seconds)} checks in {sum(seconds):.0f} s of processor time")
     return checks.end()
 
 
