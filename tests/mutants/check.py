@@ -288,7 +288,11 @@ def link_or_copy(source, target):
 
 
 def link(source, target):
-    """A folder of what rt proved: links, since rt never writes in such a file, and copies of the rest."""
+    """A folder of what rt proved: links, since rt never writes in such a file, and copies of the rest.
+
+    Where a check of an upper crate has built this one as a library, its folder is there already, and goes.
+    """
+    shutil.rmtree(target, ignore_errors=True)
     shutil.copytree(source, target, symlinks=True,
                     copy_function=lambda one, two: (link_or_copy if one.endswith(".oantt") else shutil.copy2)(one, two))
 
