@@ -1,4 +1,4 @@
-// What the layers share: bytes at a place, big-endian numbers, slices of the caller's data, and the outcome of a write.
+//! What the layers share: bytes at a place, big-endian numbers, slices of the caller's data, and the outcome of a write.
 #![tactic(auto)]
 
 mod bytes;
@@ -10,5 +10,5 @@ mod writes;
 pub use bytes::{byte_at, four_at, four_bytes, two_at, two_bytes};
 pub use puts::put_bytes;
 pub use same::same_bytes;
-pub use slices::{min, part};
-pub use writes::{Unwritten, WriteResult, write_both};
+pub use slices::part;
+pub use writes::{StateError, WriteError, count, needed, write_both};

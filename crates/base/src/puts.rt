@@ -1,4 +1,4 @@
-// Bytes stored in the caller's buffer.
+//! Bytes stored in the caller's buffer.
 ghost use Rattle.std.specs.Prelude.{◌+◌, ◌≤◌, length};
 ghost use Rattle.base.specs.Stores.{PutAt, fitting};
 
@@ -7,24 +7,18 @@ fn put_all(out: &mut [u8], at: usize, bytes: &[u8]) -> usize
     requires { at + length bytes.now ≤ length out.old }
     ensures { PutAt out.old at bytes.now result out.new }
 {
-    let mut i = 0;
-    while i < bytes.len() {
-        out[at + i] = bytes[i];
-        i += 1;
-    }
-    at + i
+    let end = at + bytes.len();
+    out[at..end].copy_from_slice(bytes);
+    end
 }
 
-// Puts bytes from a place on and returns the place that follows them. Where they do not fit, nothing is put, and the
-// place itself is returned.
+/// Puts bytes from a place on and returns the place that follows them. Where they do not fit, nothing is put, and the
+/// place itself is returned.
 pub fn put_bytes(out: &mut [u8], at: usize, bytes: &[u8]) -> usize
     ensures { PutAt out.old at (fitting out.old at bytes.now)
         result out.new }
 {
-    if out.len() < at {
-        return at;
-    }
-    if out.len() - at < bytes.len() {
+    if out.len() < at || out.len() - at < bytes.len() {
         return at;
     }
     put_all(out, at, bytes)
