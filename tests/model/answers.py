@@ -1,6 +1,6 @@
 """The numbers of all answers: PROTOCOL 4.1 to 4.11, 6.3, 6.4, 7.4 to 7.6, 9.10 to 9.12, and those of captures.
 
-The last ones are those of transfers (M-103).
+The last ones are those of transfers.
 """
 
 DONE = 0  # no refusal (PROTOCOL 6.7)

@@ -1,4 +1,4 @@
-"""Asking and then writing (M-105): a call that met ROOM, made again in just the room that it said, is written.
+"""Asking and then writing: a call that met ROOM, made again in just the room that it said, is written.
 
 It is about records and printed lines alone; no rule of what is written is in here.
 """

@@ -1,4 +1,4 @@
-"""What the box does with an answer of its reader: link, transfer and reply together (M-103)."""
+"""What the box does with an answer of its reader: link, transfer and reply together."""
 from answers import DONE, FRAME, STATE, SUM
 from message import read_message
 from reply import reply_row

@@ -11,7 +11,7 @@ MAX_PLACE = 2**62
 
 
 def written(data, output):
-    """Answer and count; of ROOM the length of all of it (M-105)."""
+    """Answer and count; of ROOM the length of all of it."""
     if len(output) < len(data):
         return ROOM, len(data)
     output[: len(data)] = data

@@ -1,4 +1,4 @@
-"""What a box with a transfer writes (M-103), counted: nothing of the model's transfer is in here.
+"""What a box with a transfer writes, counted: nothing of the model's transfer is in here.
 
 It is about records and printed lines alone. Each frame that is written is read back, and has to be the one that the
 answer says. The 1B and 27 that the box sends are counted with the link's own calls: numbers, repeats and waits.

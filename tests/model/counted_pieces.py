@@ -1,4 +1,4 @@
-"""What a transfer holds (M-103), counted: nothing of the model's transfer is in here, and no field of a state.
+"""What a transfer holds, counted: nothing of the model's transfer is in here, and no field of a state.
 
 It counts over records and printed lines alone. From a fresh transfer the bytes stored are those of the accepted pieces
 of distinct numbers since the last accepted 19; an accepted 1F or 27 leaves none. They are joined at the front of the

@@ -5,7 +5,7 @@ from wire import write_frame
 
 NOTHING, WANTED, SENT = "nothing", "wanted", "sent"
 INFORMATION, STATUS = 0x02, 0x04  # what the caller is asked to send where it is WANTED
-TRANSFERS = 0x19, 0x1D, 0x1F  # handed to the caller, whatever their payload is (M-103)
+TRANSFERS = 0x19, 0x1D, 0x1F  # handed to the caller, whatever their payload is
 REJECTION = 0x12
 UNANSWERED = SHORT, LONG, STUFF, STUFFLATE, CUT  # refused frames that get no reply (PROTOCOL 8.10)
 BOX_SENDS = bytes.fromhex("02 04 05 08 09 0B 0E 10 12 13 15 17 1A 1B 1E 20 27 29")

@@ -1,4 +1,4 @@
-"""Lines of the driver about frames that the box receives, worked out by hand (M-103).
+"""Lines of the driver about frames that the box receives, worked out by hand.
 
 Reader, link, transfer and replies act together. The stored script has them too.
 """

@@ -1,4 +1,4 @@
-"""Lines of the driver about refused calls of a transfer, worked out by hand (M-103).
+"""Lines of the driver about refused calls of a transfer, worked out by hand.
 
 Each refusal, each pair of refusals that can compete, the ends of all ranges, and transfers and links that are made up.
 """

@@ -1,4 +1,4 @@
-"""Lines of the driver about outputs of every size, and about the longest check codes, worked out by hand (M-103).
+"""Lines of the driver about outputs of every size, and about the longest check codes, worked out by hand.
 
 They are too many, or too long, to be stored.
 """

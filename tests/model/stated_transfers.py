@@ -1,4 +1,4 @@
-"""Lines of the driver about transfers, worked out by hand (M-103).
+"""Lines of the driver about transfers, worked out by hand.
 
 With those about received frames they are the last part of the driver's stored script.
 """

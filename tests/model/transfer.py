@@ -1,8 +1,8 @@
-"""A transfer: a counting table that the box receives piece by piece into the caller's buffer (M-103).
+"""A transfer: a counting table that the box receives piece by piece into the caller's buffer.
 
 A call answers a list: the answer's number and its values. A refused 19, 1D or 1F gets a rejection, and nothing else
-changes. STATE, BUSY, PAYLOAD and ROOM change nothing at all. ROOM says the length of all that would be written
-(M-105). All that is written has flags 0.
+changes. STATE, BUSY, PAYLOAD and ROOM change nothing at all. ROOM says the length of all that would be
+written. All that is written has flags 0.
 """
 from answers import BUSY, DONE, EMPTY, HEXLINES, PAYLOAD, PIECE, PIECES, ROOM, STATE, TOOBIG, TURN
 from message import read_message

@@ -33,7 +33,7 @@ def on_wire(command, number, flags, payload):
 
 
 def write_frame(command, number, flags, payload, output, room):
-    """Answer and count (PROTOCOL 6.1 to 6.5); of ROOM the length of the whole frame (M-105).
+    """Answer and count (PROTOCOL 6.1 to 6.5); of ROOM the length of the whole frame.
 
     The caller's buffer is the first `room` bytes of the output.
     """

@@ -62,7 +62,7 @@ pub fn to_frame(command: u8, number: u8, payload: &[u8]) -> Reply {
     if FROM_THE_BOX.contains(&command) {
         return rejected(number, UNKNOWN_COMMAND, NO_ROW);
     }
-    // A transfer decides about these, faulty ones too (M-103).
+    // A transfer decides about these, faulty ones too.
     if matches!(command, 0x19 | 0x1D | 0x1F) {
         return Reply::Wanted { command: command + 1, number };
     }
@@ -105,7 +105,7 @@ fn rejection(number: u8, code: u8) -> Vec<u8> {
 mod tests {
     use super::*;
 
-    /// M-103: handed to the caller, whatever the payload is.
+    /// Handed to the caller, whatever the payload is.
     #[test]
     fn transfers_are_handed_over() {
         for command in [0x19, 0x1D, 0x1F] {

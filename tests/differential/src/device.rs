@@ -1,4 +1,4 @@
-//! What the box does with each answer of its reader (M-103): the link sees the frame, and the reply is made.
+//! What the box does with each answer of its reader: the link sees the frame, and the reply is made.
 
 use crate::answers::{self, Reply};
 use crate::link::Link;

@@ -13,7 +13,7 @@ const KINDS: [(&str, &str); 7] = [
     ("stufflate", "19"),
 ];
 
-/// The answers of a transfer and of the whole box (M-103), as their lines begin. On the wire no check code is too long.
+/// The answers of a transfer and of the whole box, as their lines begin. On the wire no check code is too long.
 const CALLS: [&str; 37] = [
     "begin 0",
     "begin 17",

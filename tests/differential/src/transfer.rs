@@ -1,4 +1,4 @@
-//! A transfer (M-103): the module announces a table, and the box stores it piece by piece at the front of the caller's
+//! A transfer: the module announces a table, and the box stores it piece by piece at the front of the caller's
 //! buffer. Every call says what it writes before it changes anything, so that a lack of room leaves all as it was.
 
 use crate::answers::{acknowledgement, other_error};

@@ -169,7 +169,7 @@ mod tests {
         records
     }
 
-    /// What M-103 says of every list of calls, told from the records and whether they are accepted.
+    /// What is said of every list of calls, told from the records and whether they are accepted.
     struct Ledger {
         /// Numbers and data of the pieces since the last accepted 19.
         pieces: Option<Vec<(u16, Vec<u8>)>>,
