@@ -1,12 +1,12 @@
 -- Stores, one after another. Assumes nothing.
 use Prim.Native.Nat.{ℕ, suc, ◌+◌, ◌-◌, ◌≤◌, ◌<◌}
-use mathlib.Core.Path.{◌≡◌, refl}
+use mathlib.Core.Path.{◌≡◌, refl, sym}
 use mathlib.Core.List.{List, [], ◌∷◌, ◌++◌, append-nil, append_assoc}
 use native.Mathlib.Nat.{zero-add, add-zero}
-use native.Mathlib.Numerals.{add-one}
 use native.Mathlib.Omega.{arith}
-use lib.ListN.{length, get_or, take, drop, set, length-append, length-drop, drop_of_length-le}
-use lib.Seq.{sets, sets-eq, drop-cons, drop-drop, take_all}
+use lib.ListN.{length, take, drop, set, length-append, length-drop, drop_of_length-le}
+use lib.Seq.{sets, sets-eq, drop-drop, take_all}
+use borrow.Rule.Slice.PartMut.{put_mid}
 use borrow.Author.Tests.{lt-ltb, le-ltb}
 use Rattle.base.specs.Rows.{row}
 use Rattle.base.specs.Outcomes.{output, onto, placed}
@@ -26,21 +26,12 @@ pub put_join : (out xs ys : List ℕ) (at : ℕ) {a b : List ℕ} {p q : ℕ}
     → PutAt out at xs p a → PutAt a p ys q b → PutAt out at (xs ++ ys) q b
 put_join out xs ys at e f = (rw length-append (omega arith), rw sets-append (cc))
 
--- ---- from the front: bytes from the i-th on, put at their places from `at` on
-
-module _ (bytes out : List ℕ) (at : ℕ) where
-  pub put_first : sets out (at + 0) (drop 0 bytes) ≡ sets out at bytes
-  put_first = rw add-zero
-
-  pub put_next : (i : ℕ) → i < length bytes
-      → sets (set out (at + i) (get_or bytes i 0)) (at + (i + 1)) (drop (i + 1) bytes)
-      ≡ sets out (at + i) (drop i bytes)
-  put_next i h =
-      let e : at + suc i ≡ suc (at + i) = omega arith in
-      rw (add-one, e, drop-cons bytes i 0)
-
-  pub put_none : (i : ℕ) → length bytes ≤ i → sets out (at + i) (drop i bytes) ≡ out
-  put_none i h = rw (drop_of_length-le bytes h)
+-- what is copied to a part of a buffer is stored byte after byte
+pub copied : (at : ℕ) (bytes out : List ℕ) → at + length bytes ≤ length out
+    → put_mid at (at + length bytes - at) out bytes ≡ sets out at bytes
+copied at bytes out h =
+    let size : at + length bytes - at ≡ length bytes = omega arith in
+    rw (size, sets-eq bytes out at h, drop-drop (length bytes) at out) (sym (append_assoc (take at out) bytes _))
 
 -- ---- all of the bytes, or none
 

@@ -3,6 +3,7 @@ ghost use Rattle.std.specs.Prelude.{◌+◌, ◌≤◌, length};
 ghost use Rattle.base.specs.Stores.{PutAt, fitting};
 
 // Puts bytes from a place on that has room for them; returns the place that follows them.
+#[tactic(auto, using(crate::proofs::Stores::copied))]
 fn put_all(out: &mut [u8], at: usize, bytes: &[u8]) -> usize
     requires { at + length bytes.now ≤ length out.old }
     ensures { PutAt out.old at bytes.now result out.new }
