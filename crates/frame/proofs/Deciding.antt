@@ -15,9 +15,7 @@ use Rattle.frame.specs.Logs.{body_held}
 use Rattle.frame.specs.Table.{verdict_number, verdict_values}
 use Rattle.frame.specs.Rules.{body_byte_of, broken_of, on_ff_in, on_other_in, advance_of, decides_of, put_of}
 use Rattle.frame.specs.Calls.{next_of}
-use Rattle.frame.specs.State.{Phase, Idle, Half, Header, Open, Escape, Scan, Step, State}
-use Rattle.frame.specs.declared.scan.Event.{Event}
-use Rattle.frame.specs.declared.scan.Event.TheVariants.{Quiet}
+use Rattle.frame.specs.State.{Phase, Idle, Half, Header, Open, Escape, Scan, Step, State, Event, Quiet}
 use Rattle.frame.specs.declared.scan.Verdict.{Verdict}
 use Rattle.base.proofs.Tests.{by_test}
 use Rattle.frame.proofs.Moves.{held, pending, pending_in, origin, origin_in, Inv, InvIn, after, moves, wire_snoc}

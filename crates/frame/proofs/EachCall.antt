@@ -9,11 +9,9 @@ use Rattle.frame.specs.Logs.{decided}
 use Rattle.frame.specs.Rules.{advance_of, decides_of, in_range_of, max_consumed}
 use Rattle.base.specs.Outcomes.{Outcome}
 use Rattle.frame.specs.Calls.{next_of, run_of}
-use Rattle.frame.specs.declared.scan.Event.{Event}
-use Rattle.frame.specs.declared.scan.Event.TheVariants.{Quiet, Decided}
 use Rattle.frame.specs.declared.scan.Verdict.{Verdict}
 use Rattle.frame.specs.declared.scan.Verdict.TheVariants.{Frame, Short, Long, Stuff, StuffLate, Cut, Sum}
-use Rattle.frame.specs.State.{State}
+use Rattle.frame.specs.State.{State, Event, Quiet, Decided}
 use Rattle.frame.specs.EachCall.{Within, Progress, EmptyCall, StateKept, FinishKeeps}
 use Rattle.base.proofs.Tests.{by_test, both}
 

@@ -11,9 +11,7 @@ use Rattle.frame.specs.Logs.{Call, feed, finish, offered, consumed_by, stream, a
 use Rattle.frame.specs.Logs.{body_held}
 use Rattle.frame.specs.LogsComputed.{call_of, entry_of, log_of, state_after}
 use Rattle.frame.specs.Decisions.{Decision}
-use Rattle.frame.specs.State.{Phase, Idle, Half, Header, Open, Escape, State}
-use Rattle.frame.specs.declared.scan.Event.{Event}
-use Rattle.frame.specs.declared.scan.Event.TheVariants.{Quiet, Decided}
+use Rattle.frame.specs.State.{Phase, Idle, Half, Header, Open, Escape, State, Event, Quiet, Decided}
 use Rattle.base.proofs.Tests.{by_test}
 use Rattle.frame.proofs.EachCall.{count_event, numbered}
 use Rattle.frame.proofs.Moves.{Inv, moves}

@@ -1,6 +1,6 @@
 -- rows_injective, states_injective and contracts_complete: an answer is read back from its row, and a reader from its
 -- state. Assumes nothing.
-use Rattle.std.proofs.Common.{◌≡◌, ℕ, refl, ap}
+use Rattle.std.proofs.Common.{◌≡◌, ℕ, Option, Some, None, Result, Ok, Err, refl, ap}
 use Rattle.base.specs.Rows.{Row}
 use Rattle.base.proofs.Rows.{injective_by, under, value}
 use Rattle.frame.specs.Table.{row_of, finish_row_of}
@@ -13,10 +13,13 @@ use Rattle.frame.specs.declared.scan.Phase.TheVariants as phase
 use Rattle.frame.specs.declared.scan.Verdict.{Verdict}
 use Rattle.frame.specs.declared.scan.Verdict.TheVariants.{Frame, Short, Long, Stuff, StuffLate, Cut, Sum}
 use Rattle.frame.specs.declared.reader.Reader.{Reader}
-use Rattle.frame.specs.declared.reader.FeedResult.{FeedResult}
-use Rattle.frame.specs.declared.reader.FeedResult.TheVariants as answer
-use Rattle.frame.specs.declared.reader.FinishResult.{FinishResult}
-use Rattle.frame.specs.declared.reader.FinishResult.TheVariants as ending
+use Rattle.frame.specs.declared.reader.Decision.{Decision}
+use Rattle.frame.specs.declared.reader.Fed.{Fed}
+use Rattle.frame.specs.declared.reader.FeedError.{FeedError}
+use Rattle.frame.specs.declared.reader.FeedError.TheVariants.{State as OutOfRange, Used}
+use Rattle.frame.specs.declared.reader.Finish.{Finish}
+use Rattle.frame.specs.declared.reader.Finish.TheVariants as ending
+use Rattle.base.specs.declared.writes.StateError.{StateError}
 
 -- a place on the wire
 abbrev wire_place : ℕ → WirePlace
@@ -27,32 +30,44 @@ verdict_from r =
     under r 1 Frame (under r 11 Short (under r 12 Long (under r 13 (Stuff (value r 3)) (under r 14 Cut
     (under r 15 (Sum (value r 3) (value r 4)) (StuffLate (value r 3)))))))
 
-abbrev answer_from : Row → FeedResult
+-- the answer of a feed that decided
+abbrev decided : ℕ → WirePlace → WirePlace → Verdict → Result Fed FeedError
+decided c s e v = Ok (record { count = c; decision = Some (record { start = s; end = e; verdict = v }) })
+
+abbrev answer_from : Row → Result Fed FeedError
 answer_from r =
-    under r 0 (answer.More (value r 0)) (under r 17 answer.State (under r 18 answer.Used
-    (answer.Decided (value r 0) (wire_place (value r 1)) (wire_place (value r 2)) (verdict_from r))))
+    under r 0 (Ok (record { count = value r 0; decision = None })) (under r 17 (Err OutOfRange) (under r 18 (Err Used)
+    (decided (value r 0) (wire_place (value r 1)) (wire_place (value r 2)) (verdict_from r))))
 
-answer_back : (a : FeedResult) → answer_from (row_of a) ≡ a
-answer_back (answer.More c) = refl
-answer_back (answer.Decided c s e Frame) = refl
-answer_back (answer.Decided c s e Short) = refl
-answer_back (answer.Decided c s e Long) = refl
-answer_back (answer.Decided c s e (Stuff x)) = refl
-answer_back (answer.Decided c s e (StuffLate x)) = refl
-answer_back (answer.Decided c s e Cut) = refl
-answer_back (answer.Decided c s e (Sum f g)) = refl
-answer_back answer.State = refl
-answer_back answer.Used = refl
+decided_back : (c : ℕ) (s e : WirePlace) (v : Verdict)
+    → answer_from (row_of (decided c s e v)) ≡ decided c s e v
+decided_back c s e Frame = refl
+decided_back c s e Short = refl
+decided_back c s e Long = refl
+decided_back c s e (Stuff x) = refl
+decided_back c s e (StuffLate x) = refl
+decided_back c s e Cut = refl
+decided_back c s e (Sum f g) = refl
 
-abbrev ending_from : Row → FinishResult
+fed_back : (c : ℕ) (d : Option Decision)
+    → answer_from (row_of (Ok (record { count = c; decision = d }))) ≡ Ok (record { count = c; decision = d })
+fed_back c None = refl
+fed_back c (Some d) = decided_back c d.start d.end d.verdict
+
+answer_back : (a : Result Fed FeedError) → answer_from (row_of a) ≡ a
+answer_back (Ok fed) = fed_back fed.count fed.decision
+answer_back (Err OutOfRange) = refl
+answer_back (Err Used) = refl
+
+abbrev ending_from : Row → Result Finish StateError
 ending_from r =
-    under r 2 (ending.Clean (wire_place (value r 0)))
-    (under r 16 (ending.Open (wire_place (value r 0)) (wire_place (value r 1))) ending.State)
+    under r 2 (Ok (ending.Clean (wire_place (value r 0))))
+    (under r 16 (Ok (ending.Open (wire_place (value r 0)) (wire_place (value r 1)))) (Err (record {})))
 
-ending_back : (a : FinishResult) → ending_from (finish_row_of a) ≡ a
-ending_back (ending.Clean t) = refl
-ending_back (ending.Open t s) = refl
-ending_back ending.State = refl
+ending_back : (a : Result Finish StateError) → ending_from (finish_row_of a) ≡ a
+ending_back (Ok (ending.Clean t)) = refl
+ending_back (Ok (ending.Open t s)) = refl
+ending_back (Err e) = refl
 
 pub rows_injective : RowsInjective
 rows_injective =

@@ -16,9 +16,7 @@ use Rattle.frame.specs.Logs.{Call, feed, finish, Entry, offered, consumed_by, co
 use Rattle.frame.specs.Logs.{delivered, decided}
 use Rattle.frame.specs.LogsComputed.{call_of, entry_of, log_of, state_after}
 use Rattle.frame.specs.Accounts.{finish_numbers, Account, Accounts}
-use Rattle.frame.specs.State.{Phase, Idle, Half, Header, Open, Escape, State}
-use Rattle.frame.specs.declared.scan.Event.{Event}
-use Rattle.frame.specs.declared.scan.Event.TheVariants.{Quiet, Decided}
+use Rattle.frame.specs.State.{Phase, Idle, Half, Header, Open, Escape, State, Event, Quiet, Decided}
 use Rattle.base.proofs.Tests.{by_test}
 use Rattle.frame.proofs.EachCall.{numbered, not_other}
 use Rattle.frame.proofs.Accounts.{not_state}

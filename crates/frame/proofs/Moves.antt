@@ -12,9 +12,7 @@ use Rattle.frame.specs.Frames.{Found, front_body}
 use Rattle.frame.specs.FramesComputed.{is_good, is_sum, frames_from, here}
 use Rattle.frame.specs.Table.{verdict_number}
 use Rattle.frame.specs.Rules.{put_of, grown_of, ended_of, body_byte_of, broken_of, on_ff_in, on_other_in, advance_of}
-use Rattle.frame.specs.State.{Phase, Idle, Half, Header, Open, Escape, Scan, Step, State}
-use Rattle.frame.specs.declared.scan.Event.{Event}
-use Rattle.frame.specs.declared.scan.Event.TheVariants.{Quiet, Decided}
+use Rattle.frame.specs.State.{Phase, Idle, Half, Header, Open, Escape, Scan, Step, State, Event, Quiet, Decided}
 use Rattle.frame.specs.declared.scan.Verdict.{Verdict}
 use Rattle.frame.specs.declared.scan.Verdict.TheVariants.{Frame, Short, Long, Sum}
 use Rattle.base.proofs.Tests.{by_test}

@@ -5,13 +5,11 @@ use borrow.Author.Tests.{lt-leb}
 use Rattle.base.specs.Outcomes.{Outcome}
 use Rattle.base.proofs.Tests.{by_test, either_way, both}
 use Rattle.frame.specs.Wire.{frame_limit}
-use Rattle.frame.specs.State.{Phase, Idle, Half, Header, Open, Escape, Scan, State}
+use Rattle.frame.specs.State.{Phase, Idle, Half, Header, Open, Escape, Scan, State, Event, Quiet, Decided}
 use Rattle.frame.specs.Rules.{Ready, in_range_of, max_consumed, max_filled, advance_of, decides_of}
 use Rattle.frame.specs.Table.{event_row}
 use Rattle.frame.specs.Calls.{zeros, finish_row_in, next_of, run_of}
 use Rattle.frame.specs.Ranges.{OutOfRange, ReaderRangesAll, RangeKept, UsedAlways, FreshReader, Limits}
-use Rattle.frame.specs.declared.scan.Event.{Event}
-use Rattle.frame.specs.declared.scan.Event.TheVariants.{Quiet, Decided}
 use Rattle.frame.proofs.EachCall.{not_other}
 use Rattle.frame.proofs.Steps.{kept}
 

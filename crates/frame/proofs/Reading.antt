@@ -12,8 +12,7 @@ use Rattle.frame.specs.Decisions.{Unfinished, Breaks, Decides, is_frame_lem, is_
 use Rattle.frame.specs.Decisions.{is_stuff_late, is_cut, is_sum, Decision}
 use Rattle.frame.specs.Rules.{escape_of, body_byte_of, broken_of, advance_of, decides_of}
 use Rattle.frame.specs.Calls.{next_of}
-use Rattle.frame.specs.State.{Phase, Idle, Half, Header, Open, Escape, Scan, Step, State}
-use Rattle.frame.specs.declared.scan.Event.TheVariants.{Decided}
+use Rattle.frame.specs.State.{Phase, Idle, Half, Header, Open, Escape, Scan, Step, State, Decided}
 use Rattle.frame.specs.declared.scan.Verdict.{Verdict}
 use Rattle.frame.specs.declared.scan.Verdict.TheVariants.{Frame, Short, Long, Stuff, StuffLate, Cut, Sum}
 use Rattle.frame.proofs.Stuffing.{stuff-append}

@@ -4,15 +4,13 @@ use Rattle.std.proofs.Common.{◌++◌, length, get_or, sym, refl, ap, ◌∙◌
 use Rattle.std.proofs.Common.{zero-add, arith, length-append, ne_eqb, le-leb}
 use Rattle.base.specs.Outcomes.{Outcome, outcome}
 use Rattle.base.proofs.Tests.{by_test, either_way}
-use Rattle.frame.specs.State.{Phase, Idle, Half, Header, Open, Escape, Step, State}
+use Rattle.frame.specs.State.{Phase, Idle, Half, Header, Open, Escape, Step, State, Event, Quiet, Decided}
 use Rattle.frame.specs.Table.{event_row}
 use Rattle.frame.specs.Rules.{Ready, max_consumed, max_filled, in_range_of, completed_of, body_byte_of, on_ff_in}
 use Rattle.frame.specs.Rules.{advance_of, decides_of, put_of}
 use Rattle.frame.specs.Calls.{next_of, run_of, feed_of}
 use Rattle.frame.specs.Stored.{BytesStored, ConsumesOne, StoresAt}
 use Rattle.frame.specs.EachCall.{later, AllInPieces}
-use Rattle.frame.specs.declared.scan.Event.{Event}
-use Rattle.frame.specs.declared.scan.Event.TheVariants.{Quiet, Decided}
 use Rattle.frame.proofs.Puts.{put_other, put_length, put_same}
 use Rattle.frame.proofs.EachCall.{not_other}
 use Rattle.frame.proofs.Steps.{kept}

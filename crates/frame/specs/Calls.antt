@@ -1,6 +1,7 @@
 -- Model: what feed, finish and write answer and leave, held to `Logs` and `Wire` by stream_correct and writer_exact.
 -- The contracts equate the code with these. PROTOCOL 3.1, 3.3, 4.1 to 4.20, 6.1 to 6.5.
-use Rattle.std.specs.Prelude.{◌≡◌, ℕ, ◌+◌, ◌%◌, ◌^◌, cond, List, [], ◌∷◌, ◌++◌, length, replicate, nat_le, nat_lt}
+use Rattle.std.specs.Prelude.{◌≡◌, ℕ, ◌+◌, ◌%◌, ◌^◌, cond, List, [], ◌∷◌, ◌++◌, Result, length, replicate, nat_le}
+use Rattle.std.specs.Prelude.{nat_lt}
 use Rattle.base.specs.Outcomes.{Outcome, outcome, Output, output, placed}
 use Rattle.base.specs.Rows.{Row, row}
 use Rattle.base.specs.Sums.{total}
@@ -9,15 +10,18 @@ use Rattle.frame.specs.State.{Phase, Idle, Half, Header, Open, Escape, Scan, Sta
 use Rattle.frame.specs.Table.{event_row, row_of, finish_row_of}
 use Rattle.frame.specs.Wire.{wire, frame_of}
 use Rattle.frame.specs.declared.reader.Fed.{Fed}
-use Rattle.frame.specs.declared.reader.Finished.{Finished}
+use Rattle.frame.specs.declared.reader.FeedError.{FeedError}
+use Rattle.frame.specs.declared.reader.Finish.{Finish}
+use Rattle.frame.specs.declared.reader.Reader.{Reader}
+use Rattle.base.specs.declared.writes.StateError.{StateError}
 
--- what the code's feed returns: its row and its state
-abbrev pub fed_of : Fed → Outcome State
-fed_of f = outcome (row_of f.answer) (state_of f.reader)
+-- what the code's feed answers and leaves: its row and its state
+abbrev pub fed_of : Result Fed FeedError × Reader → Outcome State
+fed_of f = outcome (row_of f.0) (state_of f.1)
 
--- what the code's finish returns
-abbrev pub finished_of : Finished → Outcome State
-finished_of f = outcome (finish_row_of f.answer) (state_of f.reader)
+-- what the code's finish answers and leaves
+abbrev pub finished_of : Result Finish StateError × Reader → Outcome State
+finished_of f = outcome (finish_row_of f.0) (state_of f.1)
 
 -- n bytes 0
 unfoldable pub zeros : ℕ → List ℕ

@@ -2,10 +2,8 @@
 -- PROTOCOL 3.2, 3.4 to 3.18, 4.6, 4.17 to 4.20.
 use Rattle.std.specs.Prelude.{ℕ, ◌+◌, ◌-◌, ◌*◌, ◌%◌, ◌^◌, ◌≤◌, Bool, true, false, cond, ◌&&◌, List, ◌==◌, nat_le}
 use Rattle.std.specs.Prelude.{nat_lt, slice_set}
-use Rattle.frame.specs.State.{Phase, Idle, Half, Header, Open, Escape, Scan, Step}
+use Rattle.frame.specs.State.{Phase, Idle, Half, Header, Open, Escape, Scan, Step, Event, Quiet, Decided}
 use Rattle.frame.specs.Wire.{head_size, widest}
-use Rattle.frame.specs.declared.scan.Event.{Event}
-use Rattle.frame.specs.declared.scan.Event.TheVariants.{Quiet, Decided}
 use Rattle.frame.specs.declared.scan.Verdict.{Verdict}
 use Rattle.frame.specs.declared.scan.Verdict.TheVariants.{Frame, Short, Long, Stuff, StuffLate, Cut, Sum}
 

@@ -1,11 +1,11 @@
 -- Model: the reader's state, held to the code's records by states_injective and named_states. PROTOCOL 3.1, 4.17.
 -- docs/STATES.md has the range of each field.
-use Rattle.std.specs.Prelude.{ℕ, Bool, List}
+use Rattle.std.specs.Prelude.{ℕ, Bool, true, false, List, Option, Some, None}
 use Rattle.frame.specs.declared.reader.Reader.{Reader}
-use Rattle.frame.specs.declared.scan.Event.{Event}
 use Rattle.frame.specs.declared.scan.Phase.{Phase as CodePhase}
 use Rattle.frame.specs.declared.scan.Scan.{Scan as CodeScan}
 use Rattle.frame.specs.declared.scan.Step.{Step as CodeStep}
+use Rattle.frame.specs.declared.scan.Verdict.{Verdict}
 use Rattle.frame.specs.declared.scan.Phase.TheVariants as phase
 
 -- phase, a term of ours: how far a frame is begun. PROTOCOL 3.4 to 3.11
@@ -29,6 +29,11 @@ pub record Scan : Type 0 where
 pub record State : Type 0 where
   pub scan : Scan
   pub body : List ℕ
+
+-- what one byte on the wire decides, if anything
+pub data Event : Type 0 where
+  Quiet : Event
+  Decided : (verdict : Verdict) → Event
 
 -- what one byte on the wire does: the next scan, the body byte to store, if any, and what is decided
 pub record Step : Type 0 where
@@ -59,9 +64,25 @@ scan_of s =
       sum = s.sum;
     }
 
+-- whether a body byte is stored
+abbrev pub put_in : Option ℕ → Bool
+put_in None = false
+put_in (Some byte) = true
+
+-- the body byte to store, or 0
+abbrev pub byte_in : Option ℕ → ℕ
+byte_in None = 0
+byte_in (Some byte) = byte
+
+-- what is decided
+abbrev pub event_of : Option Verdict → Event
+event_of None = Quiet
+event_of (Some verdict) = Decided verdict
+
 -- a step
 abbrev pub step_of : CodeStep → Step
-step_of s = record { scan = scan_of s.scan; put = s.put; byte = s.byte; event = s.event }
+step_of s =
+    record { scan = scan_of s.scan; put = put_in s.stored; byte = byte_in s.stored; event = event_of s.verdict }
 
 -- a reader
 abbrev pub state_of : Reader → State

@@ -1,193 +1,147 @@
-// The streaming reader: feed and finish. PROTOCOL 3.1 to 3.3, 4.1 to 4.20.
-ghost use Rattle.std.specs.Prelude.{◌≡◌, ◌<◌, length};
+//! The streaming reader: feed and finish. PROTOCOL 3.1 to 3.3, 4.1 to 4.20.
+ghost use Rattle.std.specs.Prelude.{◌≡◌, Ok, length};
 ghost use Rattle.frame.specs.Wire.{frame_limit};
-ghost use Rattle.frame.specs.State.{phase_of, scan_of, state_of};
-ghost use Rattle.frame.specs.Rules.{Ready, put_of};
-ghost use Rattle.frame.specs.Table.{row_of, finish_row_of, count_of, event_row};
-ghost use Rattle.frame.specs.Calls.{finish_row_in, fresh_of, run_of, feed_of, finish_of, fed_of, finished_of};
+ghost use Rattle.frame.specs.State.{scan_of, state_of};
+ghost use Rattle.frame.specs.Rules.{Ready, in_range_of};
+ghost use Rattle.frame.specs.Table.{row_of, count_of};
+ghost use Rattle.frame.specs.Calls.{fresh_of, run_of, feed_of, finish_of, fed_of, finished_of};
 
-use super::LIMIT;
-use super::place::{MAX_CONSUMED, WirePlace};
-use super::scan::{Event, Phase, Scan, Verdict, advance, closed, decides, in_range};
+use crate::LIMIT;
+use crate::place::{MAX_CONSUMED, WirePlace};
+use crate::scan::{Phase, Scan, Verdict};
+use base::StateError;
 
-// A reader, with the array that holds a body: PROTOCOL 3.1.
-#[derive(Clone, Copy)]
+/// A reader, with the array that holds a body: PROTOCOL 3.1. Any value may be given; one out of range is refused.
+#[derive(Clone, Copy, Debug, PartialEq, Eq)]
 pub struct Reader {
     pub scan: Scan,
     pub body: [u8; 1026],
 }
 
-// The answers to a feed: PROTOCOL 4.1 to 4.11.
-#[derive(Clone, Copy)]
-pub enum FeedResult {
-    More {
-        count: usize,
-    },
-    Decided {
-        count: usize,
-        start: WirePlace,
-        end: WirePlace,
-        verdict: Verdict,
-    },
+/// A frame decided: its first byte on the wire, the place behind its last one, and what it ends in.
+#[derive(Clone, Copy, Debug, PartialEq, Eq)]
+pub struct Decision {
+    pub start: WirePlace,
+    pub end: WirePlace,
+    pub verdict: Verdict,
+}
+
+/// How many bytes a feed consumed, and what the last of them decided: PROTOCOL 4.1 to 4.8. `None` is MORE.
+#[derive(Clone, Copy, Debug, PartialEq, Eq)]
+pub struct Fed {
+    pub count: usize,
+    pub decision: Option<Decision>,
+}
+
+/// Why a feed consumed nothing; the reader stays as it was.
+#[derive(Clone, Copy, Debug, PartialEq, Eq)]
+pub enum FeedError {
+    /// A field of the reader is out of range: STATE, PROTOCOL 4.10.
     State,
+    /// With these bytes the reader would consume more than 2^62 in all: USED, PROTOCOL 4.11.
     Used,
 }
 
-#[derive(Drop)]
-pub struct Fed {
-    pub answer: FeedResult,
-    pub reader: Reader,
-}
-
-// The answers to a finish: PROTOCOL 4.3, 4.9, 4.10.
-#[derive(Drop)]
-pub enum FinishResult {
+/// How the input ends: PROTOCOL 4.3, 4.9. `consumed` counts the bytes in all.
+#[derive(Clone, Copy, Debug, PartialEq, Eq)]
+pub enum Finish {
+    /// No frame is open: CLEAN.
     Clean {
         consumed: WirePlace,
     },
+    /// A frame is open, which begins at `start`: OPEN.
     Open {
         consumed: WirePlace,
         start: WirePlace,
     },
-    State,
-}
-
-#[derive(Drop)]
-pub struct Finished {
-    pub answer: FinishResult,
-    pub reader: Reader,
 }
 
 impl Reader {
-    // A fresh reader.
+    /// A fresh reader.
+    #[tactic(auto, unfolding(crate::specs::Calls::zeros))]
     pub fn new() -> Self
         ensures { state_of result ≡ fresh_of frame_limit }
     {
         Reader {
-            scan: closed(WirePlace(0)),
+            scan: Scan::closed(WirePlace(0)),
             body: [0; 1026],
         }
     }
-}
 
-impl FeedResult {
-    // The bytes that the call consumed.
-    pub fn count(self) -> usize
-        ensures { result ≡ count_of (row_of self) }
+    /// Whether each field is in its range: PROTOCOL 4.17. Calls of a reader that is not answer STATE.
+    pub fn is_in_range(&self) -> bool
+        ensures { result ≡ in_range_of frame_limit (scan_of self.now.scan) }
     {
-        match self {
-            FeedResult::More { count } => count,
-            FeedResult::Decided { count, .. } => count,
-            FeedResult::State => 0,
-            FeedResult::Used => 0,
-        }
+        self.scan.consumed.0 <= MAX_CONSUMED && self.scan.filled.0 <= LIMIT + 1
     }
-}
 
-// The answer of the call whose last byte gave this event.
-fn answered(event: Event, count: usize, start: WirePlace, end: WirePlace) -> FeedResult
-    ensures { row_of result ≡ event_row event count start.0 end.0 }
-{
-    match event {
-        Event::Quiet => FeedResult::More { count },
-        Event::Decided { verdict } => FeedResult::Decided {
-            count,
+    /// The byte loop: it stops directly after the first byte that decides. PROTOCOL 3.2, 3.3.
+    fn run(&mut self, bytes: &[u8]) -> Fed
+        requires { Ready frame_limit (scan_of self.old.scan) (length bytes.now) }
+        ensures { fed_of (Ok result, self.new) ≡ run_of frame_limit bytes.now 0 (state_of self.old) }
+    {
+        let mut scan = self.scan;
+        let mut count = 0;
+        let decision = loop {
+            if count == bytes.len() {
+                break None;
+            }
+            let before = scan;
+            let step = before.advance(bytes[count]);
+            if let Some(byte) = step.stored {
+                self.body[before.filled.0] = byte;
+            }
+            scan = step.scan;
+            count += 1;
+            if let Some(verdict) = step.verdict {
+                break Some(Decision {
+                    start: before.start,
+                    end: scan.consumed,
+                    verdict,
+                });
+            }
+        };
+        self.scan = scan;
+        Fed { count, decision }
+    }
+
+    /// Consumes the first of the bytes, up to the one that decides a frame: STATE, then USED, then the byte rules.
+    /// PROTOCOL 4.15.
+    pub fn feed(&mut self, bytes: &[u8]) -> Result<Fed, FeedError>
+        ensures { fed_of (result, self.new) ≡ feed_of frame_limit (state_of self.old) bytes.now }
+    {
+        if !self.is_in_range() {
+            return Err(FeedError::State);
+        }
+        if MAX_CONSUMED - self.scan.consumed.0 < bytes.len() as u64 {
+            return Err(FeedError::Used);
+        }
+        Ok(self.run(bytes))
+    }
+
+    /// Says that the input ends; the reader stays as it is.
+    pub fn finish(&self) -> Result<Finish, StateError>
+        ensures { finished_of (result, self.now) ≡ finish_of frame_limit (state_of self.now) }
+    {
+        if !self.is_in_range() {
+            return Err(StateError);
+        }
+        let Scan {
+            phase,
+            consumed,
             start,
-            end,
-            verdict,
-        },
+            ..
+        } = self.scan;
+        Ok(match phase {
+            Phase::Idle | Phase::Half => Finish::Clean { consumed },
+            Phase::Header | Phase::Open | Phase::Escape => Finish::Open { consumed, start },
+        })
     }
 }
 
-// Stores a body byte at its place, if there is one: PROTOCOL 3.2.
-fn store(body: &mut [u8; 1026], put: bool, at: usize, byte: u8)
-    requires { at < 1026 }
-    ensures { body.new ≡ put_of put body.old at byte }
+/// The bytes that a feed consumed; none where it is refused.
+pub fn count(answer: Result<Fed, FeedError>) -> usize
+    ensures { result ≡ count_of (row_of answer) }
 {
-    if put {
-        body[at] = byte;
-    }
-}
-
-// The byte loop: it stops directly after the first byte that decides. PROTOCOL 3.3.
-fn run(reader: Reader, bytes: &[u8]) -> Fed
-    requires { Ready frame_limit (scan_of reader.scan) (length bytes.now) }
-    ensures { fed_of result ≡ run_of frame_limit bytes.now 0 (state_of reader) }
-{
-    let mut scan = reader.scan;
-    let mut body = reader.body;
-    let mut i: usize = 0;
-    let answer = loop {
-        if i == bytes.len() {
-            break FeedResult::More { count: i };
-        }
-        let start = scan.start;
-        let at = scan.filled.0;
-        let step = advance(LIMIT, scan, bytes[i]);
-        store(&mut body, step.put, at, step.byte);
-        scan = step.scan;
-        i += 1;
-        let event = step.event;
-        if decides(event) {
-            let end = scan.consumed;
-            break answered(event, i, start, end);
-        }
-    };
-    Fed {
-        answer,
-        reader: Reader { scan, body },
-    }
-}
-
-// Offers data to the reader: STATE, then USED, then the byte rules. PROTOCOL 4.15.
-pub fn feed(reader: Reader, bytes: &[u8]) -> Fed
-    ensures { fed_of result ≡ feed_of frame_limit (state_of reader) bytes.now }
-{
-    let scan = reader.scan;
-    if !in_range(LIMIT, scan) {
-        return Fed {
-            answer: FeedResult::State,
-            reader,
-        };
-    }
-    if MAX_CONSUMED - scan.consumed.0 < bytes.len() as u64 {
-        return Fed {
-            answer: FeedResult::Used,
-            reader,
-        };
-    }
-    run(reader, bytes)
-}
-
-// The answer to a finish of a reader in range.
-fn finish_result(scan: Scan) -> FinishResult
-    ensures { finish_row_of result ≡ finish_row_in (phase_of scan.phase) (scan_of scan) }
-{
-    let phase = scan.phase;
-    let consumed = scan.consumed;
-    let start = scan.start;
-    match phase {
-        Phase::Idle => FinishResult::Clean { consumed },
-        Phase::Half => FinishResult::Clean { consumed },
-        Phase::Header => FinishResult::Open { consumed, start },
-        Phase::Open => FinishResult::Open { consumed, start },
-        Phase::Escape => FinishResult::Open { consumed, start },
-    }
-}
-
-// Says that the input ends; the reader stays as it is.
-pub fn finish(reader: Reader) -> Finished
-    ensures { finished_of result ≡ finish_of frame_limit (state_of reader) }
-{
-    let scan = reader.scan;
-    if !in_range(LIMIT, scan) {
-        return Finished {
-            answer: FinishResult::State,
-            reader,
-        };
-    }
-    Finished {
-        answer: finish_result(scan),
-        reader,
-    }
+    answer.map_or(0, |fed| fed.count)
 }
