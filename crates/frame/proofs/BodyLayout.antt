@@ -1,6 +1,6 @@
 -- body_layout and chunks_joined; made_good is in RoundTrip. Assumes nothing.
 use Rattle.std.proofs.Common.{◌≡◌, ℕ, ◌+◌, ◌-◌, ◌*◌, ◌%◌, ◌≤◌, List, [], ◌∷◌, ◌++◌, length, sym, refl, ap, ◌∙◌}
-use Rattle.std.proofs.Common.{append_assoc, arith, length-append, take_all, take_at}
+use Rattle.std.proofs.Common.{append-nil, append_assoc, arith, length-append, take_all, take_at}
 use lib.Seq.{get_or_at}
 use Rattle.base.specs.Sums.{total, checksum}
 use Rattle.frame.specs.Wire.{length_of, found_sum, computed_sum, Good}
@@ -69,4 +69,9 @@ body_layout b0 b1 b2 b3 b4 b5 s p r =
     }
 
 pub chunks_joined : AllChunksJoined
-chunks_joined a b c = record { worked = refl; in_order = sym (append_assoc a b c) }
+chunks_joined a b c =
+    record {
+      worked = refl;
+      in_order = sym (append_assoc a b c);
+      as_parts = λ p q r e f g. rw (e, f, g, append-nil c) refl;
+    }

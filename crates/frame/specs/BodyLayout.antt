@@ -1,8 +1,9 @@
 -- Claims: the body byte by byte, with literal places. PROTOCOL 2.2 to 2.5, 2.9, 2.11, 4.20, 6.6.
 use Rattle.std.specs.Prelude.{◌≡◌, ℕ, ◌+◌, ◌-◌, ◌*◌, ◌%◌, ◌≤◌, List, [], ◌∷◌, ◌++◌, length, take}
+use Rattle.std.specs.Borrow.{Bor}
 use Rattle.base.specs.Sums.{total}
-use Rattle.frame.specs.Wire.{length_of, command_of, number_of, flags_of, payload_of, body_of, joined_chunks, found_sum}
-use Rattle.frame.specs.Wire.{computed_sum, Good}
+use Rattle.frame.specs.Wire.{length_of, command_of, number_of, flags_of, payload_of, body_of, joined, joined_chunks}
+use Rattle.frame.specs.Wire.{found_sum, computed_sum, Good}
 
 -- ---- body_layout: the head of a body is b0 to b5; in a body of true length the payload p and the sum s follow
 --
@@ -53,10 +54,12 @@ MadeGood =
     (limit command number flags : ℕ) (payload : List ℕ)
     → length payload + 5 ≤ limit → Made limit command number flags payload
 
--- ---- chunks_joined: the three chunks of a payload, in their order
+-- ---- chunks_joined: the three chunks of a payload, in their order; they are its parts, joined
 pub record ChunksJoined (a b c : List ℕ) : Type 0 where
   pub worked : joined_chunks (1 ∷ []) (2 ∷ 3 ∷ []) (4 ∷ []) ≡ 1 ∷ 2 ∷ 3 ∷ 4 ∷ []
   pub in_order : joined_chunks a b c ≡ (a ++ b) ++ c
+  pub as_parts : (p q r : Bor (List ℕ)) → p.now ≡ a → q.now ≡ b → r.now ≡ c
+      → joined (p ∷ q ∷ r ∷ []) ≡ joined_chunks a b c
 
 -- of any chunks
 abbrev pub AllChunksJoined : Type 0

@@ -8,7 +8,7 @@ use Rattle.base.specs.Sums.{total}
 use Rattle.frame.specs.Rules.{in_range_of, closed_of, advance_of, decides_of, put_of}
 use Rattle.frame.specs.State.{Phase, Idle, Half, Header, Open, Escape, Scan, State, state_of}
 use Rattle.frame.specs.Table.{event_row, row_of, finish_row_of}
-use Rattle.frame.specs.Wire.{wire, frame_of}
+use Rattle.frame.specs.Wire.{stuff, wire, frame_of}
 use Rattle.frame.specs.declared.reader.Fed.{Fed}
 use Rattle.frame.specs.declared.reader.FeedError.{FeedError}
 use Rattle.frame.specs.declared.reader.Finish.{Finish}
@@ -81,6 +81,11 @@ write_of limit command number flags payload out =
 -- the frame on the wire of a body by its head, its payload and its sum
 abbrev pub framed : List ℕ → List ℕ → ℕ → List ℕ
 framed head payload sum = wire (head ++ (payload ++ sum ∷ []))
+
+-- body bytes added to a size on the wire and to a sum
+abbrev pub Added : ℕ → ℕ → List ℕ → ℕ → ℕ → Type 0
+Added count sum bytes more summed =
+    (more ≡ count + length (stuff bytes)) × (summed ≡ (sum + total bytes) % 2 ^ 8)
 
 -- what the writer computes before it writes the first byte: the frame's size on the wire, and its sum
 pub record Measured (head payload : List ℕ) (count sum : ℕ) : Type 0 where

@@ -2,6 +2,8 @@
 -- A byte is a number; FF is 255 and 55 is 85.
 use Rattle.std.specs.Prelude.{◌≡◌, ℕ, ◌+◌, ◌-◌, ◌≤◌, Bool, true, false, List, [], ◌∷◌, ◌++◌, length, take, drop, ◌==◌}
 use Rattle.std.specs.Prelude.{slice_index}
+use Rattle.std.specs.Borrow.{Bor}
+use Rattle.std.specs.List.{flat_map}
 use Rattle.base.specs.Numbers.{two_at, two}
 use Rattle.base.specs.Sums.{checksum}
 
@@ -60,7 +62,11 @@ body_of command number flags payload =
 abbrev pub frame_of : ℕ → ℕ → ℕ → List ℕ → List ℕ
 frame_of command number flags payload = wire (body_of command number flags payload)
 
--- a payload that is passed in three chunks: PROTOCOL 6.6
+-- a payload that is passed in parts: their bytes, in their order. PROTOCOL 6.6
+abbrev pub joined : List (Bor (List ℕ)) → List ℕ
+joined parts = flat_map (λ part. part.now) parts
+
+-- the same of three chunks
 abbrev pub joined_chunks : List ℕ → List ℕ → List ℕ → List ℕ
 joined_chunks first second third = first ++ (second ++ third)
 

@@ -1,75 +1,152 @@
-// The writer: a frame goes into the caller's buffer byte by byte, without a copy of its body. PROTOCOL 6.1 to 6.7.
-ghost use Rattle.std.specs.Prelude.{◌≡◌, ◌+◌, ◌/◌, ◌%◌, ◌^◌, ◌<◌, ◌≤◌, [], ◌∷◌, length};
+//! The writer: a frame goes into the caller's buffer byte by byte, without a copy of its body. PROTOCOL 6.1 to 6.7.
+ghost use Rattle.std.specs.Prelude.{ℕ, ◌≡◌, ◌+◌, ◌*◌, ◌%◌, ◌^◌, ◌≤◌, List, [], ◌∷◌, length};
+ghost use Rattle.std.specs.Prelude.{None, Some, if◌then◌else◌, nat_lt};
 ghost use Rattle.base.specs.Stores.{PutAt};
 ghost use Rattle.base.specs.Writes.{Writes};
-ghost use Rattle.frame.specs.Wire.{stuff, head_of, joined_chunks, frame_limit};
-ghost use Rattle.frame.specs.Calls.{framed, write_of, Measured};
+ghost use Rattle.frame.specs.Wire.{stuff, head_of, joined, frame_limit};
+ghost use Rattle.frame.specs.Calls.{framed, write_of, Added, Measured};
 ghost use Rattle.base.specs.Sums.{total};
 
 use super::LIMIT;
-use base::{Unwritten, WriteResult};
+use base::WriteError;
+
+/// What a frame has beside its payload: PROTOCOL 2.2 to 2.5. Every value may be written.
+#[derive(Clone, Copy, Debug, PartialEq, Eq)]
+pub struct Head {
+    /// The command.
+    pub command: u8,
+    /// The sequence number, which pairs a reply with its command.
+    pub number: u8,
+    /// The flags, written with the high byte first.
+    pub flags: u16,
+}
+
+impl Head {
+    // The first bytes of a body whose payload has this size: length, command, sequence number, flags.
+    fn bytes(self, size: usize) -> [u8; 6]
+        requires { size ≤ 1019 }
+        ensures { result ≡ head_of size self.command self.number self.flags }
+    {
+        let [length_high, length_low] = (size as u16 + 5).to_be_bytes();
+        let [flags_high, flags_low] = self.flags.to_be_bytes();
+        [
+            length_high,
+            length_low,
+            self.command,
+            self.number,
+            flags_high,
+            flags_low,
+        ]
+    }
+}
 
 // The size on the wire of some body bytes, and their sum.
-#[derive(Drop)]
+#[derive(Clone, Copy)]
 struct Measure {
     count: usize,
     sum: u8,
 }
 
-// The head of a body: length, command, sequence number, flags.
-fn head_of(size: usize, command: u8, number: u8, flags: u16) -> [u8; 6]
-    requires { size + 5 ≤ 65279 }
-    ensures { result ≡ head_of size command number flags }
-{
-    let length = size + 5;
-    [
-        (length / 256) as u8,
-        (length % 256) as u8,
-        command,
-        number,
-        (flags / 256) as u8,
-        (flags % 256) as u8,
-    ]
+// Bytes of a body: in one slice, or in several, one after another. The writer for C takes one, and no other loop is in
+// its archive: where an address is at a computed place, as that of a part is, processors differ.
+trait Bytes: Copy {
+    ghost bytes: { Self → List ℕ };
+
+    // Their number, where a frame can have so many in its payload.
+    fn size(self) -> Option<usize>
+        ensures { result ≡ (if nat_lt 1019 (length (bytes self))
+            then None
+            else Some (length (bytes self))) };
+
+    // A measure with these bytes added.
+    fn added(self, from: Measure) -> Measure
+        requires { from.count + 2 * length (bytes self) ≤ 2 ^ 20 }
+        ensures { Added from.count from.sum (bytes self) result.count result.sum };
+
+    // Puts these bytes, stuffed, at a place of the buffer; returns the next place.
+    fn put(self, out: &mut [u8], at: usize) -> usize
+        requires { at + length (stuff (bytes self)) ≤ length out.old }
+        ensures { PutAt out.old at (stuff (bytes self)) result out.new };
+}
+
+impl Bytes for &[u8] {
+    ghost bytes = { λ slice. slice.now };
+
+    fn size(self) -> Option<usize> {
+        if LIMIT - 5 < self.len() {
+            None
+        } else {
+            Some(self.len())
+        }
+    }
+
+    fn added(self, from: Measure) -> Measure {
+        let mut count = from.count;
+        let mut sum = from.sum;
+        for byte in self {
+            count += width(*byte);
+            sum = sum.wrapping_add(*byte);
+        }
+        Measure { count, sum }
+    }
+
+    fn put(self, out: &mut [u8], at: usize) -> usize {
+        let mut next = at;
+        for byte in self {
+            next = put_byte(out, next, *byte);
+        }
+        next
+    }
+}
+
+impl Bytes for &[&[u8]] {
+    ghost bytes = { λ parts. joined parts.now };
+
+    // Many parts may have more bytes than a usize can count.
+    fn size(self) -> Option<usize> {
+        let mut size = 0;
+        for part in self {
+            if LIMIT - 5 - size < part.len() {
+                return None;
+            }
+            size += part.len();
+        }
+        Some(size)
+    }
+
+    fn added(self, from: Measure) -> Measure {
+        let mut measure = from;
+        for part in self {
+            measure = part.added(measure);
+        }
+        measure
+    }
+
+    fn put(self, out: &mut [u8], at: usize) -> usize {
+        let mut next = at;
+        for part in self {
+            next = part.put(out, next);
+        }
+        next
+    }
 }
 
 // The size of a body byte on the wire.
 fn width(v: u8) -> usize
     ensures { result ≡ length (stuff (v ∷ [])) }
 {
-    if v == 255 {
-        return 2;
-    }
-    1
-}
-
-// The measure `from` with these bytes added.
-fn measured(from: Measure, bytes: &[u8]) -> Measure
-    requires { (from.count ≤ 2 ^ 20) × (length bytes.now ≤ 2 ^ 20) }
-    ensures { (result.count ≡ from.count + length (stuff bytes.now))
-        × (result.sum ≡ (from.sum + total bytes.now) % 2 ^ 8) }
-{
-    let mut count = from.count;
-    let mut sum = from.sum;
-    let mut i = 0;
-    while i < bytes.len() {
-        count += width(bytes[i]);
-        sum = std::num::wrapping_add_u8(sum, bytes[i]);
-        i += 1;
-    }
-    Measure { count, sum }
+    if v == 0xFF { 2 } else { 1 }
 }
 
 // The size of a frame on the wire, and its sum.
-fn sized(head: [u8; 6], first: &[u8], second: &[u8], third: &[u8]) -> Measure
-    requires { length (joined_chunks first.now second.now third.now) ≤ 2 ^ 17 }
-    ensures { Measured head
-        (joined_chunks first.now second.now third.now) result.count result.sum }
+fn sized<P: Bytes>(head: [u8; 6], payload: P) -> Measure
+    requires { length (P.bytes payload) ≤ 1019 }
+    ensures { Measured head (P.bytes payload) result.count result.sum }
 {
-    let begun = measured(Measure { count: 2, sum: 0 }, &head);
-    let unsummed = measured(measured(measured(begun, first), second), third);
-    let sum = unsummed.sum;
+    let begun = (&head[..]).added(Measure { count: 2, sum: 0 });
+    let Measure { count, sum } = payload.added(begun);
     Measure {
-        count: unsummed.count + width(sum),
+        count: count + width(sum),
         sum,
     }
 }
@@ -80,131 +157,58 @@ fn put_byte(out: &mut [u8], at: usize, v: u8) -> usize
     ensures { PutAt out.old at (stuff (v ∷ [])) result out.new }
 {
     out[at] = v;
-    if v == 255 {
-        out[at + 1] = 85;
-        return at + 2;
+    if v == 0xFF {
+        out[at + 1] = 0x55;
+        at + 2
+    } else {
+        at + 1
     }
-    at + 1
-}
-
-// The same for some body bytes.
-fn put_bytes(out: &mut [u8], at: usize, bytes: &[u8]) -> usize
-    requires { at + length (stuff bytes.now) ≤ length out.old }
-    ensures { PutAt out.old at (stuff bytes.now) result out.new }
-{
-    let mut next = at;
-    let mut i = 0;
-    while i < bytes.len() {
-        next = put_byte(out, next, bytes[i]);
-        i += 1;
-    }
-    next
-}
-
-// The same for the three chunks of a payload.
-fn put_chunks(out: &mut [u8], at: usize, first: &[u8], second: &[u8], third: &[u8]) -> usize
-    requires { at + length (stuff (joined_chunks first.now second.now third.now)) ≤ length out.old }
-    ensures { PutAt out.old at (stuff (joined_chunks first.now second.now
-        third.now)) result out.new }
-{
-    let after_first = put_bytes(out, at, first);
-    let after_second = put_bytes(out, after_first, second);
-    put_bytes(out, after_second, third)
 }
 
 // Puts a whole frame at the front of a buffer that has room for it; returns its size.
-fn put_frame(
-    out: &mut [u8],
-    head: [u8; 6],
-    first: &[u8],
-    second: &[u8],
-    third: &[u8],
-    sum: u8,
-) -> usize
-    requires { length (framed head (joined_chunks first.now second.now third.now) sum) ≤ length out.old }
-    ensures { PutAt out.old 0 (framed head
-        (joined_chunks first.now second.now third.now) sum) result out.new }
+fn put_frame<P: Bytes>(out: &mut [u8], head: [u8; 6], payload: P, sum: u8) -> usize
+    requires { length (framed head (P.bytes payload) sum) ≤ length out.old }
+    ensures { PutAt out.old 0 (framed head (P.bytes payload) sum) result out.new }
 {
-    out[0] = 255;
-    out[1] = 255;
-    let after_head = put_bytes(out, 2, &head);
-    let after_payload = put_chunks(out, after_head, first, second, third);
+    out[0] = 0xFF;
+    out[1] = 0xFF;
+    let after_head = (&head[..]).put(out, 2);
+    let after_payload = payload.put(out, after_head);
     put_byte(out, after_payload, sum)
 }
 
-// Writes a frame whose length is within a limit, from three chunks of payload.
-fn chunks_within(
-    limit: usize,
-    command: u8,
-    number: u8,
-    flags: u16,
-    first: &[u8],
-    second: &[u8],
-    third: &[u8],
-    out: &mut [u8],
-) -> WriteResult
-    requires { limit ≤ 65279 }
-    ensures { Writes result out.new (write_of limit command number flags
-        (joined_chunks first.now second.now third.now) out.old) }
+// Writes a frame from a payload in one slice or in several.
+fn write_any<P: Bytes>(head: Head, payload: P, out: &mut [u8]) -> Result<usize, WriteError>
+    ensures { Writes result out.new
+        (write_of frame_limit head.command head.number head.flags (P.bytes payload) out.old) }
 {
-    // The sum of two sizes fits a usize, that of three need not. Above the limit the exact size does not matter.
-    let size = base::min(first.len() + second.len(), limit) + third.len();
-    if limit < size + 5 {
-        return WriteResult::Unwritten {
-            why: Unwritten::Payload,
-        };
-    }
-    let head = head_of(size, command, number, flags);
-    let measure = sized(head, first, second, third);
+    let Some(size) = payload.size() else {
+        return Err(WriteError::Payload);
+    };
+    let head = head.bytes(size);
+    let measure = sized(head, payload);
     if out.len() < measure.count {
-        return WriteResult::Unwritten {
-            why: Unwritten::Room {
-                needed: measure.count,
-            },
-        };
+        return Err(WriteError::Room {
+            needed: measure.count,
+        });
     }
-    WriteResult::Wrote {
-        count: put_frame(out, head, first, second, third, measure.sum),
-    }
+    Ok(put_frame(out, head, payload, measure.sum))
 }
 
-// The same from one payload.
-fn write_within(
-    limit: usize,
-    command: u8,
-    number: u8,
-    flags: u16,
-    payload: &[u8],
-    out: &mut [u8],
-) -> WriteResult
-    requires { limit ≤ 65279 }
+/// Writes a frame at the front of the caller's buffer and returns its size, at most 2,054 bytes. Each FF after the
+/// header has a 55 behind it. Or refuses, and the buffer is unchanged: PAYLOAD where the payload has more than 1,019
+/// bytes; then ROOM, with the size of the frame, where the buffer is smaller than that. PROTOCOL 6.1 to 6.5.
+pub fn write(head: Head, payload: &[u8], out: &mut [u8]) -> Result<usize, WriteError>
     ensures { Writes result out.new
-        (write_of limit command number flags payload.now out.old) }
+        (write_of frame_limit head.command head.number head.flags payload.now out.old) }
 {
-    let none = &payload[..0];
-    chunks_within(limit, command, number, flags, payload, none, none, out)
+    write_any(head, payload, out)
 }
 
-// Writes a frame at the front of the caller's buffer, or refuses and leaves the buffer unchanged: PROTOCOL 6.1 to 6.5.
-pub fn write(command: u8, number: u8, flags: u16, payload: &[u8], out: &mut [u8]) -> WriteResult
+/// The same with a payload in any number of parts, one after another, which are not copied together: PROTOCOL 6.6.
+pub fn write_parts(head: Head, parts: &[&[u8]], out: &mut [u8]) -> Result<usize, WriteError>
     ensures { Writes result out.new
-        (write_of frame_limit command number flags payload.now out.old) }
+        (write_of frame_limit head.command head.number head.flags (joined parts.now) out.old) }
 {
-    write_within(LIMIT, command, number, flags, payload, out)
-}
-
-// The same with a payload in three chunks, which are not copied together: PROTOCOL 6.6.
-pub fn write_chunks(
-    command: u8,
-    number: u8,
-    flags: u16,
-    first: &[u8],
-    second: &[u8],
-    third: &[u8],
-    out: &mut [u8],
-) -> WriteResult
-    ensures { Writes result out.new (write_of frame_limit command number flags
-        (joined_chunks first.now second.now third.now) out.old) }
-{
-    chunks_within(LIMIT, command, number, flags, first, second, third, out)
+    write_any(head, parts, out)
 }

@@ -16,7 +16,7 @@ returns-then-v-eq255 c =
     let e = stuff_ff c.if-v-eq255.true in
     (rw e, rw (e, add-one))
 
-pub returns : goal.returns
-returns c =
+pub returns-else-v-eq255 : goal.returns-else-v-eq255
+returns-else-v-eq255 c =
     let e = stuff_other c.if-v-eq255.false in
     (rw e, rw e)

@@ -5,5 +5,5 @@ use Rattle.frame.proofs.writer.width.Goals as goal
 pub returns-then-v-eq255 : goal.returns-then-v-eq255
 returns-then-v-eq255 c = rw (stuff_ff c.if-v-eq255.true)
 
-pub returns : goal.returns
-returns c = rw (stuff_other c.if-v-eq255.false)
+pub returns-else-v-eq255 : goal.returns-else-v-eq255
+returns-else-v-eq255 c = rw (stuff_other c.if-v-eq255.false)
