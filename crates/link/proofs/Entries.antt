@@ -14,6 +14,9 @@ calls_stated =
       offers = λ first max l command clock. refl;
       ticks = λ first max l clock. refl;
       receives = λ first max l command number. refl;
+      offered = λ l command clock. refl;
+      ticked = λ l clock. refl;
+      received = λ l command number. refl;
     }
 
 module _ (first max : ℕ) where

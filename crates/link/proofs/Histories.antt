@@ -1,20 +1,19 @@
 -- The history of every list of calls of a link that began fresh, and the accepted offer of each wait. Assumes nothing.
-use Rattle.std.proofs.Common.{◌≡◌, ℕ, ◌+◌, ◌<◌, Bool, true, false, cond, ◌⊎◌, List, [], ◌∷◌, ◌++◌, length, sym, refl}
-use Rattle.std.proofs.Common.{ap, subst, inl, inr, true≢false, zero-add, arith}
+use Rattle.std.proofs.Common.{◌≡◌, ℕ, ◌+◌, ◌<◌, Bool, true, false, cond, ◌⊎◌, None, List, [], ◌∷◌, ◌++◌, length, sym}
+use Rattle.std.proofs.Common.{refl, ap, subst, inl, inr, true≢false, zero-add, arith}
 use Rattle.link.specs.Calls.{link_of}
 use Rattle.link.specs.Logs.{Entry, accepted, ended, command_in, clock_in, number_in, numbers_used, waits_after}
 use Rattle.link.specs.Logs.{none_ends, due_ticks}
 use Rattle.link.specs.History.{OpenWait, History}
 use Rattle.link.specs.Histories.{LinkHistory, WaitFound}
-use Rattle.link.specs.declared.state.Wait.TheVariants.{Idle}
 use Rattle.link.proofs.Numbers.{number_first}
 use Rattle.link.proofs.Moves.{wait_after, only_repeated, not_accepted}
 use Rattle.link.proofs.Waits.{Follows, followed, numbered, Standing, stands, Waited, waited}
 
-module _ (first max : ℕ) (log : List Entry) (f : Follows first max 0 Idle log) where
+module _ (first max : ℕ) (log : List Entry) (f : Follows first max 0 None log) where
   -- what stands after the front of the log
   at : (before rest : List Entry) → log ≡ before ++ rest → Standing first max 0 false before rest
-  at before rest e = stands first max 0 Idle false before rest (λ _. refl) (subst (Follows first max 0 Idle) e f)
+  at before rest e = stands first max 0 None false before rest (λ _. refl) (subst (Follows first max 0 None) e f)
 
   -- what waits after an accepted offer, until its wait ends
   accepted_at :
@@ -28,8 +27,8 @@ module _ (first max : ℕ) (log : List Entry) (f : Follows first max 0 Idle log)
 
   -- what an entry leaves waiting
   left : (before : List Entry) (e : Entry) (after : List Entry)
-      → (p : log ≡ before ++ (e ∷ after)) → e.after.wait ≡ wait_after e (at before (e ∷ after) p).wait
-  left before e after p = ap (λ l. l.wait) (at before (e ∷ after) p).follows.0.after
+      → (p : log ≡ before ++ (e ∷ after)) → e.after.waiting ≡ wait_after e (at before (e ∷ after) p).wait
+  left before e after p = ap (λ l. l.waiting) (at before (e ∷ after) p).follows.0.after
 
   -- while the wait lasts, no more ticks are due than repeats are allowed
   ended_by :
@@ -43,7 +42,7 @@ module _ (first max : ℕ) (log : List Entry) (f : Follows first max 0 Idle log)
   history : History first max log
   history =
       record {
-        numbers = numbered first max 0 Idle log f;
+        numbers = numbered first max 0 None log f;
         idle = λ before e after p q. let b = at before _ p in rw (b.idle q, zero-add) at b.follows.0.row;
         waiting = λ before a during e after p q n. rw zero-add at (accepted_at before a during
             (e ∷ after) p q n).follows.0.row;
@@ -62,7 +61,7 @@ module _ (first max : ℕ) (log : List Entry) (f : Follows first max 0 Idle log)
               only.1,
               r,
               zero-add,
-            ) at (ap (λ l. l.wait) (accepted_at before a during (e ∷ after) p q n).follows.0.after);
+            ) at (ap (λ l. l.waiting) (accepted_at before a during (e ∷ after) p q n).follows.0.after);
         freed = λ before e after p d. simp (not_accepted e.call e.row d, d) at (left before e after p);
         unchanged = λ before e after p. (at before _ p).follows.0.unchanged;
         never_state = λ before e after p. (at before _ p).follows.0.never;
@@ -71,8 +70,8 @@ module _ (first max : ℕ) (log : List Entry) (f : Follows first max 0 Idle log)
 -- a fresh link is idle and has used no number
 pub link_history : LinkHistory
 link_history first max small calls =
-    history first max _ (followed first max small calls 0 Idle
-    (ap (λ (n : ℕ). link_of n Idle) (sym (number_first first))) tt)
+    history first max _ (followed first max small calls 0 None
+    (ap (λ (n : ℕ). link_of n None) (sym (number_first first))) tt)
 
 -- ---- where a command waits after a log, its accepted offer is there
 

@@ -1,10 +1,10 @@
 -- What one call of a link in range answers and leaves. Assumes nothing.
-use Rattle.std.proofs.Common.{◌≡◌, ℕ, ◌+◌, ◌≤◌, true, false, cond, ◌||◌, eqb, ltb, ◌≢◌, get_or, sym, refl, ◌∙◌}
-use Rattle.std.proofs.Common.{true≢false, arith, ltb-true, eqb-true, le-leb}
+use Rattle.std.proofs.Common.{◌≡◌, ℕ, ◌+◌, ◌≤◌, true, false, cond, ◌||◌, eqb, ltb, ◌≢◌, None, Some, get_or, sym, refl}
+use Rattle.std.proofs.Common.{◌∙◌, true≢false, arith, ltb-true, eqb-true, le-leb}
 use Rattle.base.specs.Rows.{Row}
 use Rattle.base.specs.Outcomes.{Outcome, outcome}
 use Rattle.base.proofs.Tests.{by_test, both}
-use Rattle.link.specs.Sending.{may_wait, number_at, fits_of}
+use Rattle.link.specs.Sending.{Wait, waits_for, may_wait, number_at, fits_of}
 use Rattle.link.specs.Clock.{is_due}
 use Rattle.link.specs.Calls.{link_of, in_range, due_tick_of}
 use Rattle.link.specs.Logs.{Call, offering, ticking, receiving, Entry, accepted_in, repeated_in, ended_in}
@@ -12,8 +12,6 @@ use Rattle.link.specs.LogsComputed.{call_of}
 use Rattle.link.specs.Logs.{command_in, clock_in, due_in, accepted, repeated, ended, number_in}
 use Rattle.link.specs.History.{idle_row, waiting_row}
 use Rattle.link.specs.declared.state.Link.{Link}
-use Rattle.link.specs.declared.state.Wait.{Wait}
-use Rattle.link.specs.declared.state.Wait.TheVariants.{Idle, Waiting}
 use Rattle.link.proofs.Numbers.{number_next}
 
 -- the entry of a call
@@ -25,15 +23,16 @@ entry_of first max l c =
 
 -- what waits after an entry that neither accepts nor ends
 abbrev pub continues_wait : Entry → Wait → Wait
-continues_wait e Idle = Idle
-continues_wait e (Waiting command number sent repeats) =
-    Waiting command number (cond (repeated e) (clock_in e.call) sent) (cond (repeated e) (repeats + 1) repeats)
+continues_wait e None = None
+continues_wait e (Some w) =
+    waits_for w.command w.number (cond (repeated e) (clock_in e.call) w.sent)
+    (cond (repeated e) (w.repeats + 1) w.repeats)
 
 -- what waits after any entry
 abbrev pub wait_after : Entry → Wait → Wait
 wait_after e w =
-    cond (accepted e) (Waiting (command_in e.call) (number_in e) (clock_in e.call) 0)
-    (cond (ended e) Idle (continues_wait e w))
+    cond (accepted e) (waits_for (command_in e.call) (number_in e) (clock_in e.call) 0)
+    (cond (ended e) None (continues_wait e w))
 
 -- how many numbers are used after it
 abbrev pub count_after : Entry → ℕ → ℕ
@@ -56,20 +55,19 @@ not_accepted (receiving command number) r e = refl
 
 -- what it answers
 abbrev pub row_in : ℕ → ℕ → ℕ → Wait → Call → Row
-row_in first max k Idle c = idle_row first k c
-row_in first max k (Waiting command number sent repeats) c = waiting_row max command number sent repeats c
+row_in first max k None c = idle_row first k c
+row_in first max k (Some w) c = waiting_row max w.command w.number w.sent w.repeats c
 
 -- an idle link uses the k-th number;
 -- while a command waits none is used, and a due tick repeats or ends the wait
 abbrev pub Shown : ℕ → ℕ → Entry → Wait → Type 0
-Shown first k e Idle = accepted e ≡ true → number_in e ≡ number_at first k
-Shown first k e (Waiting command number sent repeats) =
-    (accepted e ≡ false) × (ended e ≡ false → due_in e.call sent ≡ repeated e)
+Shown first k e None = accepted e ≡ true → number_in e ≡ number_at first k
+Shown first k e (Some w) = (accepted e ≡ false) × (ended e ≡ false → due_in e.call w.sent ≡ repeated e)
 
 -- the ranges of what waits
 abbrev pub Ranges : ℕ → ℕ → Wait → Type 0
-Ranges first max Idle = Unit
-Ranges first max (Waiting command number sent repeats) = (first ≤ number) × (repeats ≤ max) × (may_wait command ≡ true)
+Ranges first max None = Unit
+Ranges first max (Some w) = (first ≤ w.number) × (w.repeats ≤ max) × (may_wait w.command ≡ true)
 
 -- what holds of each entry
 pub record Moved (first max k : ℕ) (w : Wait) (e : Entry) : Type 0 where
@@ -84,8 +82,8 @@ pub record Moved (first max k : ℕ) (w : Wait) (e : Entry) : Type 0 where
 
 -- no due tick
 abbrev Undue : Call → Wait → Type 0
-Undue c Idle = Unit
-Undue c (Waiting command number sent repeats) = due_in c sent ≡ false
+Undue c None = Unit
+Undue c (Some w) = due_in c w.sent ≡ false
 
 module _ (first max k : ℕ) (small : first ≤ 255) where
   -- the link that used k numbers, with what waits
@@ -98,15 +96,15 @@ module _ (first max k : ℕ) (small : first ≤ 255) where
 
   -- it passes the test for STATE
   is_in_range : (w : Wait) → Ranges first max w → in_range first max (standing w) ≡ true
-  is_in_range Idle h = search (le-leb first (number_at first k) (omega arith))
-  is_in_range (Waiting command number sent repeats) h =
-      simp (le-leb first (number_at first k) (omega arith), le-leb first number h.0, le-leb repeats max h.1, h.2)
+  is_in_range None h = search (le-leb first (number_at first k) (omega arith))
+  is_in_range (Some w) h =
+      simp (le-leb first (number_at first k) (omega arith), le-leb first w.number h.0, le-leb w.repeats max h.1, h.2)
 
   -- a refused call, or a tick with nothing to do
   quiet : (w : Wait) {c : Call} {r : Row} → Ranges first max w → r ≡ row_in first max k w c → r.number ≢ 17
       → accepted_in c r ≡ false → ended_in c r ≡ false → repeated_in c r ≡ false → Undue c w
       → Moves w c (outcome r (standing w))
-  quiet Idle h e n a d p u =
+  quiet None h e n a d p u =
       record {
         row = e;
         shown = λ q. absurd (true≢false (sym q ∙ a));
@@ -115,7 +113,7 @@ module _ (first max k : ℕ) (small : first ≤ 255) where
         unchanged = λ _. refl;
         never = n;
       }
-  quiet (Waiting command number sent repeats) h e n a d p u =
+  quiet (Some w) h e n a d p u =
       record {
         row = e;
         shown = (a, λ _. u ∙ sym p);
@@ -129,7 +127,7 @@ module _ (first max k : ℕ) (small : first ≤ 255) where
   ends : {waiting under sent repeats : ℕ} {c : Call} {r : Row}
       → r ≡ waiting_row max waiting under sent repeats c → r.number ≢ 17
       → accepted_in c r ≡ false → ended_in c r ≡ true → repeated_in c r ≡ false
-      → Moves (Waiting waiting under sent repeats) c (outcome r (standing Idle))
+      → Moves (waits_for waiting under sent repeats) c (outcome r (standing None))
   ends e n a d p =
       record {
         row = e;
@@ -142,11 +140,11 @@ module _ (first max k : ℕ) (small : first ≤ 255) where
 
   -- a due tick repeats or gives up
   due : (waiting under sent repeats clock : ℕ)
-      → Ranges first max (Waiting waiting under sent repeats) → is_due clock sent ≡ true
-      → Moves (Waiting waiting under sent repeats) (ticking clock)
-      (due_tick_of max (standing (Waiting waiting under sent repeats)) waiting under repeats clock)
+      → Ranges first max (waits_for waiting under sent repeats) → is_due clock sent ≡ true
+      → Moves (waits_for waiting under sent repeats) (ticking clock)
+      (due_tick_of max (standing (waits_for waiting under sent repeats)) waiting under repeats clock)
   due waiting under sent repeats clock h d =
-      by_test (Moves (Waiting waiting under sent repeats) (ticking clock)) (ltb repeats max)
+      by_test (Moves (waits_for waiting under sent repeats) (ticking clock)) (ltb repeats max)
       (λ s. record {
         row = rw (d, s);
         shown = (refl, λ _. d);
@@ -160,8 +158,8 @@ module _ (first max k : ℕ) (small : first ≤ 255) where
   -- each call, the test passed
   moved_in : (w : Wait) (c : Call)
       → Ranges first max w → in_range first max (standing w) ≡ true → Moves w c (call_of first max (standing w) c)
-  moved_in Idle (offering command clock) h i =
-      rw i (by_test (Moves Idle (offering command clock)) (may_wait command)
+  moved_in None (offering command clock) h i =
+      rw i (by_test (Moves None (offering command clock)) (may_wait command)
       (λ s. record {
         row = rw s;
         shown = λ _. refl;
@@ -170,24 +168,21 @@ module _ (first max k : ℕ) (small : first ≤ 255) where
         unchanged = λ q. absurd (true≢false q);
         never = omega arith;
       })
-      (λ s. quiet Idle h (rw s) (omega arith) refl refl refl tt))
-  moved_in Idle (ticking clock) h i = rw i (quiet Idle h refl (omega arith) refl refl refl tt)
-  moved_in Idle (receiving command number) h i = rw i (quiet Idle h refl (omega arith) refl refl refl tt)
-  moved_in (Waiting waiting under sent repeats) (offering command clock) h i =
-      let w : Wait = Waiting waiting under sent repeats in
-      rw i (by_test (Moves w (offering command clock)) (may_wait command)
-      (λ s. quiet w h (rw s) (omega arith) refl refl refl refl)
-      (λ s. quiet w h (rw s) (omega arith) refl refl refl refl))
-  moved_in (Waiting waiting under sent repeats) (ticking clock) h i =
-      let w : Wait = Waiting waiting under sent repeats in
-      rw i (by_test (Moves w (ticking clock)) (is_due clock sent)
-      (λ d. due waiting under sent repeats clock h d)
-      (λ d. quiet w h (rw d) (omega arith) refl refl refl d))
-  moved_in (Waiting waiting under sent repeats) (receiving command number) h i =
-      let w : Wait = Waiting waiting under sent repeats in
-      rw i (by_test (Moves w (receiving command number)) (fits_of command number waiting under)
+      (λ s. quiet None h (rw s) (omega arith) refl refl refl tt))
+  moved_in None (ticking clock) h i = rw i (quiet None h refl (omega arith) refl refl refl tt)
+  moved_in None (receiving command number) h i = rw i (quiet None h refl (omega arith) refl refl refl tt)
+  moved_in (Some w) (offering command clock) h i =
+      rw i (by_test (Moves (Some w) (offering command clock)) (may_wait command)
+      (λ s. quiet (Some w) h (rw s) (omega arith) refl refl refl refl)
+      (λ s. quiet (Some w) h (rw s) (omega arith) refl refl refl refl))
+  moved_in (Some w) (ticking clock) h i =
+      rw i (by_test (Moves (Some w) (ticking clock)) (is_due clock w.sent)
+      (λ d. due w.command w.number w.sent w.repeats clock h d)
+      (λ d. quiet (Some w) h (rw d) (omega arith) refl refl refl d))
+  moved_in (Some w) (receiving command number) h i =
+      rw i (by_test (Moves (Some w) (receiving command number)) (fits_of command number w.command w.number)
       (λ s. ends (rw s) (omega arith) refl refl refl)
-      (λ s. quiet w h (rw s) (omega arith) refl refl refl refl))
+      (λ s. quiet (Some w) h (rw s) (omega arith) refl refl refl refl))
 
   -- each call, of a link that stands so
   pub moved : (w : Wait) (c : Call) {l : Link}

@@ -1,14 +1,13 @@
 -- The ranges of a link, in literal numbers and for any first number. Assumes nothing.
-use Rattle.std.proofs.Common.{◌≡◌, ℕ, ◌≤◌, Bool, true, false, ◌&&◌, leb, sym, refl, ◌∙◌, true≢false, arith, le-leb}
+use Rattle.std.proofs.Common.{◌≡◌, ℕ, ◌≤◌, Bool, true, false, ◌&&◌, leb, None, sym, refl, ◌∙◌, true≢false, arith, le-leb}
 use borrow.Author.Tests.{lt-leb}
 use Rattle.base.specs.Keys.{among}
-use Rattle.link.specs.Sending.{first_number, max_repeats}
+use Rattle.link.specs.Sending.{waits_for, first_number, max_repeats}
 use Rattle.link.specs.Calls.{link_of, in_range}
 use Rattle.link.specs.Logs.{Call, offering, ticking, receiving}
 use Rattle.link.specs.LogsComputed.{call_of}
 use Rattle.link.specs.Ranges.{IsState, InRange, waiters, LinkRange, LinkRanges, LinkWhole, BelowEachFirst}
 use Rattle.link.specs.declared.state.Link.{Link}
-use Rattle.link.specs.declared.state.Wait.TheVariants.{Idle, Waiting}
 use Rattle.link.proofs.Numbers.{none_below}
 use Rattle.link.proofs.Refusals.{refused_unchanged}
 
@@ -27,12 +26,12 @@ pub link_whole : LinkWhole
 link_whole l = refl
 
 -- with the code's own figures every idle link is in range
-pub idle_ranged : (next : ℕ) → in_range first_number max_repeats (link_of next Idle) ≡ true
+pub idle_ranged : (next : ℕ) → in_range first_number max_repeats (link_of next None) ≡ true
 idle_ranged next = search none_below
 
 -- and so is every wait of one of the nine, with at most two repeats
 pub waiting_ranged : (next command number sent repeats : ℕ) → repeats ≤ 2 → among command waiters ≡ true
-    → in_range first_number max_repeats (link_of next (Waiting command number sent repeats)) ≡ true
+    → in_range first_number max_repeats (link_of next (waits_for command number sent repeats)) ≡ true
 waiting_ranged next command number sent repeats m w =
     simp (none_below, le-leb repeats max_repeats (omega (arith, m))) w
 
@@ -41,7 +40,7 @@ below_first first max c =
     record {
       next_out = λ next wait h. out first max c (link_of next wait) (rw (lt-leb first next h));
       number_out = λ next command number sent repeats h.
-          out first max c (link_of next (Waiting command number sent repeats))
+          out first max c (link_of next (waits_for command number sent repeats))
           (later (leb first next) (rw (lt-leb first number h)));
     }
 
@@ -53,14 +52,14 @@ module _ (c : Call) where
   ranges =
       record {
         repeats_out = λ next command number sent repeats h.
-            out first_number max_repeats c (link_of next (Waiting command number sent repeats))
+            out first_number max_repeats c (link_of next (waits_for command number sent repeats))
             (simp (none_below, lt-leb repeats max_repeats (omega (arith, h))));
         command_out = λ next command number sent repeats h.
-            out first_number max_repeats c (link_of next (Waiting command number sent repeats))
+            out first_number max_repeats c (link_of next (waits_for command number sent repeats))
             (simp none_below (later (leb repeats max_repeats) h));
-        idle_in = λ next. within (link_of next Idle) (idle_ranged next);
+        idle_in = λ next. within (link_of next None) (idle_ranged next);
         waiting_in = λ next command number sent repeats m w.
-            within (link_of next (Waiting command number sent repeats))
+            within (link_of next (waits_for command number sent repeats))
             (waiting_ranged next command number sent repeats m w);
       }
 

@@ -1,9 +1,9 @@
 -- A refused call leaves the link as it was, whatever the link;
 -- STATE is given exactly where a field is out of range. Assumes nothing.
-use Rattle.std.proofs.Common.{◌≡◌, ℕ, Bool, true, false, cond, ltb, ◌≢◌, refl, true≢false, arith}
+use Rattle.std.proofs.Common.{◌≡◌, ℕ, Bool, true, false, cond, ltb, None, Some, ◌≢◌, refl, true≢false, arith}
 use Rattle.base.specs.Outcomes.{Outcome, outcome}
 use Rattle.base.proofs.Tests.{by_test}
-use Rattle.link.specs.Sending.{may_wait, fits_of}
+use Rattle.link.specs.Sending.{Wait, may_wait, fits_of}
 use Rattle.link.specs.Clock.{is_due}
 use Rattle.link.specs.Table.{state_row, unsent_row}
 use Rattle.link.specs.Calls.{in_range, offer_in, due_tick_of, tick_in, receive_in}
@@ -11,8 +11,6 @@ use Rattle.link.specs.Logs.{Call, offering, ticking, receiving}
 use Rattle.link.specs.LogsComputed.{call_of}
 use Rattle.link.specs.Refusals.{RefusedUnchanged}
 use Rattle.link.specs.declared.state.Link.{Link}
-use Rattle.link.specs.declared.state.Wait.{Wait}
-use Rattle.link.specs.declared.state.Wait.TheVariants.{Idle, Waiting}
 
 module _ (first max : ℕ) (l : Link) where
   -- an answer that is not STATE, and that leaves the link where it refuses
@@ -20,13 +18,13 @@ module _ (first max : ℕ) (l : Link) where
   Fair y = (y.row.number ≢ 0 → y.state ≡ l) × (y.row.number ≢ 17)
 
   accepted_or_busy : (w : Wait) (command clock : ℕ) → Fair (offer_in w first l command clock)
-  accepted_or_busy Idle command clock = (λ n. absurd (n refl), omega arith)
-  accepted_or_busy (Waiting waiting under sent repeats) command clock = (λ _. refl, omega arith)
+  accepted_or_busy None command clock = (λ n. absurd (n refl), omega arith)
+  accepted_or_busy (Some w) command clock = (λ _. refl, omega arith)
 
   offered : (command clock : ℕ)
-      → Fair (cond (may_wait command) (offer_in l.wait first l command clock) (outcome unsent_row l))
+      → Fair (cond (may_wait command) (offer_in l.waiting first l command clock) (outcome unsent_row l))
   offered command clock =
-      by_test Fair (may_wait command) (λ _. accepted_or_busy l.wait command clock) λ _. (λ _. refl, omega arith)
+      by_test Fair (may_wait command) (λ _. accepted_or_busy l.waiting command clock) λ _. (λ _. refl, omega arith)
 
   due_ticked : (most command number repeats clock : ℕ) → Fair (due_tick_of most l command number repeats clock)
   due_ticked most command number repeats clock =
@@ -34,14 +32,15 @@ module _ (first max : ℕ) (l : Link) where
       λ _. (λ n. absurd (n refl), omega arith)
 
   ticked : (w : Wait) (clock : ℕ) → Fair (tick_in w max l clock)
-  ticked Idle clock = (λ _. refl, omega arith)
-  ticked (Waiting command number sent repeats) clock =
-      by_test Fair (is_due clock sent) (λ _. due_ticked _ command number repeats _) λ _. (λ _. refl, omega arith)
+  ticked None clock = (λ _. refl, omega arith)
+  ticked (Some w) clock =
+      by_test Fair (is_due clock w.sent) (λ _. due_ticked _ w.command w.number w.repeats _)
+      λ _. (λ _. refl, omega arith)
 
   received : (w : Wait) (command number : ℕ) → Fair (receive_in w l command number)
-  received Idle command number = (λ _. refl, omega arith)
-  received (Waiting waiting under sent repeats) command number =
-      by_test Fair (fits_of command number waiting under) (λ _. (λ n. absurd (n refl), omega arith))
+  received None command number = (λ _. refl, omega arith)
+  received (Some w) command number =
+      by_test Fair (fits_of command number w.command w.number) (λ _. (λ n. absurd (n refl), omega arith))
       λ _. (λ _. refl, omega arith)
 
   -- with the test for STATE before it
@@ -55,8 +54,8 @@ module _ (first max : ℕ) (l : Link) where
 
   each : (c : Call) → Guarded (in_range first max l) (call_of first max l c)
   each (offering command clock) = guarded (in_range first max l) _ (offered command clock)
-  each (ticking clock) = guarded (in_range first max l) _ (ticked l.wait clock)
-  each (receiving command number) = guarded (in_range first max l) _ (received l.wait command number)
+  each (ticking clock) = guarded (in_range first max l) _ (ticked l.waiting clock)
+  each (receiving command number) = guarded (in_range first max l) _ (received l.waiting command number)
 
 pub refused_unchanged : RefusedUnchanged
 refused_unchanged first max l c =

@@ -1,16 +1,14 @@
 -- Logs, entry by entry: the numbers used, what stands after a part of a log, and what waits after an accepted offer.
 -- Assumes nothing.
-use Rattle.std.proofs.Common.{◌≡◌, ℕ, suc, ◌+◌, ◌≤◌, Bool, true, false, cond, List, [], ◌∷◌, ◌++◌, length, sym, refl}
-use Rattle.std.proofs.Common.{ap, ◌∙◌, true≢false, add-zero, add-one, arith}
+use Rattle.std.proofs.Common.{◌≡◌, ℕ, suc, ◌+◌, ◌≤◌, Bool, true, false, cond, None, Some, List, [], ◌∷◌, ◌++◌, length, sym}
+use Rattle.std.proofs.Common.{refl, ap, ◌∙◌, true≢false, add-zero, add-one, arith}
 use Rattle.base.proofs.Tests.{by_test}
-use Rattle.link.specs.Sending.{number_at}
+use Rattle.link.specs.Sending.{Wait, waits_for, number_at}
 use Rattle.link.specs.Calls.{link_of}
 use Rattle.link.specs.Logs.{Call, Entry, accepted, repeated, ended, number_in, numbers_used, numbers_from}
 use Rattle.link.specs.LogsComputed.{log_of}
 use Rattle.link.specs.Logs.{sent_after, waits_after, none_ends, repeats_in, last_sent, due_ticks}
 use Rattle.link.specs.declared.state.Link.{Link}
-use Rattle.link.specs.declared.state.Wait.{Wait}
-use Rattle.link.specs.declared.state.Wait.TheVariants.{Idle, Waiting}
 use Rattle.link.proofs.Moves.{wait_after, count_after, Shown, Ranges, Moved, moved}
 
 -- one more or none, counted before or after
@@ -25,8 +23,8 @@ none_ends_lem true q = absurd (true≢false (sym q))
 none_ends_lem false q = (refl, q)
 
 -- where by the calls and answers nothing waits, the link is idle: so after an entry if so before it
-idle_after_lem : (e : Entry) (w : Wait) (t a d : Bool) → accepted e ≡ a → ended e ≡ d → (t ≡ false → w ≡ Idle)
-    → cond a true (cond d false t) ≡ false → wait_after e w ≡ Idle
+idle_after_lem : (e : Entry) (w : Wait) (t a d : Bool) → accepted e ≡ a → ended e ≡ d → (t ≡ false → w ≡ None)
+    → cond a true (cond d false t) ≡ false → wait_after e w ≡ None
 idle_after_lem e w t true d p q i s = absurd (true≢false s)
 idle_after_lem e w t false true p q i s = simp (p, q)
 idle_after_lem e w t false false p q i s = rw (i s) (simp (p, q))
@@ -50,8 +48,8 @@ module _ (first max : ℕ) where
 
   -- the number that an entry uses is the k-th
   in_turn : (k : ℕ) (w : Wait) (e : Entry) → Shown first k e w → accepted e ≡ true → number_in e ≡ number_at first k
-  in_turn k Idle e t a = t a
-  in_turn k (Waiting command number sent repeats) e t a = absurd (true≢false (sym a ∙ t.0))
+  in_turn k None e t a = t a
+  in_turn k (Some w) e t a = absurd (true≢false (sym a ∙ t.0))
 
   -- those of a log come in order
   pub numbered : (k : ℕ) (w : Wait) (es : List Entry)
@@ -69,12 +67,12 @@ module _ (first max : ℕ) where
   -- what stands after a part of a log; t is whether a command waits before it
   pub record Standing (k : ℕ) (t : Bool) (before rest : List Entry) : Type 0 where
     pub wait : Wait
-    pub idle : waits_after t before ≡ false → wait ≡ Idle
+    pub idle : waits_after t before ≡ false → wait ≡ None
     pub follows : Follows (k + length (numbers_used before)) wait rest
 
   -- every part of a log leaves such a standing
   pub stands : (k : ℕ) (w : Wait) (t : Bool) (before rest : List Entry)
-      → (t ≡ false → w ≡ Idle) → Follows k w (before ++ rest) → Standing k t before rest
+      → (t ≡ false → w ≡ None) → Follows k w (before ++ rest) → Standing k t before rest
   unfolding numbers_used waits_after
   stands k w t [] rest i f = record { wait = w; idle = i; follows = rw add-zero f }
   stands k w t (e ∷ before) rest i f =
@@ -90,12 +88,12 @@ module _ (first max : ℕ) where
     pub few : repeats + repeats_in during ≤ max
     pub each : due_ticks sent during ≡ repeats_in during
     pub alone : numbers_used during ≡ []
-    pub follows : Follows k (Waiting command number (last_sent sent during) (repeats + repeats_in during)) rest
+    pub follows : Follows k (waits_for command number (last_sent sent during) (repeats + repeats_in during)) rest
 
   -- they leave it so
   pub waited : (k command number sent repeats : ℕ) (during rest : List Entry)
-      → Ranges first max (Waiting command number sent repeats)
-      → Follows k (Waiting command number sent repeats) (during ++ rest) → none_ends during ≡ true
+      → Ranges first max (waits_for command number sent repeats)
+      → Follows k (waits_for command number sent repeats) (during ++ rest) → none_ends during ≡ true
       → Waited k command number sent repeats during rest
   unfolding numbers_used none_ends repeats_in last_sent due_ticks
   waited k command number sent repeats [] rest h f q =

@@ -2,18 +2,24 @@
 use Rattle.std.specs.Prelude.{◌≡◌, ℕ, List, [], ◌∷◌, map}
 use mathlib.Core.List.{Memᴰ}
 use Rattle.base.specs.Outcomes.{outcome}
-use Rattle.link.specs.Calls.{offer_of, tick_of, receive_of}
+use Rattle.link.specs.Sending.{first_number, max_repeats}
+use Rattle.link.specs.Calls.{offer_of, tick_of, receive_of, offer, tick, receive}
 use Rattle.link.specs.Logs.{Call, offering, ticking, receiving, Entry}
 use Rattle.link.specs.LogsComputed.{call_of, log_of}
 use Rattle.link.specs.declared.state.Link.{Link}
 
--- ---- calls_stated: a call of the claims is what the contract of its function states
+-- ---- calls_stated: a call of the claims is what the contract of its function states, with the code's own figures
 pub record CallsStated : Type 0 where
   pub offers : (first max : ℕ) (l : Link) (command clock : ℕ)
       → call_of first max l (offering command clock) ≡ offer_of first max l command clock
   pub ticks : (first max : ℕ) (l : Link) (clock : ℕ) → call_of first max l (ticking clock) ≡ tick_of first max l clock
   pub receives : (first max : ℕ) (l : Link) (command number : ℕ)
       → call_of first max l (receiving command number) ≡ receive_of first max l command number
+  pub offered : (l : Link) (command clock : ℕ)
+      → call_of first_number max_repeats l (offering command clock) ≡ offer l command clock
+  pub ticked : (l : Link) (clock : ℕ) → call_of first_number max_repeats l (ticking clock) ≡ tick l clock
+  pub received : (l : Link) (command number : ℕ)
+      → call_of first_number max_repeats l (receiving command number) ≡ receive l command number
 
 -- the call of an entry
 abbrev pub call_in : Entry → Call

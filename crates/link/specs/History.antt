@@ -1,16 +1,15 @@
 -- Statement: what holds of every list of calls of a link that began fresh. PROTOCOL 9.1 to 9.13, 9.15.
 -- The record `History` is the statement to be judged; link_history, in `Histories`, is its claim.
-use Rattle.std.specs.Prelude.{◌≡◌, ℕ, ◌+◌, ◌<◌, ◌≤◌, true, false, cond, ◌&&◌, ◌||◌, ◌≢◌, List, [], ◌∷◌, ◌++◌, length}
-use Rattle.std.specs.Prelude.{◌==◌, nat_lt}
+use Rattle.std.specs.Prelude.{◌≡◌, ℕ, ◌+◌, ◌<◌, ◌≤◌, true, false, cond, ◌&&◌, ◌||◌, ◌≢◌, None, List, [], ◌∷◌, ◌++◌}
+use Rattle.std.specs.Prelude.{length, ◌==◌, nat_lt}
 use Rattle.base.specs.Rows.{Row}
-use Rattle.link.specs.Sending.{may_wait, number_at}
+use Rattle.link.specs.Sending.{waits_for, may_wait, number_at}
 use Rattle.link.specs.Clock.{is_due}
 use Rattle.link.specs.Table.{busy_row, unsent_row, stray_row, accepted_row, nothing_row, again_row, given_up_row}
 use Rattle.link.specs.Table.{replied_row}
 use Rattle.link.specs.Logs.{Call, offering, ticking, receiving, Entry, command_in, clock_in, accepted, repeated}
 use Rattle.link.specs.Logs.{ended, number_in, numbers_used, numbers_from, waits_after, none_ends, repeats_in, last_sent}
 use Rattle.link.specs.Logs.{due_ticks}
-use Rattle.link.specs.declared.state.Wait.TheVariants.{Idle, Waiting}
 
 -- ---- what each entry must answer
 
@@ -69,15 +68,15 @@ pub record History (first max : ℕ) (log : List Entry) : Type 0 where
       → accepted a ≡ true → max < due_ticks (clock_in a.call) during → none_ends during ≡ false
   -- an accepted command waits, sent at the clock of its offer and not yet repeated: PROTOCOL 9.5
   pub begun : (before : List Entry) (e : Entry) (after : List Entry) → log ≡ before ++ (e ∷ after)
-      → accepted e ≡ true → e.after.wait ≡ Waiting (command_in e.call) (number_in e) (clock_in e.call) 0
+      → accepted e ≡ true → e.after.waiting ≡ waits_for (command_in e.call) (number_in e) (clock_in e.call) 0
   -- a repeat counts one more, and is sent at the tick's clock: PROTOCOL 9.5, 9.6
   pub resent : (before : List Entry) (a : Entry) (during : List Entry) (e : Entry) (after : List Entry)
       → log ≡ before ++ (a ∷ (during ++ (e ∷ after)))
       → accepted a ≡ true → none_ends during ≡ true → repeated e ≡ true
-      → e.after.wait ≡ Waiting (command_in a.call) (number_in a) (clock_in e.call) (repeats_in during + 1)
+      → e.after.waiting ≡ waits_for (command_in a.call) (number_in a) (clock_in e.call) (repeats_in during + 1)
   -- where a wait ends, nothing waits: PROTOCOL 9.7, 9.9
   pub freed : (before : List Entry) (e : Entry) (after : List Entry)
-      → log ≡ before ++ (e ∷ after) → ended e ≡ true → e.after.wait ≡ Idle
+      → log ≡ before ++ (e ∷ after) → ended e ≡ true → e.after.waiting ≡ None
   -- every other call leaves the link as it was: PROTOCOL 9.8, 9.10 to 9.12
   pub unchanged : (before : List Entry) (e : Entry) (after : List Entry) → log ≡ before ++ (e ∷ after)
       → (accepted e || (repeated e || ended e)) ≡ false → e.after ≡ e.before

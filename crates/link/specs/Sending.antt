@@ -1,7 +1,8 @@
 -- Statement: which commands wait, under which numbers, and which received frame fits. PROTOCOL 9.1, 9.2, 9.6, 9.9.
 -- It uses base's `among` of the model, held by looked_up.
-use Rattle.std.specs.Prelude.{ℕ, ◌+◌, ◌-◌, ◌%◌, Bool, ◌&&◌, List, [], ◌∷◌, ◌==◌}
+use Rattle.std.specs.Prelude.{ℕ, ◌+◌, ◌-◌, ◌%◌, Bool, ◌&&◌, Option, Some, List, [], ◌∷◌, ◌==◌}
 use Rattle.base.specs.Keys.{among}
+use Rattle.link.specs.declared.state.Waiting.{Waiting}
 
 -- PROTOCOL 9.1
 abbrev pub wait_commands : List ℕ
@@ -10,6 +11,15 @@ wait_commands = 0x05 ∷ 0x09 ∷ 0x0B ∷ 0x13 ∷ 0x15 ∷ 0x17 ∷ 0x1B ∷ 0
 -- whether a command is one of them; every other is UNSENT (PROTOCOL 9.11), also a reply of the box, as 02
 abbrev pub may_wait : ℕ → Bool
 may_wait command = among command wait_commands
+
+-- what waits in a link, or nothing
+abbrev pub Wait : Type 0
+Wait = Option Waiting
+
+-- a command waits under a number, last sent at a clock, with so many repeats
+abbrev pub waits_for : ℕ → ℕ → ℕ → ℕ → Wait
+waits_for command number sent repeats =
+    Some (record { command = command; number = number; sent = sent; repeats = repeats })
 
 -- the first sequence number: PROTOCOL 9.2. The definitions take it as `first`, and the contracts state this one
 abbrev pub first_number : ℕ

@@ -1,12 +1,14 @@
 -- Statement: the number and the values of each answer. PROTOCOL 4.10, 6.7, 9.10 to 9.13.
-use Rattle.std.specs.Prelude.{ℕ, [], ◌∷◌}
+use Rattle.std.specs.Prelude.{ℕ, [], ◌∷◌, Option, None, Some, Result, Ok, Err}
 use Rattle.base.specs.Rows.{Row, row}
-use Rattle.link.specs.declared.offers.OfferResult.{OfferResult}
-use Rattle.link.specs.declared.offers.OfferResult.TheVariants as offer_result
-use Rattle.link.specs.declared.ticks.TickResult.{TickResult}
-use Rattle.link.specs.declared.ticks.TickResult.TheVariants as tick_result
-use Rattle.link.specs.declared.receives.ReceiveResult.{ReceiveResult}
-use Rattle.link.specs.declared.receives.ReceiveResult.TheVariants as receive_result
+use Rattle.base.specs.declared.writes.StateError.{StateError}
+use Rattle.link.specs.declared.offers.OfferError.{OfferError}
+use Rattle.link.specs.declared.offers.OfferError.TheVariants as offer_error
+use Rattle.link.specs.declared.ticks.Tick.{Tick}
+use Rattle.link.specs.declared.ticks.Tick.TheVariants.{Again, GivenUp}
+use Rattle.link.specs.declared.receives.Replied.{Replied}
+use Rattle.link.specs.declared.receives.ReceiveError.{ReceiveError}
+use Rattle.link.specs.declared.receives.ReceiveError.TheVariants as receive_error
 
 -- ---- the rows: what is not a refusal stands under 0, which here is not MORE
 
@@ -49,21 +51,21 @@ replied_row command number = row 0 (command ∷ number ∷ [])
 -- ---- the code's answers
 
 -- to an offer
-abbrev pub offer_row_of : OfferResult → Row
-offer_row_of (offer_result.Accepted number) = accepted_row number
-offer_row_of offer_result.State = state_row
-offer_row_of offer_result.Unsent = unsent_row
-offer_row_of offer_result.Busy = busy_row
+abbrev pub offer_row_of : Result ℕ OfferError → Row
+offer_row_of (Ok number) = accepted_row number
+offer_row_of (Err offer_error.State) = state_row
+offer_row_of (Err offer_error.Unsent) = unsent_row
+offer_row_of (Err offer_error.Busy) = busy_row
 
 -- to a tick
-abbrev pub tick_row_of : TickResult → Row
-tick_row_of tick_result.Nothing = nothing_row
-tick_row_of (tick_result.Again command number) = again_row command number
-tick_row_of (tick_result.GivenUp command number) = given_up_row command number
-tick_row_of tick_result.State = state_row
+abbrev pub tick_row_of : Result (Option Tick) StateError → Row
+tick_row_of (Ok None) = nothing_row
+tick_row_of (Ok (Some (Again command number))) = again_row command number
+tick_row_of (Ok (Some (GivenUp command number))) = given_up_row command number
+tick_row_of (Err e) = state_row
 
 -- to a received frame
-abbrev pub receive_row_of : ReceiveResult → Row
-receive_row_of (receive_result.Replied command number) = replied_row command number
-receive_row_of receive_result.State = state_row
-receive_row_of receive_result.Stray = stray_row
+abbrev pub receive_row_of : Result Replied ReceiveError → Row
+receive_row_of (Ok replied) = replied_row replied.command replied.number
+receive_row_of (Err receive_error.State) = state_row
+receive_row_of (Err receive_error.Stray) = stray_row

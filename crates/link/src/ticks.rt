@@ -1,96 +1,62 @@
-// A tick of the clock, by value or in place: PROTOCOL 9.4 to 9.8, 9.14.
+//! A tick of the clock, by value or in place: PROTOCOL 9.4 to 9.8, 9.14.
 ghost use Rattle.std.specs.Prelude.{◌≡◌};
-ghost use Rattle.base.specs.Outcomes.{outcome};
-ghost use Rattle.link.specs.Sending.{first_number, max_repeats};
-ghost use Rattle.link.specs.Table.{tick_row_of};
-ghost use Rattle.link.specs.Calls.{due_tick_of, tick_of, ticked_of};
+ghost use Rattle.link.specs.Calls.{tick, ticked_of};
 
 use super::MAX_REPEATS;
 use super::clock::is_due;
-use super::state::{Link, Wait, idle, in_range};
+use super::state::{Link, Waiting};
+use base::StateError;
 
-// The answer to a tick.
-#[derive(Drop)]
-pub enum TickResult {
-    // Nothing to do.
-    Nothing,
-    // Send the command again, under the same number.
+/// What the caller of a due tick has to do.
+#[derive(Clone, Copy, Debug, PartialEq, Eq)]
+pub enum Tick {
+    /// Send the command again, under the same number.
     Again { command: u8, number: u8 },
-    // The command had all its repeats, and waits no longer.
+    /// Nothing: the command had all its repeats, and waits no longer.
     GivenUp { command: u8, number: u8 },
-    // STATE 17: a field of the link is out of its range.
-    State,
 }
 
-#[derive(Drop)]
-pub struct Ticked {
-    pub answer: TickResult,
-    pub link: Link,
-}
-
-// A due tick of a command with so many repeats: PROTOCOL 9.6, 9.7.
-fn due_tick(link: Link, command: u8, number: u8, repeats: u8, clock: u32) -> Ticked
-    ensures { ticked_of result ≡ due_tick_of max_repeats link command number repeats clock }
-{
-    if repeats < MAX_REPEATS {
-        return Ticked {
-            answer: TickResult::Again { command, number },
-            link: Link {
-                next: link.next,
-                wait: Wait::Waiting {
-                    command,
-                    number,
-                    sent: clock,
-                    repeats: repeats + 1,
-                },
-            },
-        };
-    }
-    Ticked {
-        answer: TickResult::GivenUp { command, number },
-        link: idle(link),
-    }
-}
-
-// A tick of a link that is passed and returned by value; a box that holds its link in one place calls `tick`.
-pub fn tick_by_value(link: Link, clock: u32) -> Ticked
-    ensures { ticked_of result ≡ tick_of first_number max_repeats link clock }
-{
-    if !in_range(link) {
-        return Ticked {
-            answer: TickResult::State,
-            link,
-        };
-    }
-    let wait = link.wait;
-    match wait {
-        Wait::Idle => Ticked {
-            answer: TickResult::Nothing,
-            link,
-        },
-        Wait::Waiting {
-            command,
-            number,
-            sent,
-            repeats,
-        } => {
-            if is_due(clock, sent) {
-                return due_tick(link, command, number, repeats, clock);
-            }
-            Ticked {
-                answer: TickResult::Nothing,
-                link,
-            }
+impl Link {
+    /// A tick at a reading of the clock, of a link that is passed and returned by value: what there is to do,
+    /// if the tick is due, and the link after it.
+    pub fn ticked(self, clock: u32) -> (Result<Option<Tick>, StateError>, Link)
+        ensures { ticked_of result.0 result.1 ≡ tick self clock }
+    {
+        if !self.is_in_range() {
+            return (Err(StateError), self);
         }
+        let Some(waiting) = self.waiting else {
+            return (Ok(None), self);
+        };
+        if !is_due(clock, waiting.sent) {
+            return (Ok(None), self);
+        }
+        let (command, number) = (waiting.command, waiting.number);
+        if waiting.repeats < MAX_REPEATS {
+            let again = Waiting {
+                sent: clock,
+                repeats: waiting.repeats + 1,
+                ..waiting
+            };
+            let link = Link {
+                waiting: Some(again),
+                ..self
+            };
+            return (Ok(Some(Tick::Again { command, number })), link);
+        }
+        let link = Link {
+            waiting: None,
+            ..self
+        };
+        (Ok(Some(Tick::GivenUp { command, number })), link)
     }
-}
 
-// A tick that changes the link in place: PROTOCOL 9.14.
-pub fn tick(link: &mut Link, clock: u32) -> TickResult
-    ensures { outcome (tick_row_of result) link.new
-        ≡ tick_of first_number max_repeats link.old clock }
-{
-    let ticked = tick_by_value(*link, clock);
-    *link = ticked.link;
-    ticked.answer
+    /// A tick of a link in its own place: PROTOCOL 9.14.
+    pub fn tick(&mut self, clock: u32) -> Result<Option<Tick>, StateError>
+        ensures { ticked_of result self.new ≡ tick self.old clock }
+    {
+        let (answer, link) = self.ticked(clock);
+        *self = link;
+        answer
+    }
 }
