@@ -80,6 +80,7 @@ impl Reader {
         requires { Ready frame_limit (scan_of self.old.scan) (length bytes.now) }
         ensures { fed_of (Ok result, self.new) ≡ run_of frame_limit bytes.now 0 (state_of self.old) }
     {
+        // Counted by hand: a `for` can be left only without a value, and the count is the answer.
         let mut scan = self.scan;
         let mut count = 0;
         let decision = loop {
