@@ -1,54 +1,39 @@
--- `trogonreed_write_frame` meets its contract: each arm returns the number for the row that frame's writer answered.
-use Prim.Native.Nat.{◌≤◌}
-use mathlib.Core.Path.{ap}
-use native.Mathlib.Omega.{arith}
+-- `trogonreed_write_frame` meets its contract: the count and the length are far below 2^32.
+use Rattle.std.proofs.Common.{◌≡◌, ℕ, ◌≤◌, List, subst, sym, arith}
 use Rattle.base.specs.Outcomes.{Output, written_in, needed_in}
+use Rattle.frame.specs.Calls.{write_of}
 use Rattle.frame.specs.Wire.{frame_limit}
-use Rattle.firmware.specs.CodeExact.{Arguments, output_of}
+use Rattle.firmware.specs.CodeExact.{Arguments}
 use Rattle.firmware.proofs.CodeExact.{counts_below, lengths_below}
 use Rattle.firmware.proofs.trogonreed_write_frame.Goals as goal
 
--- the count and the length are far below 2^32
+module _ (command number flags : ℕ) (payload out : List ℕ) (a : Output)
+    (e : a ≡ write_of frame_limit command number flags payload out) where
+  abbrev arguments : Arguments
+  arguments = record { command = command; number = number; flags = flags; payload = payload; out = out }
+
+  count_below : written_in a.row ≤ 2054
+  count_below = subst (λ (o : Output). written_in o.row ≤ 2054) (sym e) (counts_below.ours arguments)
+
+  length_below : needed_in a.row ≤ 2054
+  length_below = subst (λ (o : Output). needed_in o.row ≤ 2054) (sym e) (lengths_below.ours arguments)
+
 pub overflow_cast-result : goal.overflow_cast-result
 overflow_cast-result c =
-    let arguments : Arguments = let args = c.args in
-    record {
-      command = args.command;
-      number = args.number;
-      flags = args.flags;
-      payload = args.payload.now;
-      out = args.out.now;
-    } in
-    let count = ap (λ (a : Output). written_in a.row) {y =
-    output_of frame_limit arguments} (rw c.in-Wrote.is at c.write-written.ensures) in
-    record { fits = omega (arith, counts_below.ours arguments, count) }
+    let args = c.args in
+    let below = count_below args.command args.number args.flags args.payload.now args.out.now _ c.in-Ok.ensures in
+    record { fits = omega (arith, below) }
 
-pub overflow_cast-result-in-Room : goal.overflow_cast-result-in-Room
-overflow_cast-result-in-Room c =
-    let arguments : Arguments = let args = c.args in
-    record {
-      command = args.command;
-      number = args.number;
-      flags = args.flags;
-      payload = args.payload.now;
-      out = args.out.now;
-    } in
-    let length-below : c.in-Room.needed ≤ 2054 = let needed = ap (λ (a : Output). needed_in a.row) {y =
-    output_of frame_limit arguments} (rw (c.in-Unwritten.is, c.in-Room.is) at c.write-written.ensures) in
-    omega (arith, lengths_below.ours arguments, needed) in
-    record { fits = omega (arith, length-below) }
+pub overflow_cast-result-in-Err-Room : goal.overflow_cast-result-in-Err-Room
+overflow_cast-result-in-Err-Room c =
+    let args = c.args in
+    let below = length_below args.command args.number args.flags args.payload.now args.out.now _
+    (rw c.in-Err-Room.field-0-is at c.in-Err-Room.ensures) in
+    record { fits = omega (arith, below) }
 
-pub overflow_add-result-in-Room : goal.overflow_add-result-in-Room
-overflow_add-result-in-Room c =
-    let arguments : Arguments = let args = c.args in
-    record {
-      command = args.command;
-      number = args.number;
-      flags = args.flags;
-      payload = args.payload.now;
-      out = args.out.now;
-    } in
-    let length-below : c.in-Room.needed ≤ 2054 = let needed = ap (λ (a : Output). needed_in a.row) {y =
-    output_of frame_limit arguments} (rw (c.in-Unwritten.is, c.in-Room.is) at c.write-written.ensures) in
-    omega (arith, lengths_below.ours arguments, needed) in
-    record { fits = omega (arith, length-below) }
+pub overflow_add-result : goal.overflow_add-result
+overflow_add-result c =
+    let args = c.args in
+    let below = length_below args.command args.number args.flags args.payload.now args.out.now _
+    (rw c.in-Err-Room.field-0-is at c.in-Err-Room.ensures) in
+    record { fits = omega (arith, below) }
