@@ -24,7 +24,7 @@ from place import (BIN, DAMAGED, FAILS, HOST, NO_MODULE, PATIENCE, ROOT, SAYS_NO
 TRIPLE = "thumbv6m-none-eabi"
 FILES = ["libfirmware.a", "trogonreed.h"]
 PROVED = ["base", "frame", "firmware"]  # the writer, and what it is made of
-PAIR = re.compile(r"^  (%\w+) = load \{ (i64, i8) \}, ptr (%\w+), align 8\n", re.M)
+PAIR = re.compile(r"^  (%\w+) = load \{ (i64, i8|i8, i64) \}, ptr (%\w+), align 8\n", re.M)
 
 
 def written(test, place, module, folder):
@@ -203,7 +203,7 @@ def retargeted(test, place, text, layout):
         ("a call of nothing", FIRST, FIRST + "  call void @none()\n"),
         ("two groups", "attributes #1", f"attributes #3 = {{ nounwind {FOR_HOST} }}\nattributes #1"),
         ("parameters with other names", "i64 noundef %a1) #0", "i64 noundef %a2) #0"),
-        ("two functions of one name", '@"base::slices::min"', '@"core::num::wrapping_add_u8"'),
+        ("two functions of one name", 'noundef i64 @"frame::writer::width"', 'noundef i64 @"frame::writer::put_byte"'),
         ("a copy that is not declared", "declare void @llvm.memmove", "; declare void @llvm.memmove"),
         ("zeros that are not declared", "declare void @llvm.memset", "; declare void @llvm.memset"),
         ("nothing", text, ""),
@@ -312,8 +312,8 @@ def not_proved(test, place):
     shutil.copy(ROOT / "crates.txt", place.root)
     source = place.root / "crates/firmware/src/lib.rt"
     text = source.read_text("utf-8")
-    assert text.count("REFUSED + 21") == 1
-    source.write_text(text.replace("REFUSED + 21", "REFUSED + 22"), encoding="utf-8")
+    assert text.count("REFUSED + u32") == 1
+    source.write_text(text.replace("REFUSED + u32", "REFUSED + 1 + u32"), encoding="utf-8")
     found = Run([place.door, TRIPLE, str(place.out)])
     test("another number for PAYLOAD: one line", found.is_refusal("firmware is not proved"), str(found))
     test("another number for PAYLOAD: nothing is written", place.left() == set(), str(place.left()))

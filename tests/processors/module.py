@@ -14,10 +14,10 @@ TAKEN = "  store ptr %r4, ptr %r0, align 8\n"
 CALLED = '(i8 %a0, i8 %a1, i16 %a2, ptr %r6, i64 %r8, ptr %r15, i64 %r17)'
 COPY = "  call void @llvm.memmove.p0.p0.i64(ptr %r0, ptr %a3, "
 FILL = "  call void @llvm.memset.p0.i64(ptr "
-WRITES = '  call void @"frame::writer::write"(ptr %r5, '
-INNER = "  %r14 = load ptr, ptr %r3, align 8, !noundef !1\n"
-LEAST = "  %r2 = icmp ule i64 %a0, %a1\n"
-WITHIN = '  call void @"frame::writer::write_within"(ptr %r0, i64 1024, '
+WRITES = '  call void @"frame::writer::write"(ptr %r9, '
+INNER = "  %r26 = load ptr, ptr %r3, align 8, !noundef !1\n"
+WIDTH = "  %r3 = icmp eq i8 %a0, -1\n"
+ANY = '  call void @"frame::writer::write_any::<'
 OTHERWISE = [
     ("another processor", PROCESSOR, '"target-cpu"="x86-64-v3"', "attributes"),
     ("a feature of the processor", PROCESSOR, PROCESSOR + ' "target-features"="+avx2"', "attributes"),
@@ -76,16 +76,17 @@ OTHERWISE = [
     ("a variable", DECLARED, "@kept = global i32 0\n" + DECLARED, "form"),
     ("an outer function", DECLARED, "declare void @puts(ptr)\n" + DECLARED, "needs"),
     ("an outer function of clang", DECLARED, "declare void @llvm.trap()\n" + DECLARED, "needs"),
-    ("a second export", 'internal noundef i64 @"base::slices::min"', 'noundef i64 @"base::slices::min"', "exports"),
+    ("a second export", 'internal noundef i64 @"frame::writer::width"', 'noundef i64 @"frame::writer::width"',
+     "exports"),
     ("another name", " @trogonreed_write_frame(", " @trogonreed_writes(", "exports"),
     ("no export", "define noundef i32 @trogonreed", "define internal noundef i32 @trogonreed", "export"),
     ("lengths of 32 bits", None, None, "exports"),
-    ("an inner function that calls itself", LEAST, LEAST + '  %z = call i64 @"base::slices::min"(i64 %a0, i64 %a1)\n',
+    ("an inner function that calls itself", WIDTH, WIDTH + '  %z = call i64 @"frame::writer::width"(i8 %a0)\n',
      "may call itself"),
-    ("two functions that call each other", WITHIN, '  %z = call i32 @"firmware::trogonreed_write_frame"'
-     "(i8 %a1, i8 %a2, i16 %a3, ptr %a4, i64 %a5, ptr %a6, i64 %a7)\n" + WITHIN, "may call itself"),
+    ("two functions that call each other", ANY, '  %z = call i32 @"firmware::trogonreed_write_frame"'
+     "(i8 1, i8 2, i16 3, ptr %a2, i64 %a3, ptr %a4, i64 %a5)\n" + ANY, "may call itself"),
     ("addresses compared in C's function", TAKEN, TAKEN + "  %z = icmp eq ptr %a3, %a5\n", "form"),
-    ("an address compared in another function", INNER, INNER + "  %z = icmp eq ptr %a3, null\n", "form"),
+    ("an address compared in another function", INNER, INNER + "  %z = icmp eq ptr %a2, null\n", "form"),
     ("zeros where an address was", FIRST, FIRST + "  %z = alloca ptr, align 8\n"
      f"{FILL}%z, i8 0, i64 8, i1 false)\n", "for more"),
     ("zeros beyond memory", TAKEN, TAKEN + FILL + "%r0, i8 0, i64 17, i1 false)\n", "beyond"),
@@ -106,12 +107,12 @@ OTHERWISE = [
     ("a pair in the memory of an address", FIRST, FIRST + "  %z = alloca ptr, align 8\n"
      "  %y = load { ptr, i64 }, ptr %z, align 8\n", "for more"),
     ("a pair of the caller's", TAKEN, TAKEN + "  %z = load { i64, i8 }, ptr %a3, align 1\n", "more than a byte"),
-    ("a function that writes numbers where its caller has an address", WRITES, WRITES.replace("%r5", "%r10"),
+    ("a function that writes numbers where its caller has an address", WRITES, WRITES.replace("%r9", "%r11"),
      "a number as an address"),
-    ("a function that writes beyond its caller's memory", WRITES, WRITES.replace("%r5", "%r7"), "beyond"),
-    ("a function that takes it that its caller's memory is aligned", "  store i64 %r19, ptr %a0, align 1\n",
-     "  store i64 %r19, ptr %a0, align 16\n", "not aligned"),
-    ("a function that writes more than bytes to C's memory", WRITES, WRITES.replace("%r5", "%r19"), "not known"),
+    ("a function that writes beyond its caller's memory", WRITES, WRITES.replace("%r9", "%r8"), "beyond"),
+    ("a function that takes it that its caller's memory is aligned", "  store i64 %r20, ptr %a0, align 1\n",
+     "  store i64 %r20, ptr %a0, align 16\n", "not aligned"),
+    ("a function that writes more than bytes to C's memory", WRITES, WRITES.replace("%r9", "%r19"), "not known"),
     ("a copy of what C passes", TAKEN, TAKEN + COPY + "i64 16, i1 false)\n", "not its own"),
 ]
 
