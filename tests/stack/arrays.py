@@ -1,8 +1,13 @@
 """The arrays of a function and of all that it reaches, with the size of each in bytes.
 
-Reached are the functions that it calls, and the types and constants that it names, and what these reach. A method is
-known by its name alone, so each method of that name is reached. An array is a type `[T; n]`, a value `[v; n]` or
-`[a, b, c]`, or a byte string. Where the text does not say of what type the elements of a value are, they count 8 bytes.
+Reached are the functions that it calls, and the types, traits and constants that it names, and what these reach. A
+method is known by its name alone, so each method of that name is reached, of each `impl` that has it. A `?` reaches the
+`from` of each `impl` that makes the function's error. An array is a type `[T; n]`, a value `[v; n]` or `[a, b, c]`, or
+a byte string; a pattern makes none. Where the text does not say of what type the elements of a value are, they count 16
+bytes, as a slice has.
+
+What std has is known here by its name, in lists: each of these words makes no array, or one of a number's bytes. A word
+of std that is in none of them is not found. mir.py looks at the same words, as the compiler has them.
 """
 import re
 
@@ -16,10 +21,17 @@ NAME = re.compile(r"[^\W\d]\w*$")
 NUMBER = re.compile(r"(0x[\da-fA-F_]+|0b[01_]+|0o[0-7_]+|\d[\d_]*?)_?([uif](?:8|16|32|64|size))?$")
 OPERATORS = {"+", "-", "*", "/", "%", "(", ")", "<<", ">>"}
 KEYWORDS = {"as", "break", "const", "continue", "else", "enum", "extern", "false", "fn", "for", "if", "impl", "in"}
-KEYWORDS |= {"let", "loop", "match", "mut", "pub", "return", "struct", "true", "type", "while", "_"}
-BUILT_IN = {"len", "wrapping_add", "wrapping_sub"}  # methods of the language
-HIDING = {"for", "?"}  # call functions that they do not name
-OF_NUMBERS = {"count_ones", "leading_zeros", "trailing_zeros", "MAX", "MIN", "BITS"}  # in paths such as u64::MAX
+KEYWORDS |= {"let", "loop", "match", "mut", "pub", "return", "struct", "trait", "true", "type", "where", "while", "_"}
+# Of std: names of types, of their variants and of traits; methods; a macro, whose text is read as any other text is;
+# and what stands in paths such as u64::MAX, where `from` may be one of ours too.
+NAMES = {"Option", "None", "Some", "Result", "Err", "Ok", "Clone", "Copy", "From", "TryFrom"}
+BUILT_IN = {"checked_add", "checked_sub", "contains", "copied", "copy_from_slice", "div_ceil", "err", "get", "is_empty"}
+BUILT_IN |= {"is_none", "is_ok", "is_err", "is_some", "len", "map", "map_err", "map_or", "max", "min", "ok", "ok_or"}
+BUILT_IN |= {"saturating_add", "saturating_sub", "to_be_bytes", "unwrap_or", "wrapping_add", "wrapping_sub"}
+INTO = {"into": "from", "try_into": "try_from"}  # methods of std that call one of ours
+OPENING = {"(", "[", "{", ",", ";", "=", "=>", "return", "move"}  # what a closure may follow
+MACROS = {"matches"}
+OF_NUMBERS = {"count_ones", "leading_zeros", "trailing_zeros", "MAX", "MIN", "BITS", "from", "from_be_bytes"}
 
 
 def path_at(tokens, place):
@@ -48,31 +60,97 @@ def is_local(path, after, before):
 
 
 def own_path(item, path):
-    """A path in an item: `Self` is the type that a method's own path has."""
-    return (item.path[-2], *path[1:]) if path[0] == "Self" else path
+    """A path in an item: `Self` is the type whose function the item is."""
+    if path[0] != "Self":
+        return path
+    if len(item.owner) != 1:
+        raise Unreadable(f"{item.name}: Self is {' '.join(item.owner) or 'no type'}")
+    return (item.owner[0], *path[1:])
+
+
+def result_of(item):
+    """The text of the type that a function returns."""
+    opening = item.tokens.index("(", item.tokens.index("fn") + 2)
+    end = closing(item.tokens, opening) + 1
+    if item.tokens[end] != "->":
+        return ()
+    place = end + 1
+    while item.tokens[place] not in ("{", "where", ";"):
+        place = closing(item.tokens, place) + 1 if item.tokens[place] in ("(", "[") else place + 1
+    return item.tokens[end + 1 : place]
+
+
+def arguments(tokens):
+    """The types between the < and the > of a type, such as `Result<(), Denial>`."""
+    depth, start, found = 0, tokens.index("<") + 1, []
+    for place in range(start, len(tokens) - 1):
+        depth += (tokens[place] in PAIRED) - (tokens[place] in PAIRED.values())
+        if tokens[place] == "," and depth == 0:
+            found.append(tokens[start:place])
+            start = place + 1
+    return [*found, tokens[start:-1]]
+
+
+PAIRED = {"(": ")", "[": "]", "<": ">"}
+
+
+def conversions(sources, item):
+    """What a `?` in a function calls: each `from` of ours that makes the function's error; of an Option nothing."""
+    result = result_of(item)
+    if result[:2] == ("Option", "<"):
+        return
+    if result[:2] != ("Result", "<") or result[-1] != ">" or has_closure(item.tokens):
+        raise Unreadable(f"{item.name}: what a ? makes is not known")
+    error = arguments(result)[-1]
+    yield from made_by_from(sources, error, sources.resolve(item.home, own_path(item, path_at(error, 0)[0])))
+
+
+def has_closure(tokens):
+    """Whether there is a closure, in which a ? would make another error than the function's."""
+    return any(mark in ("|", "||") and before in OPENING for before, mark in zip(tokens, tokens[1:]))
+
+
+def made_by_from(sources, text, found):
+    """Each `from` in an `impl` of ours that makes a type, by its text, or by what this means."""
+    for method in sources.methods.get("from", {}).values():
+        if method.trait == "From":
+            owner = sources.resolve(method.home, method.owner[:1]) if len(method.owner) == 1 else None
+            if method.owner == text or found is not None and owner == found:
+                yield method
 
 
 def named_in(sources, item):
     """The items that an item names."""
     if item.kind == "fn" and (")", "(") in zip(item.tokens, item.tokens[1:]):
         raise Unreadable(f"{item.name}: what is called stands in brackets")
-    if item.kind == "fn" and HIDING & set(item.tokens):
-        raise Unreadable(f"{item.name}: {' '.join(HIDING & set(item.tokens))} calls what is not named")
+    if item.kind == "fn" and "?" in item.tokens:
+        yield from conversions(sources, item)
     for path, after, before in paths_in(item.tokens[2:]):
-        if after == "!":
+        if after == "!" and path[-1] not in MACROS:
             raise Unreadable(f"{item.name}: a macro, {path[-1]}")
         if before == "." and after == "(":
-            methods = sources.methods.get(path[0], {}).values()
+            methods = sources.methods.get(INTO.get(path[0], path[0]), {}).values()
             if not methods and path[0] not in BUILT_IN:
                 raise Unreadable(f"{item.name}: there is no method {path[0]}")
             yield from methods
-        if is_local(path, after, before) or path[0] in SIZES and (len(path) == 1 or path[1] in OF_NUMBERS):
+        is_declared = item.kind == "trait" and before == "fn"
+        if after == "!" or is_declared or is_local(path, after, before) or path[0] in SIZES and len(path) == 1:
             continue
-        found = sources.resolve(item.home, own_path(item, path))
-        if isinstance(found, Item):
-            yield found
-        elif item.kind != "enum" or len(path) > 1:  # an enum names its variants
-            raise Unreadable(f"{item.name}: {'::'.join(path)} is not found")
+        if path[0] in SIZES and path[1] in OF_NUMBERS:
+            yield from made_by_from(sources, path[:1], None) if path[1] == "from" else ()
+        elif path[0] in item.parameters or item.kind == "trait" and path[0] == "Self":
+            yield from sources.methods.get(path[-1], {}).values() if len(path) > 1 else ()
+        else:
+            yield from item_named(sources, item, path)
+
+
+def item_named(sources, item, path):
+    """The item that a path names; none for a variant where it is declared, and for a name of std that is known."""
+    found = sources.resolve(item.home, own_path(item, path))
+    if isinstance(found, Item):
+        yield found
+    elif not (item.kind == "enum" and len(path) == 1 or len(path) == 1 and path[0] in NAMES and found is None):
+        raise Unreadable(f"{item.name}: {'::'.join(path)} is not found")
 
 
 def reached(sources, start):
@@ -134,6 +212,12 @@ class Reader:
         """The size and the alignment of a type, or None where the tokens are not one."""
         if tokens[:1] == ("&",):
             return SLICE
+        if tokens[:1] == ("(",) and closing(tokens, 0) == len(tokens) - 1:
+            inside = [self.layout_of_type(run) for run in split(tokens[1:-1], ",")]
+            return None if None in inside else layout.laid_out(inside)
+        if tokens[:2] in (("Option", "<"), ("Result", "<")) and tokens[-1] == ">":
+            inside = [self.layout_of_type(run) for run in arguments(tokens)]
+            return None if None in inside else layout.of_enum([[each] for each in inside])
         if tokens[:1] == ("[",) and closing(tokens, 0) == len(tokens) - 1:
             runs = split(tokens[1:-1], ";")
             element = self.layout_of_type(runs[0]) if len(runs) == 2 else None
@@ -182,7 +266,7 @@ class Reader:
             number = NUMBER.match(tokens[0])
             if tokens[0].startswith("b'") or tokens[0] in ("true", "false"):
                 return 1
-            return SIZES[number.group(2)] if number and number.group(2) else None
+            return number and SIZES.get(number.group(2))
         if tokens[:1] == ("[",) and closing(tokens, 0) == len(tokens) - 1:
             return self.size_of_array(tokens[1:-1])
         return None
@@ -192,11 +276,15 @@ class Reader:
         runs = split(tokens, ";")
         if len(runs) == 2:
             element = self.layout_of_type(runs[0])
-            size = element[0] if element else self.size_of_value(runs[0])
-            return (WIDEST if size is None else size) * self.number(runs[1])
+            return (element[0] if element else self.size_of_element(runs[:1])) * self.number(runs[1])
         values = split(tokens, ",")
+        return len(values) * self.size_of_element(values)
+
+    def size_of_element(self, values):
+        """The bytes of each of some values of one type: of those that say it, or at most those of a number, or more."""
         known = [size for size in map(self.size_of_value, values) if size is not None]
-        return len(values) * (max(known) if known else WIDEST)
+        are_numbers = any(len(value) == 1 and NUMBER.match(value[0]) for value in values)
+        return max(known) if known else WIDEST if are_numbers else SLICE[0]
 
     def arrays(self):
         """(text, bytes) of each array in the item."""
@@ -204,10 +292,26 @@ class Reader:
         for place, token in enumerate(tokens):
             if token.startswith('b"'):
                 yield token, len(re.sub(r"\\(x..|.)", "?", token)) - 3
-            elif token == "[" and not follows_value(tokens, place):
+            elif token == "[" and not follows_value(tokens, place) and not is_pattern(tokens, place):
                 inside = tokens[place + 1 : closing(tokens, place)]
                 if len(split(inside, ";")) == 2 or len(split(inside, ",")) > 1:
-                    yield "[" + " ".join(inside[:12]) + "]", self.size_of_array(inside)
+                    yield "[" + " ".join(inside[:12]) + "]", self.size_of_array_at(place, inside)
+
+    def size_of_array_at(self, place, inside):
+        """The bytes of an array at a place, which may say of what type it is: the result, or the bytes of a number."""
+        count, tokens = len(split(inside, ",")), self.item.tokens
+        if tokens[max(place - 2, 0) : place] == ("from_be_bytes", "("):
+            return count
+        result = result_of(self.item) if self.item.kind == "fn" else ()
+        is_last = closing(tokens, place) == len(tokens) - 2
+        if is_last and len(split(inside, ";")) == 1 and result[:1] == ("[",):
+            return self.layout_of_type(result)[0]
+        return self.size_of_array(inside)
+
+
+def is_pattern(tokens, place):
+    """Whether a bracket is a pattern of a `let`, which names elements of an array and makes none."""
+    return tokens[max(place - 1, 0) : place] == ("let",) or tokens[max(place - 2, 0) : place] == ("let", "&")
 
 
 def follows_value(tokens, place):

@@ -31,10 +31,11 @@ ROW = re.compile(r"^\| ([^|]*?) \| (\d[\d,]*) \| (\d+) \|", re.M)
 REFUSED = re.compile(r"^stack: .* payloads, .*: too much stack, or another answer$")
 # Writers that copy: each is an edit of a real source, of which the array has to be found.
 COPYING = [
-    ("a copy of the body", "frame/src/writer.rt", "out[0] = 255;", "let body = [0u8; 1026]; out[0] = 255;"),
-    ("a copy in what it calls", "base/src/slices.rt", "if a <= b {", "let c = [0u64; 3]; if a <= b {"),
+    ("a copy of the body", "frame/src/writer.rt", "out[0] = 0xFF;", "let body = [0u8; 1026]; out[0] = 0xFF;"),
+    ("a copy in what it calls", "base/src/writes.rt", "match self {", "let c = [0u64; 3]; match self {"),
+    ("a copy in a method of a trait", "frame/src/writer.rt", "Some(self.len())", "let c = [0u64; 3]; Some(self.len())"),
     ("a struct with a body", "frame/src/writer.rt", "sum: u8,\n}", "sum: u8, body: [u8; LIMIT + 2],\n}"),
-    ("a reader", "firmware/src/lib.rt", "let written =", "let r = frame::Reader::new(); let written ="),
+    ("a reader", "firmware/src/lib.rt", "let head =", "let r = frame::Reader::new(); let head ="),
 ]
 
 
@@ -63,7 +64,8 @@ def too_long(sources, item):
 
 
 def functions(sources, items):
-    return {found.name for item in items for found in reached(sources, item) if found.kind == "fn"}
+    """The functions that items reach, by their names."""
+    return {found.name: found for item in items for found in reached(sources, item) if found.kind == "fn"}
 
 
 def check_writer(checks):
@@ -86,30 +88,50 @@ def check_writer(checks):
 def check_compiler(checks, crate, folder):
     """The functions that the compiler has are those that the sources have, and none of its arrays is missing there.
 
-    The sources may have larger ones, where they do not say how wide an element is. An array of one element, of at most
-    WIDEST bytes, is not looked for. Returns the compiler's functions.
+    Of the kit's functions the sources may know the word alone, so these are compared by their arrays. The sources may
+    have more functions of traits, where they do not say of which type a value is, and larger arrays, where they do not
+    say how wide an element is. An array of at most WIDEST bytes, as of a number's bytes, is not looked for. Returns the
+    compiler's functions.
     """
     sources, top = sources_of(), folder / "mir" / crate
     if not mir.build(ROOT, crate, top):
         checks.test(f"{crate} is built as a library", False)
-        return {}
+        return []
     exported = sources.exported(crate)
     program = mir.Libraries(top / "crates", KIT).reached(item.name for item in exported)
-    ours, theirs = functions(sources, exported), program.keys()
-    checks.test(f"{crate}: the compiler has the same functions", ours == theirs, str(sorted(ours ^ theirs)))
+    ours = functions(sources, exported)
+    theirs = {written_as(sources, ours, name) for name, _ in program} - {None}
+    lost = {name for name in theirs - ours.keys() if name in ours or sources.is_whole(name.partition("::")[0])}
+    more = {name for name in ours.keys() - theirs if not ours[name].trait}
+    checks.test(f"{crate}: the compiler has the same functions", not lost and not more, f"{lost}, {more}")
     found = {size for item in exported for _, _, size in arrays_of(sources, item)}
-    theirs = {size for function in program.values() for size in mir.arrays_in(function)}
-    lost = sorted(size for size in theirs - found if size > WIDEST)
-    checks.test(f"{crate}: the compiler has no other arrays", not lost, str(lost))
+    arrays = {size for _, function in program for size in mir.arrays_in(function)}
+    wide = sorted(size for size in arrays - found if size > WIDEST)
+    checks.test(f"{crate}: the compiler has no other arrays", not wide, str(wide))
     return program
+
+
+def written_as(sources, ours, name):
+    """The function of the sources that a name of the compiler's means; None for what the compiler makes itself.
+
+    That is what a type derives, and what lets go of a value that needs nothing. A closure is in the function whose text
+    has it.
+    """
+    crate, _, rest = name.partition("::")
+    if rest == "Destruct++none::drop" or name.rpartition("::")[0] in sources.derived_names(crate):
+        return None
+    if "::fn::" in name:
+        plain = name.replace("::fn::", "::")
+        return next((each for each in ours if plain.startswith(each + "::")), name)
+    return name
 
 
 def check_variables(checks, program):
     """No variable of the writer is so wide that it could have a copy of the body, of whatever type it is."""
-    widest = {name: max(mir.variables_in(function), default=0) for name, function in program.items()}
-    wide = {name: size for name, size in widest.items() if size > MAX_VARIABLE}
+    widest = [(max(mir.variables_in(function), default=0), name) for name, function in program]
+    wide = [f"{name}: {size}" for size, name in widest if size > MAX_VARIABLE]
     checks.test(f"the writer has no variable above {MAX_VARIABLE} bytes", widest and not wide, str(wide))
-    checks.say(f"by the compiler the largest variable of the writer has {max(widest.values(), default=0)} bytes")
+    checks.say(f"by the compiler the largest variable of the writer has {max(widest, default=(0,))[0]} bytes")
 
 
 def run(program, *words):

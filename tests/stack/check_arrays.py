@@ -52,7 +52,7 @@ CRATES = {
             }
         }
         pub fn store(a: u8, b: u8) -> u8 {
-            let both = [a, b];
+            let both = [a as u8, b];
             both[0]
         }
         """,
@@ -115,6 +115,95 @@ NAMED = """
         Wide { wide: u64 },
         Empty,
     }
+    #[derive(Clone, Copy, Debug, Default, PartialEq, Eq)]
+    struct Fault(u8);
+    #[derive(Default)]
+    struct Late {
+        late: [u8; 20],
+    }
+    impl From<Kept> for Fault {
+        ghost from_gives = { λ kept fault. fault.0 ≡ kept.first };
+        fn from(kept: Kept) -> Self {
+            let b = [0u8; 21];
+            Self(b[0])
+        }
+    }
+    impl From<Kept> for u8 {
+        fn from(kept: Kept) -> u8 {
+            let b = [0u8; 22];
+            b[0]
+        }
+    }
+    impl TryFrom<u8> for Fault {
+        type Error = u8;
+        fn try_from(n: u8) -> Result<Self, u8> {
+            let b = [0u8; 23];
+            Err(b[0])
+        }
+    }
+    fn tried(n: u8) -> Result<u8, Fault>
+        ensures { result ≡ n }
+    {
+        let found = kept(n)?;
+        Ok(found)
+    }
+    fn tried_within(n: u8) -> Result<u8, Fault> {
+        Ok(n.map(|b| kept(b)?))
+    }
+    fn other<P>(n: Q) -> P {
+        n
+    }
+    fn kept(n: u8) -> Result<(u8, u8), Kept> {
+        n.get(0).ok_or(n)
+    }
+    trait Bytes: Copy {
+        ghost bytes: { Self → List };
+        fn bytes(self) -> Option<usize>
+            ensures { result ≡ [] };
+        fn two(self) -> Option<usize> {
+            let b = [0u8; 25];
+            Some(b[0])
+        }
+    }
+    impl Bytes for &[u8] {
+        fn bytes(self) -> Option<usize> {
+            let b = [0u8; 24];
+            b.get(n).copied()
+        }
+    }
+    fn sized<P: Bytes>(payload: P) -> usize {
+        payload.bytes().unwrap_or(0)
+    }
+    fn seven(n: u8) -> [u8; 17] {
+        let [a, b, c, d, e, f, g] = wide(n);
+        [a, b, c, d, e, f, g, n, n, n, n, n, n, n, n, n, n]
+    }
+    fn of<const N: usize>(n: [u8; N]) -> u8 {
+        n[0]
+    }
+    struct Twice(u8);
+    impl From<u8> for Twice {
+        fn from(n: u8) -> Twice {
+            Twice(n)
+        }
+    }
+    impl From<u16> for Twice {
+        fn from(n: u16) -> Twice {
+            Twice(n)
+        }
+    }
+    trait Own {
+        fn own(self) -> u8;
+    }
+    impl Own for &[u8] {
+        fn own(self) -> u8 {
+            let b: [Self; 1] = self;
+            b[0]
+        }
+    }
+    fn wide(n: u8) -> usize {
+        usize::from(u16::from_be_bytes([a, b, c, d, e, f, g, n, n, n]))
+    }
     """
 INNER, KEPT = ("box", "inner"), ("base", "kept")
 # What is put where, and the bytes of the largest array that is then reached.
@@ -123,8 +212,8 @@ FINDS = [
     ("one whose length is a constant", INNER, "2 * EIGHT", "2 * EIGHT + 1", 17),
     ("one whose elements are wide", INNER, "let k =", "let b: [u32; 5] = x; let k =", 20),
     ("arrays in an array", INNER, "let k =", "let b = [[0u8; 6]; 3]; let k =", 18),
-    ("elements one by one", KEPT, "[a, b]", "[" + ", ".join(["0u8"] * 17) + "]", 17),
-    ("elements of a cast", KEPT, "[a, b]", "[a as u16, b, " + ", ".join("abcdefg") + "]", 18),
+    ("elements one by one", KEPT, "[a as u8, b]", "[" + ", ".join(["0u8"] * 17) + "]", 17),
+    ("elements of a cast", KEPT, "[a as u8, b]", "[a as u16, b, " + ", ".join("abcdefg") + "]", 18),
     ("a byte string", KEPT, "let both", 'let t = b"0123456789abcde\\n\\x00"; let both', 17),
     ("a field of a struct", KEPT, "pub rest: u8", "pub rest: [u8; 1026]", 1026),
     ("a struct in a struct", KEPT, "pub rest: u8", "pub rest: Far } pub struct Far { all: [u8; 50]", 50),
@@ -145,6 +234,33 @@ FINDS = [
     ("what a library of the kit does", INNER, "let k =", "let b = kit::wide(n); let k =", 30),
     ("what a module in a file does", INNER, "let k =", "let b = kit::flat::all(n); let k =", 31),
     ("an array of a type of the kit", INNER, "let k =", "let b: [kit::Kind; 20] = kit::Kind::eq(n); let k =", 20),
+    ("elements of which nothing is known", KEPT, "[a as u8, b]", "[a, b]", 32),
+    ("elements that are numbers", KEPT, "[a as u8, b]", "[1, a, b]", 24),
+    ("an array of options", INNER, "let k =", "let b: [Option<u32>; 3] = x; let k =", 24),
+    ("an array of results", INNER, "let k =", "let b: [Result<(), (u8, u16)>; 3] = x; let k =", 18),
+    ("a value that is the result", INNER, "let k =", "let b = seven(n); let k =", 17),
+    ("what a ? makes", INNER, "let k =", "let b = tried(n); let k =", 21),
+    ("what a type is made from", INNER, "let k =", "let b = Fault::from(n); let k =", 21),
+    ("what a number is made from", INNER, "let k =", "let b = u8::from(n); let k =", 22),
+    ("what a type is tried from", INNER, "let k =", "let b = Fault::try_from(n); let k =", 23),
+    ("what an into makes", INNER, "let k =", "let b = n.into(); let k =", 22),
+    ("what a try_into makes", INNER, "let k =", "let b = n.try_into(); let k =", 23),
+    ("what a trait of ours does", INNER, "let k =", "let b = n.bytes(); let k =", 24),
+    ("what a parameter of types does", INNER, "let k =", "let b = sized(n); let k =", 25),
+    ("a default that is derived", INNER, "let k =", "let b = Late::default(); let k =", 20),
+    ("what a closure does", INNER, "let k =", "let b = n.map(|b| apart(b)); let k =", 8208),
+    ("what a loop does", INNER, "let k =", "for b in n { let c = apart(b); } let k =", 8208),
+    ("what a loop goes over", INNER, "let k =", "for b in [0u8; 18] { } let k =", 18),
+    ("what a matches! looks at", INNER, "let k =", "let b = matches!(apart(n), 0..5); let k =", 8208),
+    ("what is done where a let fails", INNER, "let k =", "let Some(b) = n.get(1) else { apart(n) }; let k =", 8208),
+]
+# What is no array, or one of a number's bytes: with it the largest array is the one that was there.
+PASSED = [
+    ("an equality that is derived", "let b = Fault(n) == Fault(1);"),
+    ("a pattern", "let &[a, b, c, d, e, f, g] = bytes else { return n; };"),
+    ("the bytes of a number", "let [a, b] = n.to_be_bytes();"),
+    ("a number of bytes", "let b = wide(n);"),
+    ("words of std", "let b = Some(n).copied().map_or(Ok(n), |b| Err(b.min(n)));"),
 ]
 LOST = [
     ("a function", INNER, "let k =", "let b = far(n); let k ="),
@@ -162,23 +278,36 @@ LOST = [
     ("the second of two items of one name", INNER, "fn apart()", "type Put = u8; type Put = u8; fn apart()"),
     ("a module of the kit", INNER, "let k =", "let b = kit::strange::all(n); let k ="),
     ("a file of the kit", INNER, "let k =", "let b = kit::never::all(n); let k ="),
+    ("a method of std", INNER, "let k =", "let b = n.to_vec(); let k ="),
+    ("a type of std", INNER, "let k =", "let b: Vec<u8> = n; let k ="),
+    ("a word of a number", INNER, "let k =", "let b = u8::from_str_radix(n); let k ="),
+    ("a default", INNER, "let k =", "let b = Wide::default(); let k ="),
+    ("a function of a trait, by the trait's name", INNER, "let k =", "let b = Bytes::two(n); let k ="),
+    ("a parameter of types", INNER, "let k =", "let b = other(n); let k ="),
+    ("a length that is a parameter", INNER, "let k =", "let b = of(n); let k ="),
+    ("a type that has two functions of a name", INNER, "let k =", "let b = Twice::from(n); let k ="),
+    ("what Self is in an impl for a slice", INNER, "let k =", "let b = n.own(); let k ="),
 ]
 # What calls a function without its name.
 HIDDEN = [
     ("what a macro writes", INNER, "let k =", "let b = far!(n); let k ="),
-    ("what a loop calls", INNER, "let k =", "for b in n { } let k ="),
-    ("what a ? calls", INNER, "k.least()", "k.least()?"),
+    ("what a loop calls", KEPT, "impl Kept", "impl Iterator for Kept { fn next(self) -> u8 { 0 } } impl Kept"),
+    ("what a ? calls where nothing is returned for it", INNER, "k.least()", "k.least()?"),
+    ("what a ? calls in a closure", INNER, "let k =", "let b = tried_within(n); let k ="),
     ("what an operator calls", KEPT, "impl Kept", "impl Add for Kept { fn add(self) -> u8 { 0 } } impl Kept"),
-    ("what a derived operator calls", KEPT, "derive(Clone, Copy)", "derive(Clone, Copy, PartialEq)"),
+    ("what an equality calls", KEPT, "impl Kept", "impl PartialEq for Kept { fn eq(self) -> u8 { 0 } } impl Kept"),
+    ("what the end of a value calls", KEPT, "impl Kept", "impl Drop for Kept { fn drop(self) {} } impl Kept"),
+    ("what a derive makes that is not known", KEPT, "derive(Clone, Copy)", "derive(Clone, Copy, Hash)"),
+    ("what a parameter is called with", INNER, "let k =", "let b = n(1); let k ="),
 ]
 
 
 def edited(module, old, new):
     """The made-up crates with one edit."""
     crates = dict(CRATES)
+    crates[INNER] += NAMED
     assert crates[module].count(old) == 1
     crates[module] = crates[module].replace(old, new)
-    crates[INNER] += NAMED
     return sources_of(crates)
 
 
@@ -210,6 +339,9 @@ def check(checks):
     for what, module, old, new, size in FINDS:
         found = largest(edited(module, old, new))
         checks.test(f"{what} is found", found == size, f"{found} bytes, not {size}")
+    for what, text in PASSED:
+        found = largest(edited(INNER, "let k =", f"{text} let k ="))
+        checks.test(f"{what} is no array above a number's bytes", found == 16, f"{found} bytes")
     for what, *edit in LOST:
         checks.test(f"{what} that is not there is not passed over", is_lost(edited(*edit)))
     for what, *edit in HIDDEN:

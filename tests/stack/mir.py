@@ -3,6 +3,9 @@
 It is a second opinion on arrays.py, which reads the sources: both have to find the same functions and the same arrays
 above a size. `rt lib` keeps the compiler's own representation, MIR, of each library that it builds. Of a static library
 it keeps none, so the crate is built once more as a library, in a folder of its own.
+
+A function with parameters of types is followed once for each types that it is called with: a call names them, and the
+impls that stand for its bounds, so that a call by a trait is the call of one function.
 """
 import json
 import os
@@ -66,7 +69,7 @@ class Libraries:
     """The functions of libraries: of those that are built in a folder, and of the kit's."""
 
     def __init__(self, crates, kit):
-        self.crates, self.kit, self.read = crates, kit, {}
+        self.crates, self.kit, self.read, self.impls = crates, kit, {}, {}
 
     def functions(self, crate):
         """Each function of a library by its name."""
@@ -79,18 +82,64 @@ class Libraries:
             self.read[crate] = dict(json.loads(file.read_text(encoding="utf-8")))
         return self.read[crate]
 
+    def function(self, name):
+        function = self.functions(name.partition("::")[0]).get(name)
+        if function is None:
+            raise Strange(f"there is no MIR of {name}")
+        return function
+
     def reached(self, starts):
-        """Functions and all that they call, by their names."""
-        found, waiting = {}, list(starts)
+        """Functions and all that they call, each with the types that it is called with: (name, function) of each."""
+        found, waiting = {}, [(name, {"types": [], "dicts": []}) for name in starts]
         while waiting:
-            name = waiting.pop()
-            if name not in found:
-                function = self.functions(name.partition("::")[0]).get(name)
-                if function is None:
-                    raise Strange(f"there is no MIR of {name}")
-                found[name] = function
-                waiting.extend(called(name, function))
-        return found
+            name, given = waiting.pop()
+            try:
+                key = name, json.dumps(given, sort_keys=True)
+                if key not in found:
+                    found[key] = made_for(name, self.function(name), given)
+                    self.impls |= {each["name"]: each for each in found[key]["generics"]["impls"]}
+                    waiting.extend(self.resolved(callee) for callee in called(name, found[key]))
+            except RecursionError as error:
+                raise Strange(f"{name} is called with ever wider types") from error
+        declared = declared_in(found.values())
+        return [(name, {**function, "declared": declared}) for (name, _), function in found.items()]
+
+    def resolved(self, callee):
+        """The name of the function that a call means, and what it is given."""
+        if "Fn" in callee:
+            return callee["Fn"]
+        bound, place, given = callee["Method"]
+        if list(bound) != ["Impl"] or bound["Impl"][0] not in self.impls:
+            raise Strange(f"a call by {bound}")
+        (impl, types, dicts), among = bound["Impl"], self.impls[bound["Impl"][0]]
+        name = among["methods"][place]
+        if "Trait" in (self.function(name)["generics"]["method_of"] or ()) or not name.startswith(impl):
+            raise Strange(f"{name} is the method of no impl")
+        return name, {"types": types + given["types"], "dicts": dicts + given["dicts"]}
+
+
+def filled(tree, types, dicts):
+    """A tree with types and impls in the places of parameters."""
+    if isinstance(tree, list):
+        return [filled(each, types, dicts) for each in tree]
+    if not isinstance(tree, dict):
+        return tree
+    if list(tree) == ["Param"] or list(tree) == ["Given"]:
+        (word, place), = tree.items()
+        among = types if word == "Param" else dicts
+        if not isinstance(place, int) or place >= len(among):
+            raise Strange(f"the MIR has a parameter {place}")
+        return among[place]
+    return {key: filled(each, types, dicts) for key, each in tree.items()}
+
+
+def made_for(name, function, given):
+    """A function with what a call gives it in the places of its parameters."""
+    generics = function["generics"]
+    if [len(generics["types"]), len(generics["bounds"])] != [len(given["types"]), len(given["dicts"])]:
+        raise Strange(f"{name} has parameters of types that are not given")
+    parts = {key: filled(function[key], given["types"], given["dicts"]) for key in ("locals", "body")}
+    return {**function, **parts}
 
 
 def nodes(tree):
@@ -115,18 +164,16 @@ def flat(body):
 
 
 def called(name, function):
-    """The functions that one names. One with parameters of types could call another for each type."""
-    if any(function["generics"][key] for key in ("types", "bounds", "impls")):
-        raise Strange(f"{name} has parameters of types")
+    """The functions that one names, and the methods that it calls."""
     for statement in flat(function["body"]):
         known, word = (STATEMENTS, *statement) if isinstance(statement, dict) else (WORDS, statement)
         if word not in known:
             raise Strange(f"{name} has a statement {word}")
     for node in nodes(function["body"]):
-        if "Call" in node and list(node["Call"][0]) != ["Fn"]:
+        if "Call" in node and list(node["Call"][0]) not in (["Fn"], ["Method"]):
             raise Strange(f"{name} calls {node['Call'][0]}")
-        if "Fn" in node:
-            yield node["Fn"][0]
+        if "Fn" in node or "Method" in node:
+            yield node
 
 
 def layout_of(kind, declared):
@@ -142,8 +189,8 @@ def layout_of(kind, declared):
         return layout.of_array(layout_of(inside[0], declared), inside[1]["Lit"])
     if word == "Struct":
         return layout.laid_out([layout_of(field, declared) for field in inside[1]])
-    if word == "Named" and not inside[1] and inside[0]["name"] in declared:
-        return layout_of(declared[inside[0]["name"]], declared)
+    if word == "Named" and inside[0]["name"] in declared:
+        return layout_of(filled(declared[inside[0]["name"]], inside[1], []), declared)
     if word == "Fields":
         return layout.laid_out([layout_of(field, declared) for field in inside])
     if word == "Variants":
@@ -151,18 +198,42 @@ def layout_of(kind, declared):
     raise Strange(f"the MIR has a type {kind}")
 
 
-def declared_in(function):
-    return {each["name"]: each["shape"] for each in function["types"]}
+def declared_in(functions):
+    """Each type that functions declare, by its name. One that is called with a type may not declare it itself."""
+    declared = {}
+    for each in (each for function in functions for each in function["types"]):
+        if declared.setdefault(each["name"], each["shape"]) != each["shape"]:
+            raise Strange(f"the MIR has two types {each['name']}")
+    return declared
 
 
 def arrays_in(function):
     """The bytes of each array type in a function, also in the types that it names."""
-    declared = declared_in(function)
-    return {layout_of(node, declared)[0] for node in nodes([function[key] for key in ("locals", "types", "body")])
-            if "Array" in node}
+    declared = function["declared"]
+    inside = [function["locals"], function["body"], *shapes_in(function, declared)]
+    return {layout_of(node, declared)[0] for node in nodes(inside) if "Array" in node}
+
+
+def shapes_in(function, declared):
+    """The types that a function's variables and body name, each as it is declared, and those that these name."""
+    waiting = [node["Named"] for node in nodes([function["locals"], function["body"]]) if is_named(node)]
+    seen = []
+    while waiting:
+        name, types = waiting.pop()
+        if name["name"] not in declared:
+            raise Strange(f"the MIR has no type {name['name']}")
+        shape = filled(declared[name["name"]], types, [])
+        if shape not in seen:
+            seen.append(shape)
+            waiting.extend(node["Named"] for node in nodes(shape) if is_named(node))
+    return seen
+
+
+def is_named(node):
+    """Whether a node is a declared type, and not a lifetime."""
+    return isinstance(node.get("Named"), list)
 
 
 def variables_in(function):
     """The bytes of each variable of a function, its parameters and its result among them."""
-    declared = declared_in(function)
-    return [layout_of(local["ty"], declared)[0] for local in function["locals"]]
+    return [layout_of(local["ty"], function["declared"])[0] for local in function["locals"]]

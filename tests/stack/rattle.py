@@ -1,8 +1,9 @@
 """Reads sources of Rattle: their tokens, the items that each module declares, and what a name in a module means.
 
 It knows as much of the language as that takes. What it cannot read is an Unreadable, and never passed over: a function
-that is not found could use any amount of stack. So is what calls a function without its name: an `impl` of a trait
-that stands behind an operator or a `?`, and a `for`, which calls an iterator's.
+that is not found could use any amount of stack. So is an `impl` of a trait that stands behind an operator or a `for`,
+which call a function without its name. An `impl` of a trait of ours, of From or of TryFrom is read: its functions are
+called by a name, or by a `?`. What is derived is known: it goes field by field, and makes no array of its own.
 """
 import dataclasses
 import re
@@ -17,8 +18,9 @@ TOKEN = re.compile(
     re.X | re.S,
 )
 PAIRS = {"(": ")", "[": "]", "{": "}"}
-DECLARING = ("fn", "struct", "enum", "const", "type")
-DERIVED = {"Clone", "Copy", "Drop"}  # what a derive makes of these is called by a name, or calls nothing
+DECLARING = ("fn", "struct", "enum", "const", "type", "trait")
+DERIVED = {"Clone", "Copy", "Debug", "Default", "Drop", "Eq", "PartialEq"}  # each goes field by field
+CONVERTING = {"From", "TryFrom"}  # traits of std whose functions are called by a name, or by a `?`
 
 
 class Unreadable(Exception):
@@ -27,13 +29,20 @@ class Unreadable(Exception):
 
 @dataclasses.dataclass(frozen=True)
 class Item:
-    """What a module declares: `path` is its whole name, `home` the path of its module, `tokens` all of its text."""
+    """What a module declares: `path` is its whole name, `home` the path of its module, `tokens` all of its text.
+
+    Of a function in an `impl`, `owner` is the text of the type, and `trait` the name of the trait, if there is one.
+    """
 
     kind: str
     path: tuple
     home: tuple
     tokens: tuple
     is_exported: bool  # for C
+    derived: frozenset = frozenset()  # the traits
+    owner: tuple = ()
+    trait: str = ""
+    parameters: frozenset = frozenset()  # of types, its own and those of its `impl`
 
     @property
     def name(self):
@@ -87,11 +96,13 @@ def end_of_clause(tokens, at):
 
 
 def without_contract(tokens):
-    """The tokens of a function without what it requires and ensures, which is not code."""
+    """The tokens of an item without what it requires and ensures, and without a trait's ghosts: these are no code."""
     kept, place = [], 0
     while place < len(tokens):
         if tokens[place] in ("requires", "ensures"):
             place = end_of_clause(tokens, place)
+        elif tokens[place] == "ghost" and tokens[0] == "trait":
+            place = end_of_item(tokens, place, "const")
         else:
             kept.append(tokens[place])
             place += 1
@@ -109,6 +120,32 @@ def end_of_item(tokens, at, kind):
         else:
             place = closing(tokens, place) + 1 if tokens[place] in PAIRS else place + 1
     return place + 1
+
+
+def type_parameters(tokens):
+    """The names of the parameters between the < at the front of tokens and its >, and the place after this one."""
+    if tokens[:1] != ("<",):
+        return frozenset(), 0
+    depth, place = 0, 0
+    while place == 0 or depth:
+        depth += (tokens[place] == "<") - (tokens[place] == ">") - 2 * (tokens[place] == ">>")
+        place += 1
+    opened = [each for each in range(place) if tokens[each] in ("<", ",")]
+    return frozenset(tokens[each + 1] for each in opened if tokens[each + 1][0].isupper()), place
+
+
+def spelled(tokens):
+    """The compiler's name of a type or a trait, as it stands in the name of an `impl`: `&[u8]` is RefSliceU8."""
+    if tokens[:1] == ("&",):
+        return "Ref" + spelled(tokens[1:])
+    if tokens[:1] == ("[",) and closing(tokens, 0) == len(tokens) - 1 and len(split(tokens[1:-1], ";")) == 1:
+        return "Slice" + spelled(tokens[1:-1])
+    if "<" in tokens and tokens[-1] == ">":
+        at = tokens.index("<")
+        return spelled(tokens[:at]) + "".join(map(spelled, split(tokens[at + 1 : -1], ",")))
+    if len(tokens) == 1 and tokens[0][0].isalpha():
+        return tokens[0][0].upper() + tokens[0][1:]
+    raise Unreadable(f"an impl names {' '.join(tokens)}")
 
 
 def imports_in(tokens):
@@ -154,12 +191,12 @@ class Sources:
     def declare(self, path, tokens, found):
         """Enters what tokens declare at their top."""
         items, imports, inner = found
-        place, is_exported = 0, False
+        place, is_exported, derived = 0, False, frozenset()
         while place < len(tokens):
             if tokens[place] == "#":
                 opening = place + 1 + (tokens[place + 1] == "!")
                 end = closing(tokens, opening) + 1
-                self.look_at_derives(path, tokens[opening + 1 : end - 1])
+                derived |= self.derived_by(path, tokens[opening + 1 : end - 1])
                 is_exported, place = is_exported or "no_mangle" in tokens[place:end], end
             elif tokens[place] == "(":  # after `pub`
                 place = closing(tokens, place) + 1
@@ -185,28 +222,53 @@ class Sources:
                 # arrays.is_local goes by the capital
                 if name in items or kind != "fn" and not name[0].isupper():
                     raise Unreadable(f"{'::'.join(path)}: {kind} {name}")
-                items[name] = Item(kind, (*path, name), path, without_contract(tokens[place:end]), is_exported)
-                place, is_exported = end, False
+                text, inside = without_contract(tokens[place:end]), type_parameters(tokens[place + 2 : end])[0]
+                items[name] = Item(kind, (*path, name), path, text, is_exported, derived, parameters=inside)
+                place, is_exported, derived = end, False, frozenset()
             else:
                 raise Unreadable(f"{'::'.join(path)}: {' '.join(tokens[place:place + 6])}")
 
     def declare_methods(self, path, tokens, at):
-        """Enters the functions of an `impl`, each under its own name, and returns the place after it."""
+        """Enters the functions of an `impl`, each under its own name, and returns the place after it.
+
+        The compiler's name of an `impl` of a trait is that of the type and the trait: ModeTryFromU8.
+        """
         opening = tokens.index("{", at)
-        end, found, head = closing(tokens, opening), ({}, {}, set()), tokens[at + 1 : opening]
-        if "for" in head and self.is_whole(path[0]):
-            raise Unreadable(f"{'::'.join(path)}: impl {' '.join(head)}")
-        head = head[head.index("for") + 1 :] if "for" in head else head
-        owner = head[head.index(">") + 1 if head[0] == "<" else 0]
-        self.declare((*path, owner), tokens[opening + 1 : end], found)
-        for name, item in found[0].items():
-            self.methods.setdefault(name, {})[item.path] = dataclasses.replace(item, home=path)
+        end, found = closing(tokens, opening), ({}, {}, set())
+        parameters, start = type_parameters(tokens[at + 1 : opening])
+        head = tokens[at + 1 + start : opening]
+        trait, owner = (head[: head.index("for")], head[head.index("for") + 1 :]) if "for" in head else ((), head)
+        if trait and self.is_whole(path[0]):
+            if trait[0] not in CONVERTING and not self.is_own_trait(path, trait):
+                raise Unreadable(f"{'::'.join(path)}: impl {' '.join(head)}")
+            name = spelled(owner) + spelled(trait)
+        else:
+            name = owner[0]
+        self.declare((*path, name), tokens[opening + 1 : end], found)
+        for function, item in found[0].items():
+            inside = item.parameters | parameters
+            item = dataclasses.replace(item, home=path, owner=owner, trait=(*trait, "")[0], parameters=inside)
+            self.methods.setdefault(function, {})[item.path] = item
         return end + 1
 
-    def look_at_derives(self, path, attribute):
-        """What is derived in a crate that is read whole may not be called without a name."""
-        if attribute[0] == "derive" and self.is_whole(path[0]) and not set(attribute[2:-1]) <= DERIVED | {","}:
+    def is_own_trait(self, path, trait):
+        """Whether a trait is one that a crate of those that are read whole declares."""
+        found = self.resolve(path, trait[:1]) if len(trait) == 1 else None
+        return isinstance(found, Item) and found.kind == "trait" and self.is_whole(found.path[0])
+
+    def derived_by(self, path, attribute):
+        """The traits that an attribute derives. In a crate that is read whole each has to be one that is known."""
+        if attribute[:1] != ("derive",):
+            return frozenset()
+        found = frozenset(attribute[2:-1]) - {","}
+        if self.is_whole(path[0]) and not found <= DERIVED:
             raise Unreadable(f"{'::'.join(path)}: {' '.join(attribute)}")
+        return found
+
+    def derived_names(self, crate):
+        """The compiler's names of what is derived in a crate, without the function's own name."""
+        inside = [items for path, (items, _, _) in self.modules.items() if path[0] == crate]
+        return {f"{item.name}{trait}" for items in inside for item in items.values() for trait in item.derived}
 
     def exported(self, crate):
         """The functions that a crate exports for C."""
@@ -247,10 +309,22 @@ class Sources:
         return found
 
     def member(self, item, rest):
-        """What stands after a type in a path: a function or constant of its own, or a variant, which is the type."""
+        """What stands after a type in a path: a function or constant of its own, or a variant, which is the type.
+
+        So is `default`, where it is derived.
+        """
         if len(rest) == 1:
-            method = self.methods.get(rest[0], {}).get((*item.path, rest[0]))
-            if method or item.kind == "enum" and rest[0][0].isupper() and rest[0] in item.tokens:
+            method = self.methods.get(rest[0], {}).get((*item.path, rest[0])) or self.of_trait(item, rest[0])
+            is_variant = item.kind == "enum" and rest[0][0].isupper() and rest[0] in item.tokens
+            if method or is_variant or rest[0] == "default" and "Default" in item.derived:
                 return method or item
         raise Unreadable(f"{item.name} has no {'::'.join(rest)}")
+
+    def of_trait(self, item, name):
+        """The function of this name in an `impl` of a trait for a type; None where there is none."""
+        found = [method for method in self.methods.get(name, {}).values()
+                 if method.trait and len(method.owner) == 1 and self.declared(method.home, method.owner[0]) == item]
+        if len(found) > 1:
+            raise Unreadable(f"{item.name} has several {name}")
+        return found[0] if found else None
 
