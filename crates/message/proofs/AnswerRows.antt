@@ -23,8 +23,10 @@ use Rattle.message.specs.declared.counter.Mode.TheVariants as mode
 use Rattle.message.specs.declared.counter.Status.{Status}
 use Rattle.message.specs.declared.kind.Cause.{Cause}
 use Rattle.message.specs.declared.kind.Cause.TheVariants as cause
-use Rattle.message.specs.declared.reader.ReadResult.{ReadResult}
-use Rattle.message.specs.declared.reader.ReadResult.TheVariants as reading
+use Rattle.message.specs.declared.parts.Parts.{Parts}
+use Rattle.message.specs.declared.reader.Reading.{Reading}
+use Rattle.message.specs.declared.reader.ReadError.{ReadError}
+use Rattle.message.specs.declared.reader.ReadError.TheVariants as refused
 use Rattle.message.specs.declared.replies.ReplyResult.{ReplyResult}
 use Rattle.message.specs.declared.replies.ReplyResult.TheVariants as reply
 use Rattle.message.specs.declared.values.Code.{Code}
@@ -35,8 +37,7 @@ use Rattle.message.specs.declared.values.Message.{Message}
 use Rattle.message.specs.declared.values.Message.TheVariants as message
 use Rattle.message.specs.declared.values.Network.{Network}
 use Rattle.message.specs.declared.values.Time.{Time}
-use Rattle.message.specs.declared.values.Unix.{Unix}
-use Rattle.message.specs.declared.values.Unix.TheVariants as unix
+use Rattle.std.specs.Prelude.{Option, None, Some, Result, Ok, Err}
 use Rattle.message.specs.declared.values.Way.{Way}
 use Rattle.message.specs.declared.values.Way.TheVariants as way
 use Rattle.message.specs.declared.writer.SendResult.{SendResult}
@@ -87,13 +88,13 @@ flag_back : (b : Bool) → eqb (num b) 1 ≡ b
 flag_back true = refl
 flag_back false = refl
 
-abbrev unix_from : List ℕ → Unix
-unix_from [] = unix.Absent
-unix_from (seconds ∷ l) = unix.Seconds seconds
+abbrev unix_from : List ℕ → Option ℕ
+unix_from [] = None
+unix_from (seconds ∷ l) = Some seconds
 
-unix_back : (u : Unix) → unix_from (unix_in u) ≡ u
-unix_back unix.Absent = refl
-unix_back (unix.Seconds seconds) = refl
+unix_back : (u : Option ℕ) → unix_from (unix_in u) ≡ u
+unix_back None = refl
+unix_back (Some seconds) = refl
 
 abbrev value : List ℕ → ℕ → ℕ
 value l i = get_or l i 0
@@ -206,17 +207,20 @@ message_back (message.Piece index total) = refl
 
 -- ---- the answers
 
-abbrev reading_from : Read → ReadResult
-reading_from r =
-    under r.row.number 0 (reading.Got (message_from r.row.values) r.parts)
-    (under r.row.number 31 reading.Command
-    (under r.row.number 32 reading.Size reading.Field))
+abbrev read_as : Message → Parts → Result Reading ReadError
+read_as m parts = Ok (record { message = m; parts = parts })
 
-reading_back : (a : ReadResult) → reading_from (reading_of a) ≡ a
-reading_back (reading.Got m parts) = ap (λ (m : Message). reading.Got m parts) (message_back m)
-reading_back reading.Command = refl
-reading_back reading.Size = refl
-reading_back reading.Field = refl
+abbrev reading_from : Read → Result Reading ReadError
+reading_from r =
+    under r.row.number 0 (read_as (message_from r.row.values) r.parts)
+    (under r.row.number 31 (Err refused.Command)
+    (under r.row.number 32 (Err refused.Size) (Err refused.Field)))
+
+reading_back : (a : Result Reading ReadError) → reading_from (reading_of a) ≡ a
+reading_back (Ok r) = ap (λ (m : Message). read_as m r.parts) (message_back r.message)
+reading_back (Err refused.Command) = refl
+reading_back (Err refused.Size) = refl
+reading_back (Err refused.Field) = refl
 
 abbrev sent_from : Row → SendResult
 sent_from r =

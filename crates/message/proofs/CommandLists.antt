@@ -7,7 +7,7 @@ use lib.Dec.{eqb}
 use Rattle.base.proofs.Keys.{agree}
 use Rattle.base.proofs.Tests.{by_test, either_way, cond_same}
 use Rattle.base.specs.Keys.{among}
-use Rattle.message.specs.Commands.{TableEntry, table, unlisted, profile_in, profile_of, kind_of, from_box, owed_of}
+use Rattle.message.specs.Commands.{TableEntry, is_box, table, unlisted, profile_in, profile_of, kind_of, from_box, owed_of}
 use Rattle.message.specs.Layouts.{is_listed}
 use Rattle.message.specs.Owed.{handed}
 use Rattle.message.specs.CommandLists.{BoxListed, box_commands, handed_commands, empty_commands, other_commands}
@@ -100,7 +100,7 @@ command_lists =
       sizes = refl;
       box = refl;
       from_box_is = every from_box (λ c. among c box_commands) refl
-          (λ c none h. ap (λ (l : Profile). l.outward) none ∙ sym (none_of box_commands refl c h));
+          (λ c none h. ap (λ (l : Profile). is_box l.sender) none ∙ sym (none_of box_commands refl c h));
       listed =
           every (λ c. is_listed (kind_of c)) (λ c. among c empty_commands || among c other_commands) refl
           (λ c none h.

@@ -29,12 +29,6 @@ use Rattle.message.proofs.Tests.{and_false}
 
 -- ---- status
 
--- an allowed one has a mode that there is
-pub status_mode : (s : List ℕ) → status_allowed s ≡ true → bits 2 2 (get_or s 0 0) < 3
-status_mode s h =
-    either_way (ltb (bits 2 2 (get_or s 0 0)) 3) (ltb-true (bits 2 2 (get_or s 0 0)) 3)
-    (λ f. absurd (true≢false (sym (simp (f, and_false) at h))))
-
 module _ (s : Status) where
   abbrev flags : List Bool
   flags = s.feeding ∷ s.lamp ∷ s.double ∷ s.skipped ∷ s.fault ∷ []
@@ -50,18 +44,6 @@ module _ (s : Status) where
       simp lt-ltb
 
 -- ---- control
-
--- an allowed one has a mode that there is, where it is to be set
-pub control_mode : (c : List ℕ) → control_allowed c ≡ true → bit 1 (get_or c 0 0) * bits 1 2 (get_or c 1 0) < 3
-control_mode c h =
-    either_way (cond (eqb (bit 1 (get_or c 0 0)) 0) true (ltb (bits 1 2 (get_or c 1 0)) 3))
-    (set (bit 1 (get_or c 0 0)) (bits 1 2 (get_or c 1 0)) (omega arith))
-    (λ f. absurd (true≢false (sym (simp (f, and_false) at h))))
-  where
-    set : (flag mode : ℕ) → flag < 2 → cond (eqb flag 0) true (ltb mode 3) ≡ true → flag * mode < 3
-    set zero mode l e = omega arith
-    set (suc zero) mode l e = omega (arith, ltb-true mode 3 e)
-    set (suc (suc flag)) mode l e = absurd (omega arith)
 
 -- a flag counts once
 once : (f : Bool) (n : ℕ) → num f * (num f * n) ≡ num f * n

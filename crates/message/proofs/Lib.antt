@@ -5,7 +5,7 @@ pub mod Tests
 pub mod Numbers
 pub mod Spelt
 pub mod Fields
-pub mod Reading
+pub mod Decoding
 pub mod Accepted
 pub mod Information
 pub mod ReadAgain

@@ -34,14 +34,6 @@ small [] = tt
 small (true ∷ l) = (omega arith, small l)
 small (false ∷ l) = (omega arith, small l)
 
--- the lowest bit of a number
-pub lowest : (x : ℕ) → num (eqb (x % 2) 1) ≡ x % 2
-lowest x = go (eqb (x % 2) 1) refl
-  where
-    go : (b : Bool) → eqb (x % 2) 1 ≡ b → num b ≡ x % 2
-    go true e = omega (arith, eqb-true)
-    go false e = omega (arith, eqb-false)
-
 -- ---- modes
 
 -- a mode's number is at most 2

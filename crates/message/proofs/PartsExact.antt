@@ -18,7 +18,7 @@ use Rattle.message.specs.declared.kind.Kind.{Kind}
 use Rattle.message.specs.declared.kind.Kind.TheVariants as kind
 use Rattle.message.specs.declared.kind.Profile.{Profile}
 use Rattle.message.proofs.CommandLists.{every, unless}
-use Rattle.message.proofs.Reading.{size_fits_lem, fits_any, fits_exactly}
+use Rattle.message.proofs.Decoding.{size_fits_lem, fits_any, fits_exactly}
 use Rattle.message.proofs.ReadingExact.{announced, ready_sized, piece_sized}
 
 abbrev None : Read → Type 0

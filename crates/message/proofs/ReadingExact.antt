@@ -26,8 +26,8 @@ use Rattle.message.specs.declared.kind.Kind.{Kind}
 use Rattle.message.specs.declared.kind.Kind.TheVariants as kind
 use Rattle.message.proofs.CommandLists.{command_lists}
 use Rattle.message.proofs.Tests.{and_false}
-use Rattle.message.proofs.Reading.{size_fits_lem, fits_any, fits_some, fits_from, fits_exactly, sized_one}
-use Rattle.message.proofs.Reading.{sized_counted, whole}
+use Rattle.message.proofs.Decoding.{size_fits_lem, fits_any, fits_some, fits_from, fits_exactly, sized_one}
+use Rattle.message.proofs.Decoding.{sized_counted, whole}
 
 -- ---- the row of a listed command, by its tests
 

@@ -26,8 +26,7 @@ use Rattle.message.specs.declared.counter.Control.{Control}
 use Rattle.message.specs.declared.values.Extra.TheVariants as extra
 use Rattle.message.specs.declared.values.Network.{Network}
 use Rattle.message.specs.declared.values.Time.{Time}
-use Rattle.message.specs.declared.values.Unix.{Unix}
-use Rattle.message.specs.declared.values.Unix.TheVariants as unix
+use Rattle.std.specs.Prelude.{Option, None, Some}
 use Rattle.message.specs.declared.values.Message.{Message}
 use Rattle.message.specs.declared.values.Message.TheVariants as message
 use Rattle.message.proofs.Numbers.{value}
@@ -132,15 +131,15 @@ module _ (p : List ℕ) (bytes : (i : ℕ) → get_or p i 0 < 256) where
 
   -- ---- the time
 
-  time_same : (time : Time) (u : Unix) → among (length p) (7 ∷ 11 ∷ []) ≡ true
+  time_same : (time : Time) (u : Option ℕ) → among (length p) (7 ∷ 11 ∷ []) ≡ true
       → time_values p (cond (eqb (length p) 7) [] (four_at p 7 ∷ []))
       ≡ time.year ∷ time.month ∷ time.day ∷ time.hour ∷ time.minute ∷ time.second ∷ unix_in u
       → time_bytes time (unix_bytes u) ≡ p
-  time_same time unix.Absent h e =
+  time_same time None h e =
       let size : length p ≡ 7 = eqb-true _ _ (unfilled (eqb (length p) 7) _ (ap (drop 6) e)) in
       whole 7 p (time_bytes time []) size
       (omega (arith, value 0 e, value 1 e, value 2 e, value 3 e, value 4 e, value 5 e, bytes 1))
-  time_same time (unix.Seconds seconds) h e =
+  time_same time (Some seconds) h e =
       let long : eqb (length p) 7 ≡ false = filled (eqb (length p) 7) _ (ap (drop 6) e) in
       let size : length p ≡ 11 = among_holds (λ n. eqb n 7 ≡ false → n ≡ 11) (length p) (7 ∷ 11 ∷ [])
       ((λ q. absurd (true≢false q)), ((λ q. refl), tt)) h long in

@@ -21,8 +21,7 @@ use Rattle.message.specs.WrittenRead.{Writable, opaque_parts, WrittenRead}
 use Rattle.message.specs.declared.kind.Kind.{Kind}
 use Rattle.message.specs.declared.kind.Kind.TheVariants as kind
 use Rattle.message.specs.declared.parts.Parts.{Parts}
-use Rattle.message.specs.declared.values.Unix.{Unix}
-use Rattle.message.specs.declared.values.Unix.TheVariants as unix
+use Rattle.std.specs.Prelude.{Option, None, Some}
 use Rattle.message.specs.declared.values.Message.{Message}
 use Rattle.message.specs.declared.values.Message.TheVariants as message
 use Rattle.base.proofs.Lists.{no_bytes, all_same}
@@ -109,10 +108,10 @@ back (message.ModuleReject code) opaque w = plain refl refl refl (code_allowed_l
 back (message.BoxReject code) opaque w = plain refl refl refl (code_allowed_lem code) refl
 back (message.Time time) opaque w = time_back time.unix
   where
-    time_back : (u : Unix) → Back kind.Time 0x18 (time_bytes time (unix_bytes u))
+    time_back : (u : Option ℕ) → Back kind.Time 0x18 (time_bytes time (unix_bytes u))
         (0x18 ∷ time.year ∷ time.month ∷ time.day ∷ time.hour ∷ time.minute ∷ time.second ∷ unix_in u) opaque
-    time_back unix.Absent = plain refl refl refl refl (all_same _ _ (omega arith))
-    time_back (unix.Seconds seconds) = plain refl refl refl refl (all_same _ _ (omega arith))
+    time_back None = plain refl refl refl refl (all_same _ _ (omega arith))
+    time_back (Some seconds) = plain refl refl refl refl (all_same _ _ (omega arith))
 back (message.Announcement size) opaque w =
     plain refl (counted_size (payload_in (message.Announcement size) opaque) 4 0 (omega arith))
     (ap (λ (l : List ℕ). alone l []) (rw (two_back (length opaque)) (take-length opaque))) refl

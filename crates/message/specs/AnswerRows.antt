@@ -1,5 +1,5 @@
 -- Claims: rows of answers: each name has its number and values, and a row fixes its answer. PROTOCOL 12.2, 12.4.
-use Rattle.std.specs.Prelude.{ℕ, ◌≡◌, List, [], ◌∷◌, map}
+use Rattle.std.specs.Prelude.{ℕ, ◌≡◌, List, [], ◌∷◌, map, Result, Ok, Err}
 use Rattle.base.specs.Rows.{row}
 use Rattle.base.specs.Outcomes.{Output, output}
 use Rattle.base.specs.declared.writes.Unwritten.TheVariants as unwritten
@@ -14,8 +14,9 @@ use Rattle.message.specs.declared.counter.Mode.TheVariants as mode
 use Rattle.message.specs.declared.kind.Cause.{Cause}
 use Rattle.message.specs.declared.kind.Cause.TheVariants as cause
 use Rattle.message.specs.declared.parts.Parts.{Parts}
-use Rattle.message.specs.declared.reader.ReadResult.{ReadResult}
-use Rattle.message.specs.declared.reader.ReadResult.TheVariants as reading
+use Rattle.message.specs.declared.reader.Reading.{Reading}
+use Rattle.message.specs.declared.reader.ReadError.{ReadError}
+use Rattle.message.specs.declared.reader.ReadError.TheVariants as refused
 use Rattle.message.specs.declared.replies.ReplyResult.{ReplyResult}
 use Rattle.message.specs.declared.replies.ReplyResult.TheVariants as reply
 use Rattle.message.specs.declared.values.Code.{Code}
@@ -29,7 +30,7 @@ use Rattle.message.specs.declared.writer.SendResult.TheVariants as sent
 -- the answer
 pub record RowsInjective : Type 0 where
   pub messages : (a b : Message) → message_in a ≡ message_in b → a ≡ b
-  pub readings : (a b : ReadResult) → reading_of a ≡ reading_of b → a ≡ b
+  pub readings : (a b : Result Reading ReadError) → reading_of a ≡ reading_of b → a ≡ b
   pub sendings : (a b : SendResult) → send_row_of a ≡ send_row_of b → a ≡ b
   pub replies : (a b : ReplyResult) → reply_row_of a ≡ reply_row_of b → a ≡ b
 
@@ -37,10 +38,11 @@ pub record RowsInjective : Type 0 where
 -- itself; `read` gives what the claims on reading and on parts are about
 pub record ContractsComplete : Type 0 where
   pub read :
-      (r : ReadResult) (command : ℕ) (p : List ℕ) → reading_of r ≡ decode_of command p
+      (r : Result Reading ReadError) (command : ℕ) (p : List ℕ) → reading_of r ≡ decode_of command p
       → ((reading_of r).row ≡ read_of command p) × ((reading_of r).parts ≡ parts_of command p)
   pub got_read :
-      (m : Message) (parts : Parts) (command : ℕ) (p : List ℕ) → reading_of (reading.Got m parts) ≡ decode_of command p
+      (m : Message) (parts : Parts) (command : ℕ) (p : List ℕ)
+      → reading_of (Ok (record { message = m; parts = parts })) ≡ decode_of command p
       → (read_of command p ≡ row 0 (message_in m)) × (parts_of command p ≡ parts)
   pub written :
       (r : SendResult) (after : List ℕ) (w : Output)
@@ -70,9 +72,9 @@ codes = code.Sum ∷ code.Command ∷ code.Other ∷ code.FileType ∷ []
 
 -- for every count, received sequence number and place
 pub record WorkedNames : Type 0 where
-  pub got_as : (m : Message) (parts : Parts) → reading_of (reading.Got m parts) ≡ got (message_in m) parts
+  pub got_as : (m : Message) (parts : Parts) → reading_of (Ok (record { message = m; parts = parts })) ≡ got (message_in m) parts
   pub readings :
-      map reading_of (reading.Command ∷ reading.Size ∷ reading.Field ∷ [])
+      map reading_of (Err refused.Command ∷ Err refused.Size ∷ Err refused.Field ∷ [])
       ≡ map (λ n. record { row = row n []; parts = no_parts }) (31 ∷ 32 ∷ 33 ∷ [])
   pub sendings :
       (n : ℕ)

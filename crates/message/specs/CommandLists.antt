@@ -1,7 +1,7 @@
 -- Claims: the table of commands against lists in literal numbers. PROTOCOL 7.1 to 7.3, 8.2 to 8.4, 8.9, 8.10.
 use Rattle.std.specs.Prelude.{ℕ, ◌+◌, ◌≡◌, true, false, cond, ◌||◌, List, [], ◌∷◌, map}
 use Rattle.base.specs.Keys.{among}
-use Rattle.message.specs.Commands.{TableEntry, table, kind_of, from_box, owed_of}
+use Rattle.message.specs.Commands.{TableEntry, is_box, table, kind_of, from_box, owed_of}
 use Rattle.message.specs.Layouts.{is_listed, sizes_of}
 use Rattle.message.specs.Owed.{owed_for, handed}
 use Rattle.message.specs.declared.kind.Kind.TheVariants as kind
@@ -16,7 +16,7 @@ BoxListed = (command : ℕ) → from_box command ≡ true → is_listed (kind_of
 -- the commands of some lines that only the box sends
 abbrev pub sent_by_box : List TableEntry → List ℕ
 sent_by_box [] = []
-sent_by_box (e ∷ es) = cond e.profile.outward (e.command ∷ sent_by_box es) (sent_by_box es)
+sent_by_box (e ∷ es) = cond (is_box e.profile.sender) (e.command ∷ sent_by_box es) (sent_by_box es)
 
 -- the commands that only the box sends: PROTOCOL 7.3
 abbrev pub box_commands : List ℕ

@@ -8,6 +8,8 @@ use Rattle.message.specs.declared.kind.Owed.{Owed}
 use Rattle.message.specs.declared.kind.Owed.TheVariants.{Nothing, AskInformation, Acknowledge}
 use Rattle.message.specs.declared.kind.Owed.TheVariants.{AskBegin, AskStore, AskStop}
 use Rattle.message.specs.declared.kind.Profile.{Profile}
+use Rattle.message.specs.declared.kind.Sender.{Sender}
+use Rattle.message.specs.declared.kind.Sender.TheVariants as sender
 
 -- ---- the columns
 
@@ -25,17 +27,22 @@ abbrev pub nothing : Sizes
 nothing = exactly (0 ∷ [])
 
 -- only the box sends the command; the box is a term of ours, for the device's microcontroller
-abbrev pub by_box : Bool
-by_box = true
+abbrev pub by_box : Sender
+by_box = sender.Box
 
 -- the module sends the command
-abbrev pub to_box : Bool
-to_box = false
+abbrev pub to_box : Sender
+to_box = sender.Module
 
--- the profile of a command, a term of ours: the kind of its payload, whether only the box sends it, and the reply that
+-- whether a sender is the box
+abbrev pub is_box : Sender → Bool
+is_box sender.Module = false
+is_box sender.Box = true
+
+-- the profile of a command, a term of ours: the kind of its payload, who sends it, and the reply that
 -- is owed to it where it has no fault; 19, 1D and 1F are owed theirs with a fault too (`owed_after`)
-abbrev pub profile_with : Kind → Bool → Owed → Profile
-profile_with kind outward owed = record { kind = kind; outward = outward; owed = owed }
+abbrev pub profile_with : Kind → Sender → Owed → Profile
+profile_with kind sender owed = record { kind = kind; sender = sender; owed = owed }
 
 -- a line of the table: a command, the sizes of its payload, and its profile
 pub record TableEntry : Type 0 where
@@ -44,9 +51,9 @@ pub record TableEntry : Type 0 where
   pub profile : Profile
 
 -- a line from its columns
-abbrev pub entry : ℕ → Sizes → Kind → Bool → Owed → TableEntry
-entry command sizes kind outward owed =
-    record { command = command; sizes = sizes; profile = profile_with kind outward owed }
+abbrev pub entry : ℕ → Sizes → Kind → Sender → Owed → TableEntry
+entry command sizes kind sender owed =
+    record { command = command; sizes = sizes; profile = profile_with kind sender owed }
 
 -- ---- the table
 
@@ -113,7 +120,7 @@ kind_of c = (profile_of c).kind
 
 -- whether only the box sends a command: PROTOCOL 7.3
 abbrev pub from_box : ℕ → Bool
-from_box c = (profile_of c).outward
+from_box c = is_box (profile_of c).sender
 
 -- the reply that is owed to a command without fault
 abbrev pub owed_of : ℕ → Owed

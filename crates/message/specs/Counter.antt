@@ -1,11 +1,13 @@
 -- Statement: the counter's own layout, to the bit: status in 8 bytes and control in 4. PROTOCOL 7.17 to 7.20.
-use Rattle.std.specs.Prelude.{ℕ, ◌+◌, ◌*◌, ◌^◌, Bool, true, cond, ◌&&◌, List, [], ◌∷◌, get_or, eqb, ltb}
+use Rattle.std.specs.Prelude.{ℕ, ◌+◌, ◌*◌, ◌^◌, ◌<◌, ◌≡◌, Bool, true, cond, ◌&&◌, List, [], ◌∷◌, get_or, eqb, ltb}
+use Rattle.std.specs.Prelude.{Result, MatchResult}
 use Rattle.base.specs.Numbers.{two, four, four_at, two_at}
 use Rattle.message.specs.Numbers.{num, bits, bit}
 use Rattle.message.specs.declared.counter.Control.{Control}
 use Rattle.message.specs.declared.counter.Mode.{Mode}
 use Rattle.message.specs.declared.counter.Mode.TheVariants as mode
 use Rattle.message.specs.declared.counter.Status.{Status}
+use Rattle.message.specs.declared.values.UnknownNumber.{UnknownNumber}
 
 -- Counter, status, control, leaf and volume are terms of ours: PROTOCOL 7.17 to 7.20. A status `s` and a control `c`,
 -- each without the payload's first byte:
@@ -49,6 +51,10 @@ abbrev pub mode_number : Mode → ℕ
 mode_number mode.Fold = 0
 mode_number mode.Gather = 1
 mode_number mode.Sew = 2
+
+-- the mode with a number, or that number, where it stands for none
+abbrev pub NamesMode : ℕ → Result Mode UnknownNumber → Type 0
+NamesMode n r = MatchResult r (λ m. (mode_number m ≡ n) × (n < 3)) (λ e. (e.0 ≡ n) × (2 < n))
 
 -- the values of a status, in the order of `status_values`
 abbrev pub status_in : Status → List ℕ

@@ -1,7 +1,7 @@
 -- Statement: the layout of each kind of payload: sizes, allowed values, fields and parts. PROTOCOL 7.4 to 7.17, 7.21.
 -- It uses base's `among` of the model, held by looked_up.
 use Rattle.std.specs.Prelude.{ℕ, ◌+◌, ◌-◌, Bool, true, false, cond, ◌&&◌, ◌||◌, List, [], ◌∷◌, length, get_or, drop}
-use Rattle.std.specs.Prelude.{eqb, leb}
+use Rattle.std.specs.Prelude.{◌≡◌, eqb, leb, Result, MatchResult}
 use Rattle.base.specs.Keys.{among}
 use Rattle.base.specs.Numbers.{four_at, two_at}
 use Rattle.message.specs.Numbers.{bits, bit, eight_at}
@@ -17,6 +17,7 @@ use Rattle.message.specs.declared.values.Code.{Code}
 use Rattle.message.specs.declared.values.Code.TheVariants as code
 use Rattle.message.specs.declared.values.Way.{Way}
 use Rattle.message.specs.declared.values.Way.TheVariants as way
+use Rattle.message.specs.declared.values.UnknownNumber.{UnknownNumber}
 
 -- ---- bytes that stand for a name
 
@@ -29,6 +30,10 @@ abbrev pub way_number : Way → ℕ
 way_number way.SoftAp = 1
 way_number way.AirLink = 2
 
+-- the way with a number, or that number, where it stands for none
+abbrev pub NamesWay : ℕ → Result Way UnknownNumber → Type 0
+NamesWay n r = MatchResult r (λ w. (way_number w ≡ n) × (way_allowed n ≡ true)) (λ e. (e.0 ≡ n) × (way_allowed n ≡ false))
+
 -- 11 and 12: PROTOCOL 7.13
 abbrev pub code_allowed : ℕ → Bool
 code_allowed code = leb 1 code && leb code 4
@@ -39,6 +44,11 @@ code_number code.Sum = 1
 code_number code.Command = 2
 code_number code.Other = 3
 code_number code.FileType = 4
+
+-- the error code with a number, or that number, where it stands for none
+abbrev pub NamesCode : ℕ → Result Code UnknownNumber → Type 0
+NamesCode n r =
+    MatchResult r (λ c. (code_number c ≡ n) × (code_allowed n ≡ true)) (λ e. (e.0 ≡ n) × (code_allowed n ≡ false))
 
 -- ---- 03, 04 and 05: the payload's first byte chooses the layout, PROTOCOL 7.17
 

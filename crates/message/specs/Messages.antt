@@ -1,5 +1,6 @@
 -- Statement: each message as the values of its row and as the payload that it is written as. PROTOCOL 7.21 to 7.25.
 use Rattle.std.specs.Prelude.{ℕ, ◌+◌, ◌*◌, Bool, true, ◌&&◌, List, [], ◌∷◌, ◌++◌, length, take, drop, eqb, ltb, leb}
+use Rattle.std.specs.Prelude.{Option, None, Some}
 use Rattle.base.specs.Numbers.{two, four}
 use Rattle.message.specs.Numbers.{num, eight}
 use Rattle.message.specs.Counter.{status_in, control_in, effective_control, status_bytes, control_bytes}
@@ -11,8 +12,6 @@ use Rattle.message.specs.declared.values.Message.{Message}
 use Rattle.message.specs.declared.values.Message.TheVariants as message
 use Rattle.message.specs.declared.values.Network.{Network}
 use Rattle.message.specs.declared.values.Time.{Time}
-use Rattle.message.specs.declared.values.Unix.{Unix}
-use Rattle.message.specs.declared.values.Unix.TheVariants as unix
 
 -- ---- values, as a row has them after the command: PROTOCOL 7.21
 
@@ -29,9 +28,9 @@ network_in n =
     ∷ n.strength ∷ num n.app ∷ num n.testing ∷ []
 
 -- 18: the seconds since 1970, where it has them
-abbrev pub unix_in : Unix → List ℕ
-unix_in unix.Absent = []
-unix_in (unix.Seconds seconds) = seconds ∷ []
+abbrev pub unix_in : Option ℕ → List ℕ
+unix_in None = []
+unix_in (Some seconds) = seconds ∷ []
 
 -- 18
 abbrev pub time_in : Time → List ℕ
@@ -68,9 +67,9 @@ abbrev pub time_bytes : Time → List ℕ → List ℕ
 time_bytes c more = two c.year (c.month ∷ c.day ∷ c.hour ∷ c.minute ∷ c.second ∷ more)
 
 -- 18: the seconds since 1970, where it has them
-abbrev pub unix_bytes : Unix → List ℕ
-unix_bytes unix.Absent = []
-unix_bytes (unix.Seconds seconds) = four seconds []
+abbrev pub unix_bytes : Option ℕ → List ℕ
+unix_bytes None = []
+unix_bytes (Some seconds) = four seconds []
 
 -- 19 and 1B: a check code whose size a count of 2 bytes can name
 abbrev pub countable : ℕ → Bool

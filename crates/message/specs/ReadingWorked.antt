@@ -1,6 +1,6 @@
 -- Claims: literal payloads with the row that reading gives. With one bit set at a time, and with all bytes of a number
 -- different, a field at another place or in another order gives another row. PROTOCOL 7.10 to 7.21.
-use Rattle.std.specs.Prelude.{ℕ, ◌≡◌, true, false, List, [], ◌∷◌, ◌++◌, map, replicate}
+use Rattle.std.specs.Prelude.{ℕ, ◌≡◌, true, false, None, List, [], ◌∷◌, ◌++◌, map, replicate}
 use Rattle.base.specs.Rows.{Row, row}
 use Rattle.message.specs.Numbers.{eight_at, eight}
 use Rattle.message.specs.Messages.{message_in}
@@ -9,7 +9,6 @@ use Rattle.message.specs.CommandLists.{empty_commands}
 use Rattle.message.specs.declared.counter.Mode.TheVariants as mode
 use Rattle.message.specs.declared.values.Extra.TheVariants as extra
 use Rattle.message.specs.declared.values.Message.TheVariants as message
-use Rattle.message.specs.declared.values.Unix.TheVariants as unix
 
 -- ---- worked_payloads: literal bytes and the message that they are, by its names
 pub record WorkedPayloads : Type 0 where
@@ -22,7 +21,7 @@ pub record WorkedPayloads : Type 0 where
         hour = 6;
         minute = 34;
         second = 58;
-        unix = unix.Absent;
+        unix = None;
       })))
   pub piece : read_of 0x1D (0 ∷ 1 ∷ 0 ∷ 2 ∷ 0xAA ∷ []) ≡ row 0 (message_in (message.Piece 1 2))
   pub status :

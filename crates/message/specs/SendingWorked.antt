@@ -1,5 +1,5 @@
 -- Claims: the messages that a writing call refuses, in literal numbers. PROTOCOL 7.23 to 7.25.
-use Rattle.std.specs.Prelude.{ℕ, ◌≡◌, true, false, cond, List, [], ◌∷◌, ◌++◌, map, length, replicate}
+use Rattle.std.specs.Prelude.{ℕ, ◌≡◌, true, false, None, Some, cond, List, [], ◌∷◌, ◌++◌, map, length, replicate}
 use Rattle.base.specs.Rows.{row}
 use Rattle.base.specs.Outcomes.{output}
 use Rattle.message.specs.Messages.{opaque_fits, allowed_in}
@@ -11,7 +11,6 @@ use Rattle.message.specs.declared.values.Code.TheVariants as code
 use Rattle.message.specs.declared.values.Extra.TheVariants as extra
 use Rattle.message.specs.declared.values.Message.{Message}
 use Rattle.message.specs.declared.values.Message.TheVariants as message
-use Rattle.message.specs.declared.values.Unix.TheVariants as unix
 use Rattle.message.specs.declared.values.Way.TheVariants as way
 
 -- ---- worked_refusals: sizes of the caller's data, values, and the order of refusals
@@ -33,8 +32,8 @@ bare_messages =
     ∷ network_with true true true true true true 7 true true
     ∷ message.ModuleReject code.Other
     ∷ message.BoxReject code.Other
-    ∷ time_with unix.Absent
-    ∷ time_with (unix.Seconds 1)
+    ∷ time_with None
+    ∷ time_with (Some 1)
     ∷ []
 
 -- a strength, which has three bits

@@ -1,5 +1,5 @@
 -- Statement: the number and the values of each answer, as a row. PROTOCOL 6.7, 7.4 to 7.6, 7.21, 7.23, 8.13.
-use Rattle.std.specs.Prelude.{ℕ, List, [], ◌∷◌}
+use Rattle.std.specs.Prelude.{ℕ, List, [], ◌∷◌, Result, Ok, Err}
 use Rattle.base.specs.Rows.{Row, row}
 use Rattle.base.specs.Writes.{unwritten_row_of, write_row_of}
 use Rattle.message.specs.Parts.{no_parts}
@@ -8,8 +8,9 @@ use Rattle.message.specs.Messages.{message_in}
 use Rattle.message.specs.declared.kind.Cause.{Cause}
 use Rattle.message.specs.declared.kind.Cause.TheVariants as cause
 use Rattle.message.specs.declared.parts.Parts.{Parts}
-use Rattle.message.specs.declared.reader.ReadResult.{ReadResult}
-use Rattle.message.specs.declared.reader.ReadResult.TheVariants as reading
+use Rattle.message.specs.declared.reader.Reading.{Reading}
+use Rattle.message.specs.declared.reader.ReadError.{ReadError}
+use Rattle.message.specs.declared.reader.ReadError.TheVariants as refused
 use Rattle.message.specs.declared.replies.ReplyResult.{ReplyResult}
 use Rattle.message.specs.declared.replies.ReplyResult.TheVariants as reply
 use Rattle.message.specs.declared.writer.SendResult.{SendResult}
@@ -31,11 +32,11 @@ abbrev pub refusal : ℕ → Read
 refusal n = record { row = row n []; parts = no_parts }
 
 -- the message, or COMMAND 31, SIZE 32, FIELD 33
-abbrev pub reading_of : ReadResult → Read
-reading_of (reading.Got m parts) = got (message_in m) parts
-reading_of reading.Command = refusal 31
-reading_of reading.Size = refusal 32
-reading_of reading.Field = refusal 33
+abbrev pub reading_of : Result Reading ReadError → Read
+reading_of (Ok r) = got (message_in r.message) r.parts
+reading_of (Err refused.Command) = refusal 31
+reading_of (Err refused.Size) = refusal 32
+reading_of (Err refused.Field) = refusal 33
 
 -- ---- a message that is written
 

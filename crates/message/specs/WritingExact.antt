@@ -1,5 +1,6 @@
 -- Claims: the payload that every message is written as, byte by byte at its literal place. PROTOCOL 7.10 to 7.22.
 use Rattle.std.specs.Prelude.{ℕ, ◌+◌, ◌*◌, ◌/◌, ◌%◌, ◌≡◌, cond, ◌&&◌, List, [], ◌∷◌, ◌++◌, length, take, drop}
+use Rattle.std.specs.Prelude.{None, Some}
 use Rattle.message.specs.Counter.{mode_number}
 use Rattle.message.specs.Layouts.{way_number, code_number}
 use Rattle.message.specs.Messages.{payload_in}
@@ -10,7 +11,6 @@ use Rattle.message.specs.declared.values.Extra.TheVariants as extra
 use Rattle.message.specs.declared.values.Message.TheVariants as message
 use Rattle.message.specs.declared.values.Network.{Network}
 use Rattle.message.specs.declared.values.Time.{Time}
-use Rattle.message.specs.declared.values.Unix.TheVariants as unix
 use Rattle.message.specs.declared.values.Way.{Way}
 
 -- ---- writes_exactly: the payload of every message, whatever its values and the caller's data are
@@ -73,9 +73,9 @@ pub record WritesExactly (opaque : List ℕ) : Type 0 where
   pub network : (n : Network) → payload_in (message.Network n) opaque ≡ network_spelled n
   pub module_reject : (c : Code) → payload_in (message.ModuleReject c) opaque ≡ code_number c ∷ []
   pub box_reject : (c : Code) → payload_in (message.BoxReject c) opaque ≡ code_number c ∷ []
-  pub time : (t : Time) → t.unix ≡ unix.Absent → payload_in (message.Time t) opaque ≡ time_spelled t []
+  pub time : (t : Time) → t.unix ≡ None → payload_in (message.Time t) opaque ≡ time_spelled t []
   pub seconds :
-      (t : Time) (n : ℕ) → t.unix ≡ unix.Seconds n → payload_in (message.Time t) opaque ≡ time_spelled t (in_four n [])
+      (t : Time) (n : ℕ) → t.unix ≡ Some n → payload_in (message.Time t) opaque ≡ time_spelled t (in_four n [])
   pub announcement :
       (size : ℕ)
       → payload_in (message.Announcement size) opaque

@@ -1,6 +1,7 @@
 -- Claims: literal messages with their bytes. With one name set at a time, a name that stands for another bit, number or
 -- place gives other bytes. PROTOCOL 7.10 to 7.22, example 4 of section 11.
 use Rattle.std.specs.Prelude.{ℕ, ◌≤◌, ◌≡◌, Bool, true, false, List, [], ◌∷◌, ◌++◌, map, length, drop, replicate}
+use Rattle.std.specs.Prelude.{Option, None, Some}
 use Rattle.base.specs.Rows.{row}
 use Rattle.base.specs.Outcomes.{output}
 use Rattle.message.specs.Messages.{command_in, payload_in}
@@ -13,8 +14,6 @@ use Rattle.message.specs.declared.values.Code.TheVariants as code
 use Rattle.message.specs.declared.values.Extra.TheVariants as extra
 use Rattle.message.specs.declared.values.Message.{Message}
 use Rattle.message.specs.declared.values.Message.TheVariants as message
-use Rattle.message.specs.declared.values.Unix.{Unix}
-use Rattle.message.specs.declared.values.Unix.TheVariants as unix
 use Rattle.message.specs.declared.values.Way.TheVariants as way
 
 -- ---- example_4: a report, to the last byte of its frame
@@ -180,7 +179,7 @@ named_writings =
 -- ---- numbers and the caller's data
 
 -- a time, with or without the seconds since 1970
-abbrev pub time_with : Unix → Message
+abbrev pub time_with : Option ℕ → Message
 time_with u =
     message.Time
     (record { year = 2026; month = 11; day = 16; hour = 6; minute = 34; second = 58; unix = u })
@@ -195,8 +194,8 @@ number_writings =
     ∷ with_opaque (message.Information 4660 (extra.AttributesAndSecret 72623859790382856))
     (replicate 64 7 ++ replicate 32 9) 0x02
     (replicate 64 7 ++ 0x12 ∷ 0x34 ∷ 1 ∷ 2 ∷ 3 ∷ 4 ∷ 5 ∷ 6 ∷ 7 ∷ 8 ∷ replicate 32 9)
-    ∷ writes (time_with unix.Absent) 0x18 (0x07 ∷ 0xEA ∷ 11 ∷ 16 ∷ 6 ∷ 34 ∷ 58 ∷ [])
-    ∷ writes (time_with (unix.Seconds 305419896)) 0x18
+    ∷ writes (time_with None) 0x18 (0x07 ∷ 0xEA ∷ 11 ∷ 16 ∷ 6 ∷ 34 ∷ 58 ∷ [])
+    ∷ writes (time_with (Some 305419896)) 0x18
     (0x07 ∷ 0xEA ∷ 11 ∷ 16 ∷ 6 ∷ 34 ∷ 58 ∷ 0x12 ∷ 0x34 ∷ 0x56 ∷ 0x78 ∷ [])
     ∷ with_opaque (message.Announcement 305419896) (7 ∷ 8 ∷ 9 ∷ []) 0x19
     (0x12 ∷ 0x34 ∷ 0x56 ∷ 0x78 ∷ 0 ∷ 3 ∷ 7 ∷ 8 ∷ 9 ∷ [])

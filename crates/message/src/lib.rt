@@ -1,5 +1,5 @@
-// Messages of the Gizwits serial protocol and of our counter: read from a payload, written as a frame, replied to by
-// the box. PROTOCOL 7.1 to 8.13.
+//! Messages of the Gizwits serial protocol and of our counter: read from a payload, written as a frame, replied to by
+//! the box. PROTOCOL 7.1 to 8.13.
 #![tactic(auto)]
 
 mod bytes;
@@ -11,10 +11,10 @@ mod replies;
 mod values;
 mod writer;
 
-pub use counter::{Control, Flags, Mode, Status, mode_number};
-pub use kind::{Cause, cause_number};
+pub use counter::{Control, Flags, Mode, Status};
+pub use kind::Cause;
 pub use parts::{Parts, Place, part};
-pub use reader::{ReadResult, read};
+pub use reader::{ReadError, Reading, read};
 pub use replies::{ReplyResult, reply, reply_frame, reply_reading};
-pub use values::{Code, Extra, Message, Network, Time, Unix, Way, code_number, way_number};
+pub use values::{Code, Extra, Message, Network, Time, UnknownNumber, Way};
 pub use writer::{SendResult, write};

@@ -1,18 +1,18 @@
-// The parts of a payload that are not values: texts, key, secret, check code and data, by the places that reading
-// gives. PROTOCOL 7.9.
+//! The parts of a payload that are not values: texts, key, secret, check code and data, by the places that reading
+//! gives. PROTOCOL 7.9.
 ghost use Rattle.std.specs.Prelude.{◌≡◌};
-ghost use Rattle.message.specs.Parts.{place, texts_and, no_texts, no_parts, PartAt};
+ghost use Rattle.message.specs.Parts.{texts_and, PartAt};
 
-// The place of a part in the payload: its first byte and its size. Both are 0 where the message does not have the part.
-#[derive(Clone, Copy)]
+/// The place of a part in the payload: its first byte and its size. Both are 0 where the message does not have the part.
+#[derive(Clone, Copy, Debug, Default, PartialEq, Eq)]
 pub struct Place {
     pub start: usize,
     pub size: usize,
 }
 
-// The places of the versions (of serial protocol, product's protocol, hardware, software), the product key, the secret,
-// a check code, and a piece's data.
-#[derive(Clone, Copy)]
+/// The places of the versions (of serial protocol, product's protocol, hardware, software), the product key, the secret,
+/// a check code, and a piece's data. `Parts::default()` are those of a message without parts.
+#[derive(Clone, Copy, Debug, Default, PartialEq, Eq)]
 pub struct Parts {
     pub serial: Place,
     pub protocol: Place,
@@ -25,10 +25,9 @@ pub struct Parts {
 }
 
 // 02: texts and key at their places, and the secret's place. PROTOCOL 7.10.
-pub(crate) fn texts_and(start: usize, size: usize) -> Parts
-    ensures { result ≡ texts_and (place start size) }
+pub(crate) fn texts_and(secret: Place) -> Parts
+    ensures { result ≡ texts_and secret }
 {
-    let nowhere = Place { start: 0, size: 0 };
     Parts {
         serial: Place { start: 0, size: 8 },
         protocol: Place { start: 8, size: 8 },
@@ -38,43 +37,12 @@ pub(crate) fn texts_and(start: usize, size: usize) -> Parts
             start: 32,
             size: 32,
         },
-        secret: Place { start, size },
-        code: nowhere,
-        piece: nowhere,
+        secret,
+        ..Parts::default()
     }
 }
 
-// 19, 1B and 1D: the place of a check code or of data. PROTOCOL 7.15, 7.16.
-pub(crate) fn no_texts(code: usize, count: usize, piece: usize, size: usize) -> Parts
-    ensures { result ≡ no_texts (place code count) (place piece size) }
-{
-    let nowhere = Place { start: 0, size: 0 };
-    Parts {
-        serial: nowhere,
-        protocol: nowhere,
-        hardware: nowhere,
-        software: nowhere,
-        key: nowhere,
-        secret: nowhere,
-        code: Place {
-            start: code,
-            size: count,
-        },
-        piece: Place {
-            start: piece,
-            size: size,
-        },
-    }
-}
-
-// A message without parts.
-pub(crate) fn no_parts() -> Parts
-    ensures { result ≡ no_parts }
-{
-    no_texts(0, 0, 0, 0)
-}
-
-// The part of the caller's payload at a place, cut at the payload's end.
+/// The part of the caller's payload at a place, cut at the payload's end.
 pub fn part(payload: &[u8], place: Place) -> &[u8]
     ensures { PartAt payload.entry result place }
 {
