@@ -22,7 +22,7 @@ use Rattle.message.specs.declared.parts.Parts.{Parts}
 use Rattle.message.specs.declared.values.Message.{Message}
 use Rattle.message.specs.declared.values.Message.TheVariants as message
 use Rattle.message.specs.declared.values.Extra.{Extra}
-use Rattle.message.specs.declared.values.Unix.{Unix}
+use Rattle.std.specs.Prelude.{Option}
 use Rattle.message.specs.declared.values.Time.{Time}
 use Rattle.message.proofs.Tests.{and_true, and_false}
 use Rattle.message.proofs.Accepted.{accepted}
@@ -114,6 +114,6 @@ informed timeout number flags opaque out more e p f =
     ∙ ap (λ (x : Extra). send_of frame_limit (message.Information timeout x) number flags opaque out) (sym e)
 
 -- a time's bytes, with or without the seconds since 1970
-pub dated : (time : Time) {u : Unix} → time.unix ≡ u
+pub dated : (time : Time) {u : Option ℕ} → time.unix ≡ u
     → time_bytes time (unix_bytes u) ≡ time_bytes time (unix_bytes time.unix)
 dated time shown = rw shown

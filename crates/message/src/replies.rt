@@ -10,9 +10,9 @@ ghost use Rattle.message.specs.Table.{reading_of, reply_row_of};
 ghost use Rattle.message.specs.Owed.{owed_for, handed, owed_after, code_for};
 ghost use Rattle.message.specs.Replies.{reject_of, reply_read_of, reply_frame_of, reply_of};
 
-use super::kind::{Cause, Owed, profile_of};
-use super::reader::{ReadResult, read};
-use super::values::{Code, Message, code_number};
+use super::kind::{Cause, Owed, Sender, profile_of};
+use super::reader::{ReadError, Reading, read};
+use super::values::{Code, Message};
 use base::{Unwritten, WriteResult};
 use frame::{FeedResult, Verdict};
 
@@ -96,11 +96,11 @@ fn is_handed(owed: Owed) -> bool
 
 // The reply owed to a frame, by its reading. A command of the box is rejected whatever its payload is: PROTOCOL 8.7.
 // 19, 1D and 1F are handed to the caller whatever their payload is: PROTOCOL 8.9.
-fn owed_after(command: u8, reading: ReadResult) -> Owed
+fn owed_after(command: u8, reading: Result<Reading, ReadError>) -> Owed
     ensures { result ≡ owed_after command (reading_of reading).row }
 {
     let profile = profile_of(command);
-    if profile.outward {
+    if profile.sender == Sender::Box {
         return Owed::Reject {
             cause: Cause::BoxCommand,
         };
@@ -110,12 +110,12 @@ fn owed_after(command: u8, reading: ReadResult) -> Owed
         return owes;
     }
     match reading {
-        ReadResult::Got { message, .. } => owed_for(message),
-        ReadResult::Command => Owed::Reject {
+        Ok(got) => owed_for(got.message),
+        Err(ReadError::Command) => Owed::Reject {
             cause: Cause::Command,
         },
-        ReadResult::Size => Owed::Reject { cause: Cause::Size },
-        ReadResult::Field => Owed::Reject {
+        Err(ReadError::Size) => Owed::Reject { cause: Cause::Size },
+        Err(ReadError::Field) => Owed::Reject {
             cause: Cause::Field,
         },
     }
@@ -153,7 +153,7 @@ fn reject(cause: Cause, number: u8, out: &mut [u8]) -> ReplyResult
         ≡ reject_of frame_limit cause number out.old }
 {
     let code = code_for(cause);
-    let bytes = [code_number(code)];
+    let bytes = [u8::from(code)];
     let written = frame::write(0x12, number, 0, &bytes, out);
     match written {
         WriteResult::Wrote { count } => ReplyResult::Rejected { count, code, cause },
@@ -163,7 +163,7 @@ fn reject(cause: Cause, number: u8, out: &mut [u8]) -> ReplyResult
 
 // The reply to a frame whose payload was read: a frame at the front of the caller's buffer, what the caller is asked to
 // send, or nothing.
-pub fn reply_reading(command: u8, number: u8, reading: ReadResult, out: &mut [u8]) -> ReplyResult
+pub fn reply_reading(command: u8, number: u8, reading: Result<Reading, ReadError>, out: &mut [u8]) -> ReplyResult
     ensures { output (reply_row_of result) out.new
         ≡ reply_read_of frame_limit command number (reading_of reading).row out.old }
 {

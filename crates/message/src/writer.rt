@@ -12,10 +12,9 @@ ghost use Rattle.message.specs.Writing.{send_as, send_bare, send_of};
 ghost use Rattle.message.specs.declared.values.Message.TheVariants as message;
 ghost use Rattle.message.specs.declared.values.Extra.TheVariants as extra;
 
-use super::bytes::flagged;
 use super::counter::{Control, Status, control_bytes, status_bytes};
-use super::reader::{ReadResult, read};
-use super::values::{Extra, Message, Network, Time, Unix, code_number, way_number};
+use super::reader::{ReadError, read};
+use super::values::{Extra, Message, Network, Time};
 use base::WriteResult;
 
 // The answer. A refusal leaves the caller's buffer unchanged.
@@ -61,10 +60,10 @@ fn write_empty(command: u8, opaque: &[u8], number: u8, flags: u16, out: &mut [u8
     let none = [0u8; 0];
     let reading = read(command, &none);
     match reading {
-        ReadResult::Got { .. } => write_bare(command, &none, true, opaque, number, flags, out),
-        ReadResult::Command => SendResult::Command,
-        ReadResult::Size => SendResult::Size,
-        ReadResult::Field => SendResult::Field,
+        Ok(_) => write_bare(command, &none, true, opaque, number, flags, out),
+        Err(ReadError::Command) => SendResult::Command,
+        Err(ReadError::Size) => SendResult::Size,
+        Err(ReadError::Field) => SendResult::Field,
     }
 }
 
@@ -201,14 +200,14 @@ fn network_bytes(network: Network) -> [u8; 2]
     requires { network.strength < 8 }
     ensures { result ≡ network_bytes network }
 {
-    let low = flagged(network.softap, 1)
-        + flagged(network.station, 2)
-        + flagged(network.onboarding, 4)
-        + flagged(network.binding, 8)
-        + flagged(network.router, 16)
-        + flagged(network.server, 32);
-    let high = (network.strength as u16) + flagged(network.app, 8) + flagged(network.testing, 16);
-    [high as u8, low as u8]
+    let low = u8::from(network.softap)
+        + u8::from(network.station) * 2
+        + u8::from(network.onboarding) * 4
+        + u8::from(network.binding) * 8
+        + u8::from(network.router) * 16
+        + u8::from(network.server) * 32;
+    let high = network.strength + u8::from(network.app) * 8 + u8::from(network.testing) * 16;
+    [high, low]
 }
 
 // 0D: a strength above 7 is FIELD. PROTOCOL 7.25.
@@ -271,11 +270,11 @@ fn write_time(time: Time, opaque: &[u8], number: u8, flags: u16, out: &mut [u8])
 {
     let unix = time.unix;
     match unix {
-        Unix::Absent => {
+        None => {
             let bytes = time_bytes(time);
             write_bare(0x18, &bytes, true, opaque, number, flags, out)
         }
-        Unix::Seconds { seconds } => {
+        Some(seconds) => {
             let bytes = time_bytes_and(time, seconds);
             write_bare(0x18, &bytes, true, opaque, number, flags, out)
         }
@@ -348,14 +347,14 @@ pub fn write(message: Message, opaque: &[u8], number: u8, flags: u16, out: &mut 
         Message::Status { status } => write_status(0x04, 3, status, opaque, number, flags, out),
         Message::Report { status } => write_status(0x05, 4, status, opaque, number, flags, out),
         Message::Onboarding { way } => {
-            write_byte(0x09, way_number(way), opaque, number, flags, out)
+            write_byte(0x09, u8::from(way), opaque, number, flags, out)
         }
         Message::Network { network } => write_network(network, opaque, number, flags, out),
         Message::ModuleReject { code } => {
-            write_byte(0x11, code_number(code), opaque, number, flags, out)
+            write_byte(0x11, u8::from(code), opaque, number, flags, out)
         }
         Message::BoxReject { code } => {
-            write_byte(0x12, code_number(code), opaque, number, flags, out)
+            write_byte(0x12, u8::from(code), opaque, number, flags, out)
         }
         Message::Time { time } => write_time(time, opaque, number, flags, out),
         Message::Announcement { size } => write_announcement(size, opaque, number, flags, out),

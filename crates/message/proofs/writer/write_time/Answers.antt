@@ -5,19 +5,19 @@ use Rattle.message.specs.Commands.{table, profile_in}
 use Rattle.message.proofs.Sending.{bare, dated}
 use Rattle.message.proofs.writer.write_time.Goals as goal
 
-pub returns-in-Absent : goal.returns-in-Absent
+pub returns-in-None : goal.returns-in-None
 unfolding table profile_in
-returns-in-Absent c =
+returns-in-None c =
     let s = c.args in
-    let bytes = c.time_bytes-bytes.ensures ∙ dated s.time c.in-Absent.is in
+    let bytes = c.time_bytes-bytes.ensures ∙ dated s.time c.in-None.is in
     let yes : true ≡ true = refl in
     bare 0x18 s.number s.flags s.opaque.now s.out.now bytes yes c.write_bare.ensures
 
-pub returns-in-Seconds : goal.returns-in-Seconds
+pub returns-in-Some : goal.returns-in-Some
 unfolding table profile_in
-returns-in-Seconds c =
+returns-in-Some c =
     let s = c.args in
-    let bytes = c.time_bytes_and-bytes.ensures ∙ dated s.time c.in-Seconds.is in
+    let bytes = c.time_bytes_and-bytes.ensures ∙ dated s.time c.in-Some.is in
     let yes : true ≡ true = refl in
     bare 0x18 s.number s.flags s.opaque.now s.out.now bytes yes
-    c.write_bare-in-Seconds.ensures
+    c.write_bare-in-Some.ensures
