@@ -7,10 +7,10 @@ use lib.ListN.{get_or, drop}
 use lib.Dec.{eqb}
 use Rattle.base.specs.Rows.{Row}
 use Rattle.base.specs.Outcomes.{Output}
-use Rattle.base.specs.declared.writes.Unwritten.TheVariants as unwritten
-use Rattle.base.specs.declared.writes.WriteResult.TheVariants as written
+use Rattle.base.specs.declared.writes.WriteError.{WriteError}
+use Rattle.base.specs.declared.writes.WriteError.TheVariants as unwritten
 use Rattle.base.proofs.Rows.{injective_by}
-use Rattle.base.proofs.WritesExact.{unwritten_from, written_from}
+use Rattle.base.proofs.WritesExact.{unwritten_from}
 use Rattle.message.specs.Numbers.{num}
 use Rattle.message.specs.Counter.{mode_number, status_in, control_in}
 use Rattle.message.specs.Layouts.{way_number, code_number}
@@ -27,8 +27,8 @@ use Rattle.message.specs.declared.parts.Parts.{Parts}
 use Rattle.message.specs.declared.reader.Reading.{Reading}
 use Rattle.message.specs.declared.reader.ReadError.{ReadError}
 use Rattle.message.specs.declared.reader.ReadError.TheVariants as refused
-use Rattle.message.specs.declared.replies.ReplyResult.{ReplyResult}
-use Rattle.message.specs.declared.replies.ReplyResult.TheVariants as reply
+use Rattle.message.specs.declared.answers.Reply.{Reply}
+use Rattle.message.specs.declared.answers.Reply.TheVariants as reply
 use Rattle.message.specs.declared.values.Code.{Code}
 use Rattle.message.specs.declared.values.Code.TheVariants as code
 use Rattle.message.specs.declared.values.Extra.{Extra}
@@ -40,8 +40,8 @@ use Rattle.message.specs.declared.values.Time.{Time}
 use Rattle.std.specs.Prelude.{Option, None, Some, Result, Ok, Err}
 use Rattle.message.specs.declared.values.Way.{Way}
 use Rattle.message.specs.declared.values.Way.TheVariants as way
-use Rattle.message.specs.declared.writer.SendResult.{SendResult}
-use Rattle.message.specs.declared.writer.SendResult.TheVariants as sent
+use Rattle.message.specs.declared.writer.SendError.{SendError}
+use Rattle.message.specs.declared.writer.SendError.TheVariants as unsent
 
 -- what has a number, or else
 abbrev under : {A : Type 0} → ℕ → ℕ → A → A → A
@@ -222,21 +222,23 @@ reading_back (Err refused.Command) = refl
 reading_back (Err refused.Size) = refl
 reading_back (Err refused.Field) = refl
 
-abbrev sent_from : Row → SendResult
+abbrev sent_from : Row → Result ℕ SendError
 sent_from r =
-    under r.number 31 sent.Command
-    (under r.number 32 sent.Size (under r.number 33 sent.Field (sent.Written (written_from r))))
+    under r.number 0 (Ok (value r.values 0))
+    (under r.number 31 (Err unsent.Command)
+    (under r.number 32 (Err unsent.Size)
+    (under r.number 33 (Err unsent.Field) (Err (unsent.Unwritten (unwritten_from r))))))
 
-sent_back : (a : SendResult) → sent_from (send_row_of a) ≡ a
-sent_back (sent.Written (written.Wrote count)) = refl
-sent_back (sent.Written (written.Unwritten unwritten.Payload)) = refl
-sent_back (sent.Written (written.Unwritten (unwritten.Room needed))) = refl
-sent_back sent.Command = refl
-sent_back sent.Size = refl
-sent_back sent.Field = refl
+sent_back : (a : Result ℕ SendError) → sent_from (send_row_of a) ≡ a
+sent_back (Ok count) = refl
+sent_back (Err unsent.Command) = refl
+sent_back (Err unsent.Size) = refl
+sent_back (Err unsent.Field) = refl
+sent_back (Err (unsent.Unwritten unwritten.Payload)) = refl
+sent_back (Err (unsent.Unwritten (unwritten.Room needed))) = refl
 
 -- nothing, a count, a command that the caller is asked to send, or a rejection
-abbrev done_from : List ℕ → ReplyResult
+abbrev done_from : List ℕ → Reply
 done_from [] = reply.Nothing
 done_from (count ∷ []) = reply.Acknowledged count
 done_from (count ∷ command ∷ []) = reply.Nothing
@@ -248,20 +250,20 @@ done_from (count ∷ command ∷ value ∷ l) =
     (under command 0x20 (reply.StopWanted value)
     (reply.Rejected count (code_from value) (cause_from (get_or l 0 0)))))))
 
-abbrev reply_from : Row → ReplyResult
-reply_from r = under r.number 0 (done_from r.values) (reply.Unwritten (unwritten_from r))
+abbrev reply_from : Row → Result Reply WriteError
+reply_from r = under r.number 0 (Ok (done_from r.values)) (Err (unwritten_from r))
 
-reply_back : (a : ReplyResult) → reply_from (reply_row_of a) ≡ a
-reply_back reply.Nothing = refl
-reply_back (reply.InformationWanted number) = refl
-reply_back (reply.StatusWanted number) = refl
-reply_back (reply.BeginWanted number) = refl
-reply_back (reply.StoreWanted number) = refl
-reply_back (reply.StopWanted number) = refl
-reply_back (reply.Acknowledged count) = refl
-reply_back (reply.Rejected count code cause) = simp (code_back code, cause_back cause)
-reply_back (reply.Unwritten unwritten.Payload) = refl
-reply_back (reply.Unwritten (unwritten.Room needed)) = refl
+reply_back : (a : Result Reply WriteError) → reply_from (reply_row_of a) ≡ a
+reply_back (Ok reply.Nothing) = refl
+reply_back (Ok (reply.InformationWanted number)) = refl
+reply_back (Ok (reply.StatusWanted number)) = refl
+reply_back (Ok (reply.BeginWanted number)) = refl
+reply_back (Ok (reply.StoreWanted number)) = refl
+reply_back (Ok (reply.StopWanted number)) = refl
+reply_back (Ok (reply.Acknowledged count)) = refl
+reply_back (Ok (reply.Rejected count code cause)) = simp (code_back code, cause_back cause)
+reply_back (Err unwritten.Payload) = refl
+reply_back (Err (unwritten.Room needed)) = refl
 
 pub rows_injective : RowsInjective
 rows_injective =

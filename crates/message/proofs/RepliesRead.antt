@@ -1,27 +1,18 @@
 -- The replies of the box: the frame writer writes them, and reading accepts each as a message. Assumes nothing.
 use Prim.Native.Nat.{ℕ, ◌+◌}
-use mathlib.Core.Path.{◌≡◌, refl, sym, ap, subst, ◌∙◌}
+use mathlib.Core.Path.{◌≡◌, refl, sym, subst}
 use mathlib.Core.Bool.{cond, ◌&&◌}
 use mathlib.Core.List.{List, [], ◌∷◌}
 use lib.ListN.{get_or}
 use lib.Dec.{eqb}
-use Rattle.frame.specs.Wire.{command_of, number_of, payload_of}
-use Rattle.base.specs.Rows.{Row, row}
-use Rattle.base.specs.Outcomes.{Output, output}
-use Rattle.base.specs.Writes.{unwritten_row_of}
-use Rattle.base.specs.declared.writes.Unwritten.{Unwritten}
-use Rattle.base.proofs.WritesExact.{unwritten_rowed}
-use Rattle.frame.specs.Calls.{write_of}
 use Rattle.base.proofs.Tests.{by_test, either_way}
 use Rattle.base.specs.Keys.{among}
 use Rattle.message.specs.Commands.{table, profile_in, kind_of, from_box, owed_of}
 use Rattle.message.specs.Layouts.{code_number, is_listed, allowed, values_of, fits, size_fits}
-use Rattle.message.specs.Table.{Read, cause_number}
+use Rattle.message.specs.Table.{Read}
 use Rattle.message.specs.Owed.{handed, owed_after, code_for}
 use Rattle.message.specs.Reading.{decode_of}
-use Rattle.message.specs.Replies.{with_cause, reject_of, reply_frame_of}
 use Rattle.message.specs.RepliesRead.{BoxSends, RepliesAreRead}
-use Rattle.message.specs.declared.values.Code.{Code}
 use Rattle.message.specs.declared.kind.Kind.{Kind}
 use Rattle.message.specs.declared.kind.Cause.{Cause}
 use Rattle.message.specs.declared.kind.Cause.TheVariants as cause
@@ -30,38 +21,6 @@ use Rattle.message.specs.declared.kind.Owed.TheVariants as owes
 use Rattle.message.specs.declared.values.Message.TheVariants as message
 use Rattle.base.proofs.Keys.{Each, among_holds}
 use Rattle.message.proofs.CommandLists.{command_lists}
-
--- a 12, with the cause if it was written
-pub rejected :
-    (limit number : ℕ) (why : Cause) (out : List ℕ) {code : Code} {byte : ℕ} {r : Row} {left : List ℕ}
-    → code ≡ code_for why → byte ≡ code_number code
-    → output r left ≡ write_of limit 0x12 number 0 (byte ∷ []) out
-    → with_cause why (output r left) ≡ reject_of limit why number out
-rejected limit number why out p q e =
-    ap (with_cause why) (e ∙ ap (λ (b : ℕ). write_of limit 0x12 number 0 (b ∷ []) out) (q ∙ ap code_number p))
-
--- a refusal of the frame writer is the reply's
-pub not_rejected :
-    (limit number : ℕ) (why : Cause) (out : List ℕ) (reason : Unwritten) {code : Code} {byte : ℕ} {left : List ℕ}
-    → code ≡ code_for why → byte ≡ code_number code
-    → output (unwritten_row_of reason) left ≡ write_of limit 0x12 number 0 (byte ∷ []) out
-    → output (unwritten_row_of reason) left ≡ reject_of limit why number out
-not_rejected limit number why out reason {left} p q e =
-    let shown : ℕ → Row = λ count. row 0 (count ∷ 0x12 ∷ code_number (code_for why) ∷ cause_number why ∷ []) in
-    unwritten_rowed shown reason left ∙ rejected limit number why out p q e
-
--- ---- the reply to a frame goes by its body
-
-module _ (limit : ℕ) (body out : List ℕ) {w : Output} where
-  pub by_body : (command number : ℕ) (payload : List ℕ) → command ≡ command_of body → number ≡ number_of body
-      → payload ≡ payload_of body
-      → w ≡ reply_frame_of limit command number payload out
-      → w ≡ reply_frame_of limit (command_of body) (number_of body) (payload_of body) out
-  by_body command number payload p q r e = rw (← p, ← q, ← r) e
-
-  pub by_sum : (number : ℕ) → number ≡ number_of body → w ≡ reject_of limit cause.Sum number out
-      → w ≡ reject_of limit cause.Sum (number_of body) out
-  by_sum number q e = e ∙ ap (λ (n : ℕ). reject_of limit cause.Sum n out) q
 
 -- ---- what is owed is read
 

@@ -2,8 +2,8 @@
 use Rattle.std.specs.Prelude.{ℕ, ◌≡◌, List, [], ◌∷◌, map, Result, Ok, Err}
 use Rattle.base.specs.Rows.{row}
 use Rattle.base.specs.Outcomes.{Output, output}
-use Rattle.base.specs.declared.writes.Unwritten.TheVariants as unwritten
-use Rattle.base.specs.declared.writes.WriteResult.TheVariants as written
+use Rattle.base.specs.declared.writes.WriteError.{WriteError}
+use Rattle.base.specs.declared.writes.WriteError.TheVariants as unwritten
 use Rattle.message.specs.Counter.{mode_number}
 use Rattle.message.specs.Parts.{no_parts}
 use Rattle.message.specs.Layouts.{way_number, code_number}
@@ -17,22 +17,22 @@ use Rattle.message.specs.declared.parts.Parts.{Parts}
 use Rattle.message.specs.declared.reader.Reading.{Reading}
 use Rattle.message.specs.declared.reader.ReadError.{ReadError}
 use Rattle.message.specs.declared.reader.ReadError.TheVariants as refused
-use Rattle.message.specs.declared.replies.ReplyResult.{ReplyResult}
-use Rattle.message.specs.declared.replies.ReplyResult.TheVariants as reply
+use Rattle.message.specs.declared.answers.Reply.{Reply}
+use Rattle.message.specs.declared.answers.Reply.TheVariants as reply
 use Rattle.message.specs.declared.values.Code.{Code}
 use Rattle.message.specs.declared.values.Code.TheVariants as code
 use Rattle.message.specs.declared.values.Message.{Message}
 use Rattle.message.specs.declared.values.Way.TheVariants as way
-use Rattle.message.specs.declared.writer.SendResult.{SendResult}
-use Rattle.message.specs.declared.writer.SendResult.TheVariants as sent
+use Rattle.message.specs.declared.writer.SendError.{SendError}
+use Rattle.message.specs.declared.writer.SendError.TheVariants as unsent
 
 -- ---- rows_injective: two messages, or two answers of one enum, never have the same row, so an equation of rows fixes
 -- the answer
 pub record RowsInjective : Type 0 where
   pub messages : (a b : Message) → message_in a ≡ message_in b → a ≡ b
   pub readings : (a b : Result Reading ReadError) → reading_of a ≡ reading_of b → a ≡ b
-  pub sendings : (a b : SendResult) → send_row_of a ≡ send_row_of b → a ≡ b
-  pub replies : (a b : ReplyResult) → reply_row_of a ≡ reply_row_of b → a ≡ b
+  pub sendings : (a b : Result ℕ SendError) → send_row_of a ≡ send_row_of b → a ≡ b
+  pub replies : (a b : Result Reply WriteError) → reply_row_of a ≡ reply_row_of b → a ≡ b
 
 -- ---- contracts_complete: the equation of a contract fixes the row and the parts, or the row and the buffer, each by
 -- itself; `read` gives what the claims on reading and on parts are about
@@ -45,10 +45,10 @@ pub record ContractsComplete : Type 0 where
       → reading_of (Ok (record { message = m; parts = parts })) ≡ decode_of command p
       → (read_of command p ≡ row 0 (message_in m)) × (parts_of command p ≡ parts)
   pub written :
-      (r : SendResult) (after : List ℕ) (w : Output)
+      (r : Result ℕ SendError) (after : List ℕ) (w : Output)
       → output (send_row_of r) after ≡ w → (send_row_of r ≡ w.row) × (after ≡ w.out)
   pub replied :
-      (r : ReplyResult) (after : List ℕ) (w : Output)
+      (r : Result Reply WriteError) (after : List ℕ) (w : Output)
       → output (reply_row_of r) after ≡ w → (reply_row_of r ≡ w.row) × (after ≡ w.out)
 
 -- ---- named_numbers: the number of each mode, way, error code and cause
@@ -79,20 +79,20 @@ pub record WorkedNames : Type 0 where
   pub sendings :
       (n : ℕ)
       → map send_row_of
-      (sent.Written (written.Wrote n) ∷ sent.Written (written.Unwritten unwritten.Payload)
-      ∷ sent.Written (written.Unwritten (unwritten.Room n)) ∷ sent.Command ∷ sent.Size ∷ sent.Field ∷ [])
+      (Ok n ∷ Err (unsent.Unwritten unwritten.Payload) ∷ Err (unsent.Unwritten (unwritten.Room n))
+      ∷ Err unsent.Command ∷ Err unsent.Size ∷ Err unsent.Field ∷ [])
       ≡ row 0 (n ∷ []) ∷ row 21 (0 ∷ []) ∷ row 22 (n ∷ []) ∷ row 31 [] ∷ row 32 [] ∷ row 33 [] ∷ []
   pub replies :
       (n : ℕ)
       → map reply_row_of
-      (reply.Nothing ∷ reply.InformationWanted n ∷ reply.StatusWanted n ∷ reply.BeginWanted n ∷ reply.StoreWanted n
-      ∷ reply.StopWanted n ∷ reply.Acknowledged n ∷ reply.Unwritten unwritten.Payload
-      ∷ reply.Unwritten (unwritten.Room n) ∷ [])
+      (Ok reply.Nothing ∷ Ok (reply.InformationWanted n) ∷ Ok (reply.StatusWanted n) ∷ Ok (reply.BeginWanted n)
+      ∷ Ok (reply.StoreWanted n) ∷ Ok (reply.StopWanted n) ∷ Ok (reply.Acknowledged n) ∷ Err unwritten.Payload
+      ∷ Err (unwritten.Room n) ∷ [])
       ≡ row 0 [] ∷ row 0 (0 ∷ 2 ∷ n ∷ []) ∷ row 0 (0 ∷ 4 ∷ n ∷ []) ∷ row 0 (0 ∷ 26 ∷ n ∷ []) ∷ row 0 (0 ∷ 30 ∷ n ∷ [])
       ∷ row 0 (0 ∷ 32 ∷ n ∷ []) ∷ row 0 (n ∷ []) ∷ row 21 (0 ∷ []) ∷ row 22 (n ∷ []) ∷ []
   -- a rejection, for each code with each cause
   pub rejected :
       (n : ℕ)
-      → map (λ (c : Code). map (λ (k : Cause). reply_row_of (reply.Rejected n c k)) causes) codes
+      → map (λ (c : Code). map (λ (k : Cause). reply_row_of (Ok (reply.Rejected n c k))) causes) codes
       ≡ map (λ (c : ℕ). map (λ (k : ℕ). row 0 (n ∷ 0x12 ∷ c ∷ k ∷ [])) (15 ∷ 31 ∷ 32 ∷ 33 ∷ 0 ∷ []))
       (1 ∷ 2 ∷ 3 ∷ 4 ∷ [])

@@ -1,7 +1,8 @@
 -- Statement: the number and the values of each answer, as a row. PROTOCOL 6.7, 7.4 to 7.6, 7.21, 7.23, 8.13.
 use Rattle.std.specs.Prelude.{ℕ, List, [], ◌∷◌, Result, Ok, Err}
 use Rattle.base.specs.Rows.{Row, row}
-use Rattle.base.specs.Writes.{unwritten_row_of, write_row_of}
+use Rattle.base.specs.Writes.{unwritten_row_of}
+use Rattle.base.specs.declared.writes.WriteError.{WriteError}
 use Rattle.message.specs.Parts.{no_parts}
 use Rattle.message.specs.Layouts.{code_number}
 use Rattle.message.specs.Messages.{message_in}
@@ -11,10 +12,10 @@ use Rattle.message.specs.declared.parts.Parts.{Parts}
 use Rattle.message.specs.declared.reader.Reading.{Reading}
 use Rattle.message.specs.declared.reader.ReadError.{ReadError}
 use Rattle.message.specs.declared.reader.ReadError.TheVariants as refused
-use Rattle.message.specs.declared.replies.ReplyResult.{ReplyResult}
-use Rattle.message.specs.declared.replies.ReplyResult.TheVariants as reply
-use Rattle.message.specs.declared.writer.SendResult.{SendResult}
-use Rattle.message.specs.declared.writer.SendResult.TheVariants as sent
+use Rattle.message.specs.declared.answers.Reply.{Reply}
+use Rattle.message.specs.declared.answers.Reply.TheVariants as reply
+use Rattle.message.specs.declared.writer.SendError.{SendError}
+use Rattle.message.specs.declared.writer.SendError.TheVariants as unsent
 
 -- ---- a payload that is read
 
@@ -40,12 +41,13 @@ reading_of (Err refused.Field) = refusal 33
 
 -- ---- a message that is written
 
--- the frame writer's answer, or COMMAND 31, SIZE 32, FIELD 33
-abbrev pub send_row_of : SendResult → Row
-send_row_of (sent.Written written) = write_row_of written
-send_row_of sent.Command = row 31 []
-send_row_of sent.Size = row 32 []
-send_row_of sent.Field = row 33 []
+-- the count of the frame; COMMAND 31, SIZE 32, FIELD 33, or why the frame writer wrote nothing
+abbrev pub send_row_of : Result ℕ SendError → Row
+send_row_of (Ok count) = row 0 (count ∷ [])
+send_row_of (Err unsent.Command) = row 31 []
+send_row_of (Err unsent.Size) = row 32 []
+send_row_of (Err unsent.Field) = row 33 []
+send_row_of (Err (unsent.Unwritten why)) = unwritten_row_of why
 
 -- ---- a reply of the box
 
@@ -61,13 +63,14 @@ cause_number cause.BoxCommand = 0
 -- nothing; 0 bytes, the command that the caller is asked to send, and the received sequence number; the count of an
 -- acknowledgement; the count of a rejection, its command 12, the code and the cause; why nothing was written. Where 19,
 -- 1D or 1F is handed over, the command is that of its reply without a fault
-abbrev pub reply_row_of : ReplyResult → Row
-reply_row_of reply.Nothing = row 0 []
-reply_row_of (reply.InformationWanted number) = row 0 (0 ∷ 0x02 ∷ number ∷ [])
-reply_row_of (reply.StatusWanted number) = row 0 (0 ∷ 0x04 ∷ number ∷ [])
-reply_row_of (reply.BeginWanted number) = row 0 (0 ∷ 0x1A ∷ number ∷ [])
-reply_row_of (reply.StoreWanted number) = row 0 (0 ∷ 0x1E ∷ number ∷ [])
-reply_row_of (reply.StopWanted number) = row 0 (0 ∷ 0x20 ∷ number ∷ [])
-reply_row_of (reply.Acknowledged count) = row 0 (count ∷ [])
-reply_row_of (reply.Rejected count code cause) = row 0 (count ∷ 0x12 ∷ code_number code ∷ cause_number cause ∷ [])
-reply_row_of (reply.Unwritten why) = unwritten_row_of why
+abbrev pub reply_row_of : Result Reply WriteError → Row
+reply_row_of (Ok reply.Nothing) = row 0 []
+reply_row_of (Ok (reply.InformationWanted number)) = row 0 (0 ∷ 0x02 ∷ number ∷ [])
+reply_row_of (Ok (reply.StatusWanted number)) = row 0 (0 ∷ 0x04 ∷ number ∷ [])
+reply_row_of (Ok (reply.BeginWanted number)) = row 0 (0 ∷ 0x1A ∷ number ∷ [])
+reply_row_of (Ok (reply.StoreWanted number)) = row 0 (0 ∷ 0x1E ∷ number ∷ [])
+reply_row_of (Ok (reply.StopWanted number)) = row 0 (0 ∷ 0x20 ∷ number ∷ [])
+reply_row_of (Ok (reply.Acknowledged count)) = row 0 (count ∷ [])
+reply_row_of (Ok (reply.Rejected count code cause)) =
+    row 0 (count ∷ 0x12 ∷ code_number code ∷ cause_number cause ∷ [])
+reply_row_of (Err why) = unwritten_row_of why

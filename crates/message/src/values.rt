@@ -1,6 +1,7 @@
 //! The values of a message. Texts, key, secret, check code and data are not values: they stay in the caller's payload,
 //! and `part` returns them. PROTOCOL 7.9 to 7.16.
 ghost use Rattle.std.specs.Prelude.{◌≡◌};
+ghost use Rattle.message.specs.Messages.{command_in};
 ghost use Rattle.message.specs.Layouts.{way_number, NamesWay, code_number, NamesCode};
 
 use super::counter::{Control, Status};
@@ -131,4 +132,27 @@ pub enum Message {
     Announcement { size: u32 },
     Ready { piece: u16 },
     Piece { index: u16, total: u16 },
+}
+
+impl Message {
+    // The command of its frame.
+    pub(crate) fn command(self) -> u8
+        ensures { result ≡ command_in self }
+    {
+        match self {
+            Message::Empty { command } => command,
+            Message::Information { .. } => 0x02,
+            Message::Control { .. } | Message::Query => 0x03,
+            Message::Status { .. } => 0x04,
+            Message::Report { .. } => 0x05,
+            Message::Onboarding { .. } => 0x09,
+            Message::Network { .. } => 0x0D,
+            Message::ModuleReject { .. } => 0x11,
+            Message::BoxReject { .. } => 0x12,
+            Message::Time { .. } => 0x18,
+            Message::Announcement { .. } => 0x19,
+            Message::Ready { .. } => 0x1B,
+            Message::Piece { .. } => 0x1D,
+        }
+    }
 }

@@ -1,198 +1,214 @@
-// Writing a message as a frame: COMMAND, SIZE and FIELD, then the PAYLOAD and ROOM of the frame writer.
-// PROTOCOL 7.22 to 7.25. `opaque` is the caller's data for the message: PROTOCOL 7.24.
-ghost use Rattle.std.specs.Prelude.{◌≡◌, true, [], ◌∷◌, ◌<◌, ◌≤◌, length, eqb};
+//! Writing a message as a frame: COMMAND, SIZE and FIELD, then the PAYLOAD and ROOM of the frame writer.
+//! PROTOCOL 7.22 to 7.25. `opaque` is the caller's data for the message: PROTOCOL 7.24.
+ghost use Rattle.std.specs.Prelude.{◌≡◌, Err, true, [], ◌++◌, ◌<◌, ◌≤◌, length, eqb, ltb};
 ghost use Rattle.base.specs.Numbers.{two, four};
 ghost use Rattle.base.specs.Outcomes.{output};
-ghost use Rattle.frame.specs.Wire.{frame_limit};
+ghost use Rattle.frame.specs.Wire.{frame_limit, joined};
+ghost use Rattle.frame.specs.Calls.{write_of};
 ghost use Rattle.message.specs.Numbers.{eight};
-ghost use Rattle.message.specs.Table.{send_row_of};
-ghost use Rattle.message.specs.Counter.{status_bytes};
-ghost use Rattle.message.specs.Messages.{information_bytes, network_bytes, time_bytes};
+ghost use Rattle.message.specs.Table.{reading_of, send_row_of};
+ghost use Rattle.message.specs.Messages.{information_bytes, information_numbers, information_opaque};
+ghost use Rattle.message.specs.Messages.{network_bytes, time_bytes, unix_bytes, countable};
 ghost use Rattle.message.specs.Writing.{send_as, send_bare, send_of};
+ghost use Rattle.message.specs.declared.writer.SendError.TheVariants as unsent;
 ghost use Rattle.message.specs.declared.values.Message.TheVariants as message;
-ghost use Rattle.message.specs.declared.values.Extra.TheVariants as extra;
 
-use super::counter::{Control, Status, control_bytes, status_bytes};
+use super::counter::{control_bytes, status_bytes};
 use super::reader::{ReadError, read};
 use super::values::{Extra, Message, Network, Time};
-use base::WriteResult;
+use base::WriteError;
+use frame::Head;
 
-// The answer. A refusal leaves the caller's buffer unchanged.
-#[derive(Drop)]
-pub enum SendResult {
-    // The frame writer's answer.
-    Written { written: WriteResult },
+/// Why a message was not written. The caller's buffer is then unchanged.
+#[derive(Clone, Copy, Debug, PartialEq, Eq)]
+pub enum SendError {
+    /// COMMAND 31: a message without payload, whose command is not listed.
     Command,
+    /// SIZE 32: the message takes another size of the caller's data, or its command has a payload.
     Size,
+    /// FIELD 33: a strength above 7.
     Field,
+    /// PAYLOAD 21 or ROOM 22: the refusal of the frame writer.
+    Unwritten(WriteError),
 }
 
-// A message without the caller's data, if its values are allowed.
-fn write_bare(
-    command: u8,
-    payload: &[u8],
-    allowed: bool,
-    opaque: &[u8],
-    number: u8,
-    flags: u16,
-    out: &mut [u8],
-) -> SendResult
-    ensures { output (send_row_of result) out.new
-        ≡ send_bare frame_limit allowed command number flags opaque.now
-        payload.now out.old }
-{
-    if opaque.len() != 0 {
-        return SendResult::Size;
+impl From<WriteError> for SendError {
+    ghost from_gives = { λ why error. error ≡ unsent.Unwritten why };
+
+    fn from(why: WriteError) -> Self {
+        SendError::Unwritten(why)
     }
-    if allowed {
-        return SendResult::Written {
-            written: frame::write(command, number, flags, payload, out),
+}
+
+impl From<ReadError> for SendError {
+    ghost from_gives = { λ refusal e. send_row_of (Err e) ≡ (reading_of (Err refusal)).row };
+
+    fn from(refusal: ReadError) -> Self {
+        match refusal {
+            ReadError::Command => SendError::Command,
+            ReadError::Size => SendError::Size,
+            ReadError::Field => SendError::Field,
+        }
+    }
+}
+
+// What every message is written with: the head of its frame, and the caller's data.
+#[derive(Clone, Copy)]
+struct Outgoing<'a> {
+    head: Head,
+    opaque: &'a [u8],
+}
+
+impl Outgoing<'_> {
+    // A frame with a payload in parts.
+    fn send(self, payload: &[&[u8]], out: &mut [u8]) -> Result<usize, SendError>
+        ensures { output (send_row_of result) out.new
+            ≡ write_of frame_limit self.entry.head.command self.entry.head.number
+            self.entry.head.flags (joined payload.now) out.old }
+    {
+        Ok(frame::write_parts(self.head, payload, out)?)
+    }
+
+    // A message that takes none of the caller's data.
+    fn bare(self, payload: &[&[u8]], out: &mut [u8]) -> Result<usize, SendError>
+        ensures { output (send_row_of result) out.new
+            ≡ send_bare frame_limit true self.entry.head.command self.entry.head.number
+            self.entry.head.flags self.entry.opaque.now (joined payload.now) out.old }
+    {
+        if !self.opaque.is_empty() {
+            return Err(SendError::Size);
+        }
+        self.send(payload, out)
+    }
+
+    // A command without payload, if reading accepts it so: PROTOCOL 7.25.
+    fn empty(self, out: &mut [u8]) -> Result<usize, SendError>
+        ensures { output (send_row_of result) out.new
+            ≡ send_of frame_limit (message.Empty self.entry.head.command) self.entry.head.number
+            self.entry.head.flags self.entry.opaque.now out.old }
+    {
+        read(self.head.command, &[])?;
+        self.bare(&[], out)
+    }
+
+    // 02: timeout and attributes between texts and key, which are the first 64 bytes of the caller's data, and the
+    // secret, which is the rest of it. PROTOCOL 7.10.
+    fn between(
+        self,
+        size: usize,
+        timeout: u16,
+        attributes: &[u8],
+        out: &mut [u8],
+    ) -> Result<usize, SendError>
+        requires { 64 ≤ size }
+        ensures { output (send_row_of result) out.new
+            ≡ send_as frame_limit true (eqb (length self.entry.opaque.now) size) true
+            self.entry.head.command self.entry.head.number self.entry.head.flags
+            (information_bytes (two timeout attributes.now) self.entry.opaque.now) out.old }
+    {
+        if self.opaque.len() != size {
+            return Err(SendError::Size);
+        }
+        let (texts, secret) = self.opaque.split_at(64);
+        self.send(&[texts, &timeout.to_be_bytes(), attributes, secret], out)
+    }
+
+    // 02 in one of its three sizes: PROTOCOL 7.10.
+    fn information(self, timeout: u16, extra: Extra, out: &mut [u8]) -> Result<usize, SendError>
+        ensures { output (send_row_of result) out.new
+            ≡ send_as frame_limit true
+            (eqb (length self.entry.opaque.now) (information_opaque extra)) true
+            self.entry.head.command self.entry.head.number self.entry.head.flags
+            (information_bytes (information_numbers timeout extra) self.entry.opaque.now) out.old }
+    {
+        match extra {
+            Extra::Absent => self.between(64, timeout, &[], out),
+            Extra::Attributes { attributes } => {
+                self.between(64, timeout, &eight_bytes(attributes), out)
+            }
+            Extra::AttributesAndSecret { attributes } => {
+                self.between(96, timeout, &eight_bytes(attributes), out)
+            }
+        }
+    }
+
+    // 0D: a strength above 7 is FIELD. PROTOCOL 7.25.
+    fn network(self, network: Network, out: &mut [u8]) -> Result<usize, SendError>
+        ensures { output (send_row_of result) out.new
+            ≡ send_bare frame_limit (ltb network.strength 8) self.entry.head.command
+            self.entry.head.number self.entry.head.flags self.entry.opaque.now
+            (network_bytes network) out.old }
+    {
+        if !self.opaque.is_empty() {
+            return Err(SendError::Size);
+        }
+        if network.strength > 7 {
+            return Err(SendError::Field);
+        }
+        self.send(&[&network_bytes(network)], out)
+    }
+
+    // 18: 7 or 11 bytes. PROTOCOL 7.14.
+    fn time(self, time: Time, out: &mut [u8]) -> Result<usize, SendError>
+        ensures { output (send_row_of result) out.new
+            ≡ send_bare frame_limit true self.entry.head.command self.entry.head.number
+            self.entry.head.flags self.entry.opaque.now (time_bytes time (unix_bytes time.unix))
+            out.old }
+    {
+        let [high, low] = time.year.to_be_bytes();
+        let date = [
+            high,
+            low,
+            time.month,
+            time.day,
+            time.hour,
+            time.minute,
+            time.second,
+        ];
+        match time.unix {
+            None => self.bare(&[&date], out),
+            Some(seconds) => self.bare(&[&date, &seconds.to_be_bytes()], out),
+        }
+    }
+
+    // 19: a count of 2 bytes cannot name a longer check code. PROTOCOL 7.15, 7.24.
+    fn announcement(self, size: u32, out: &mut [u8]) -> Result<usize, SendError>
+        ensures { output (send_row_of result) out.new
+            ≡ send_as frame_limit true (countable (length self.entry.opaque.now)) true
+            self.entry.head.command self.entry.head.number self.entry.head.flags
+            (four size (two (length self.entry.opaque.now) self.entry.opaque.now)) out.old }
+    {
+        let Ok(count) = u16::try_from(self.opaque.len()) else {
+            return Err(SendError::Size);
         };
-    }
-    SendResult::Field
-}
-
-// A command without payload, if reading accepts it so: PROTOCOL 7.25.
-fn write_empty(command: u8, opaque: &[u8], number: u8, flags: u16, out: &mut [u8]) -> SendResult
-    ensures { output (send_row_of result) out.new
-        ≡ send_of frame_limit (message.Empty command) number flags opaque.now out.old }
-{
-    let none = [0u8; 0];
-    let reading = read(command, &none);
-    match reading {
-        Ok(_) => write_bare(command, &none, true, opaque, number, flags, out),
-        Err(ReadError::Command) => SendResult::Command,
-        Err(ReadError::Size) => SendResult::Size,
-        Err(ReadError::Field) => SendResult::Field,
-    }
-}
-
-// 02: timeout and attributes.
-fn attribute_bytes(timeout: u16, attributes: u64) -> [u8; 10]
-    ensures { result ≡ two timeout (eight attributes []) }
-{
-    let high = (attributes / 4294967296) as u32;
-    let low = (attributes % 4294967296) as u32;
-    [
-        (timeout / 256) as u8,
-        (timeout % 256) as u8,
-        (high / 65536 / 256) as u8,
-        (high / 65536 % 256) as u8,
-        (high % 65536 / 256) as u8,
-        (high % 65536 % 256) as u8,
-        (low / 65536 / 256) as u8,
-        (low / 65536 % 256) as u8,
-        (low % 65536 / 256) as u8,
-        (low % 65536 % 256) as u8,
-    ]
-}
-
-// 02: numbers between texts and key, which are the first 64 bytes of the caller's data, and the secret.
-fn write_between(
-    size: usize,
-    numbers: &[u8],
-    opaque: &[u8],
-    number: u8,
-    flags: u16,
-    out: &mut [u8],
-) -> SendResult
-    requires { 64 ≤ size }
-    ensures { output (send_row_of result) out.new
-        ≡ send_as frame_limit true (eqb (length opaque.now) size) true 2 number flags
-        (information_bytes numbers.now opaque.now) out.old }
-{
-    if opaque.len() != size {
-        return SendResult::Size;
-    }
-    SendResult::Written {
-        written: frame::write_chunks(
-            0x02,
-            number,
-            flags,
-            &opaque[..64],
-            numbers,
-            &opaque[64..],
+        self.send(
+            &[&size.to_be_bytes(), &count.to_be_bytes(), self.opaque],
             out,
-        ),
+        )
+    }
+
+    // 1B: the same.
+    fn ready(self, piece: u16, out: &mut [u8]) -> Result<usize, SendError>
+        ensures { output (send_row_of result) out.new
+            ≡ send_as frame_limit true (countable (length self.entry.opaque.now)) true
+            self.entry.head.command self.entry.head.number self.entry.head.flags
+            (two (length self.entry.opaque.now) (self.entry.opaque.now ++ two piece [])) out.old }
+    {
+        let Ok(count) = u16::try_from(self.opaque.len()) else {
+            return Err(SendError::Size);
+        };
+        self.send(
+            &[&count.to_be_bytes(), self.opaque, &piece.to_be_bytes()],
+            out,
+        )
     }
 }
 
-// 02 in one of its three sizes: PROTOCOL 7.10.
-fn write_information(
-    timeout: u16,
-    extra: Extra,
-    opaque: &[u8],
-    number: u8,
-    flags: u16,
-    out: &mut [u8],
-) -> SendResult
-    ensures { output (send_row_of result) out.new
-        ≡ send_of frame_limit (message.Information timeout extra) number flags opaque.now
-        out.old }
+// A number in eight bytes.
+fn eight_bytes(n: u64) -> [u8; 8]
+    ensures { result ≡ eight n [] }
 {
-    match extra {
-        Extra::Absent => {
-            let numbers = base::two_bytes(timeout);
-            write_between(64, &numbers, opaque, number, flags, out)
-        }
-        Extra::Attributes { attributes } => {
-            let numbers = attribute_bytes(timeout, attributes);
-            write_between(64, &numbers, opaque, number, flags, out)
-        }
-        Extra::AttributesAndSecret { attributes } => {
-            let numbers = attribute_bytes(timeout, attributes);
-            write_between(96, &numbers, opaque, number, flags, out)
-        }
-    }
-}
-
-// 03: a control.
-fn write_control(
-    control: Control,
-    opaque: &[u8],
-    number: u8,
-    flags: u16,
-    out: &mut [u8],
-) -> SendResult
-    ensures { output (send_row_of result) out.new
-        ≡ send_of frame_limit (message.Control control) number flags opaque.now out.old }
-{
-    let bytes = control_bytes(1, control);
-    write_bare(0x03, &bytes, true, opaque, number, flags, out)
-}
-
-// A message whose payload is one byte.
-fn write_byte(
-    command: u8,
-    byte: u8,
-    opaque: &[u8],
-    number: u8,
-    flags: u16,
-    out: &mut [u8],
-) -> SendResult
-    ensures { output (send_row_of result) out.new
-        ≡ send_bare frame_limit true command number flags opaque.now (byte ∷ []) out.old }
-{
-    let bytes = [byte];
-    write_bare(command, &bytes, true, opaque, number, flags, out)
-}
-
-// 04 and 05: a status, with the command and the payload's first byte.
-fn write_status(
-    command: u8,
-    action: u8,
-    status: Status,
-    opaque: &[u8],
-    number: u8,
-    flags: u16,
-    out: &mut [u8],
-) -> SendResult
-    ensures { output (send_row_of result) out.new
-        ≡ send_bare frame_limit true command number flags opaque.now (action ∷ status_bytes status)
-        out.old }
-{
-    let bytes = status_bytes(action, status);
-    write_bare(command, &bytes, true, opaque, number, flags, out)
+    n.to_be_bytes()
 }
 
 // 0D: the high byte first; the reserved bits are 0. PROTOCOL 7.12.
@@ -200,165 +216,54 @@ fn network_bytes(network: Network) -> [u8; 2]
     requires { network.strength < 8 }
     ensures { result ≡ network_bytes network }
 {
+    let high = network.strength + u8::from(network.app) * 8 + u8::from(network.testing) * 16;
     let low = u8::from(network.softap)
         + u8::from(network.station) * 2
         + u8::from(network.onboarding) * 4
         + u8::from(network.binding) * 8
         + u8::from(network.router) * 16
         + u8::from(network.server) * 32;
-    let high = network.strength + u8::from(network.app) * 8 + u8::from(network.testing) * 16;
     [high, low]
 }
 
-// 0D: a strength above 7 is FIELD. PROTOCOL 7.25.
-fn write_network(
-    network: Network,
+/// Writes a message as a frame at the front of the caller's buffer and returns the frame's size. Or refuses it, and
+/// the buffer is unchanged: COMMAND, SIZE, FIELD, then PAYLOAD and ROOM as `frame::write` does. `opaque` is what the
+/// message does not hold: 64 bytes of texts and key for `Information`, with a secret 96; the check code, at most 65,535
+/// bytes, for `Announcement` and `Ready`; the data for `Piece`; none for any other. PROTOCOL 7.22 to 7.25.
+#[tactic(auto, unfolding(crate::specs::Commands::table, crate::specs::Commands::profile_in))]
+pub fn write(
+    message: Message,
     opaque: &[u8],
     number: u8,
     flags: u16,
     out: &mut [u8],
-) -> SendResult
-    ensures { output (send_row_of result) out.new
-        ≡ send_of frame_limit (message.Network network) number flags opaque.now out.old }
-{
-    if 8 <= network.strength {
-        // Refused, so the payload does not matter.
-        return write_bare(0x0D, opaque, false, opaque, number, flags, out);
-    }
-    let bytes = network_bytes(network);
-    write_bare(0x0D, &bytes, true, opaque, number, flags, out)
-}
-
-// 18 without the seconds since 1970.
-fn time_bytes(time: Time) -> [u8; 7]
-    ensures { result ≡ time_bytes time [] }
-{
-    [
-        (time.year / 256) as u8,
-        (time.year % 256) as u8,
-        time.month,
-        time.day,
-        time.hour,
-        time.minute,
-        time.second,
-    ]
-}
-
-// 18 with them.
-fn time_bytes_and(time: Time, seconds: u32) -> [u8; 11]
-    ensures { result ≡ time_bytes time (four seconds []) }
-{
-    [
-        (time.year / 256) as u8,
-        (time.year % 256) as u8,
-        time.month,
-        time.day,
-        time.hour,
-        time.minute,
-        time.second,
-        (seconds / 65536 / 256) as u8,
-        (seconds / 65536 % 256) as u8,
-        (seconds % 65536 / 256) as u8,
-        (seconds % 65536 % 256) as u8,
-    ]
-}
-
-// 18: 7 or 11 bytes. PROTOCOL 7.14.
-fn write_time(time: Time, opaque: &[u8], number: u8, flags: u16, out: &mut [u8]) -> SendResult
-    ensures { output (send_row_of result) out.new
-        ≡ send_of frame_limit (message.Time time) number flags opaque.now out.old }
-{
-    let unix = time.unix;
-    match unix {
-        None => {
-            let bytes = time_bytes(time);
-            write_bare(0x18, &bytes, true, opaque, number, flags, out)
-        }
-        Some(seconds) => {
-            let bytes = time_bytes_and(time, seconds);
-            write_bare(0x18, &bytes, true, opaque, number, flags, out)
-        }
-    }
-}
-
-// 19: a count of 2 bytes cannot name a longer check code. PROTOCOL 7.15, 7.24.
-fn write_announcement(size: u32, code: &[u8], number: u8, flags: u16, out: &mut [u8]) -> SendResult
-    ensures { output (send_row_of result) out.new
-        ≡ send_of frame_limit (message.Announcement size) number flags code.now out.old }
-{
-    let count = code.len();
-    if 65535 < count {
-        return SendResult::Size;
-    }
-    let size_bytes = base::four_bytes(size);
-    let count_bytes = base::two_bytes(count as u16);
-    SendResult::Written {
-        written: frame::write_chunks(0x19, number, flags, &size_bytes, &count_bytes, code, out),
-    }
-}
-
-// 1B: the same.
-fn write_ready(piece: u16, code: &[u8], number: u8, flags: u16, out: &mut [u8]) -> SendResult
-    ensures { output (send_row_of result) out.new
-        ≡ send_of frame_limit (message.Ready piece) number flags code.now out.old }
-{
-    let count = code.len();
-    if 65535 < count {
-        return SendResult::Size;
-    }
-    let count_bytes = base::two_bytes(count as u16);
-    let size_bytes = base::two_bytes(piece);
-    SendResult::Written {
-        written: frame::write_chunks(0x1B, number, flags, &count_bytes, code, &size_bytes, out),
-    }
-}
-
-// 1D: PROTOCOL 7.16.
-fn write_piece(
-    index: u16,
-    total: u16,
-    bytes: &[u8],
-    number: u8,
-    flags: u16,
-    out: &mut [u8],
-) -> SendResult
-    ensures { output (send_row_of result) out.new
-        ≡ send_of frame_limit (message.Piece index total) number flags bytes.now out.old }
-{
-    let index_bytes = base::two_bytes(index);
-    let total_bytes = base::two_bytes(total);
-    SendResult::Written {
-        written: frame::write_chunks(0x1D, number, flags, &index_bytes, &total_bytes, bytes, out),
-    }
-}
-
-// A message as a frame at the front of the caller's buffer, or refused with the buffer unchanged.
-pub fn write(message: Message, opaque: &[u8], number: u8, flags: u16, out: &mut [u8]) -> SendResult
+) -> Result<usize, SendError>
     ensures { output (send_row_of result) out.new
         ≡ send_of frame_limit message number flags opaque.now out.old }
 {
+    let head = Head {
+        command: message.command(),
+        number,
+        flags,
+    };
+    let outgoing = Outgoing { head, opaque };
     match message {
-        Message::Empty { command } => write_empty(command, opaque, number, flags, out),
-        Message::Information { timeout, extra } => {
-            write_information(timeout, extra, opaque, number, flags, out)
+        Message::Empty { .. } => outgoing.empty(out),
+        Message::Information { timeout, extra } => outgoing.information(timeout, extra, out),
+        Message::Control { control } => outgoing.bare(&[&control_bytes(1, control)], out),
+        Message::Query => outgoing.bare(&[&[2]], out),
+        Message::Status { status } => outgoing.bare(&[&status_bytes(3, status)], out),
+        Message::Report { status } => outgoing.bare(&[&status_bytes(4, status)], out),
+        Message::Onboarding { way } => outgoing.bare(&[&[way.into()]], out),
+        Message::Network { network } => outgoing.network(network, out),
+        Message::ModuleReject { code } | Message::BoxReject { code } => {
+            outgoing.bare(&[&[code.into()]], out)
         }
-        Message::Control { control } => write_control(control, opaque, number, flags, out),
-        Message::Query => write_byte(0x03, 2, opaque, number, flags, out),
-        Message::Status { status } => write_status(0x04, 3, status, opaque, number, flags, out),
-        Message::Report { status } => write_status(0x05, 4, status, opaque, number, flags, out),
-        Message::Onboarding { way } => {
-            write_byte(0x09, u8::from(way), opaque, number, flags, out)
+        Message::Time { time } => outgoing.time(time, out),
+        Message::Announcement { size } => outgoing.announcement(size, out),
+        Message::Ready { piece } => outgoing.ready(piece, out),
+        Message::Piece { index, total } => {
+            outgoing.send(&[&index.to_be_bytes(), &total.to_be_bytes(), opaque], out)
         }
-        Message::Network { network } => write_network(network, opaque, number, flags, out),
-        Message::ModuleReject { code } => {
-            write_byte(0x11, u8::from(code), opaque, number, flags, out)
-        }
-        Message::BoxReject { code } => {
-            write_byte(0x12, u8::from(code), opaque, number, flags, out)
-        }
-        Message::Time { time } => write_time(time, opaque, number, flags, out),
-        Message::Announcement { size } => write_announcement(size, opaque, number, flags, out),
-        Message::Ready { piece } => write_ready(piece, opaque, number, flags, out),
-        Message::Piece { index, total } => { write_piece(index, total, opaque, number, flags, out) }
     }
 }
