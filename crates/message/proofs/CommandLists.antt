@@ -7,7 +7,8 @@ use lib.Dec.{eqb}
 use Rattle.base.proofs.Keys.{agree}
 use Rattle.base.proofs.Tests.{by_test, either_way, cond_same}
 use Rattle.base.specs.Keys.{among}
-use Rattle.message.specs.Commands.{TableEntry, is_box, table, unlisted, profile_in, profile_of, kind_of, from_box, owed_of}
+use Rattle.message.specs.Commands.{TableEntry, is_box, table, unlisted, profile_in, profile_of, kind_of}
+use Rattle.message.specs.Commands.{from_box, owed_of}
 use Rattle.message.specs.Layouts.{is_listed}
 use Rattle.message.specs.Owed.{handed}
 use Rattle.message.specs.CommandLists.{BoxListed, box_commands, handed_commands, empty_commands, other_commands}

@@ -32,7 +32,8 @@ way_number way.AirLink = 2
 
 -- the way with a number, or that number, where it stands for none
 abbrev pub NamesWay : ℕ → Result Way UnknownNumber → Type 0
-NamesWay n r = MatchResult r (λ w. (way_number w ≡ n) × (way_allowed n ≡ true)) (λ e. (e.0 ≡ n) × (way_allowed n ≡ false))
+NamesWay n r =
+    MatchResult r (λ w. (way_number w ≡ n) × (way_allowed n ≡ true)) (λ e. (e.0 ≡ n) × (way_allowed n ≡ false))
 
 -- 11 and 12: PROTOCOL 7.13
 abbrev pub code_allowed : ℕ → Bool

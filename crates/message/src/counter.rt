@@ -109,8 +109,8 @@ impl Status {
 }
 
 impl Control {
-    // The control in the bytes after a payload's first. FIELD where a zero bit is set, or the mode, with its flag, is 3:
-    // PROTOCOL 7.20. Without its flag a value reads as 0: PROTOCOL 7.18.
+    // The control in the bytes after a payload's first. FIELD where a zero bit is set, or the mode, with its flag, is
+    // 3: PROTOCOL 7.20. Without its flag a value reads as 0: PROTOCOL 7.18.
     pub(crate) fn read(bytes: &[u8]) -> Result<Self, ReadError>
         ensures { Found control_in (length bytes.now == 4) (control_allowed bytes.now)
             (control_values bytes.now) result }

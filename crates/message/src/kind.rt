@@ -92,19 +92,35 @@ pub(crate) fn profile_of(command: u8) -> Profile
     match command {
         0x01 => entry(Kind::Empty, Sender::Module, Owed::AskInformation),
         0x02 => entry(Kind::Information, Sender::Box, Owed::Nothing),
-        0x03 => entry(Kind::Action, Sender::Module, Owed::Acknowledge { command: 0x04 }),
+        0x03 => entry(
+            Kind::Action,
+            Sender::Module,
+            Owed::Acknowledge { command: 0x04 },
+        ),
         0x04 => entry(Kind::Status, Sender::Box, Owed::Nothing),
         0x05 => entry(Kind::Report, Sender::Box, Owed::Nothing),
         0x06 | 0x0A | 0x0C | 0x14 | 0x16 | 0x1C | 0x28 | 0x2A => {
             entry(Kind::Empty, Sender::Module, Owed::Nothing)
         }
-        0x07 => entry(Kind::Empty, Sender::Module, Owed::Acknowledge { command: 0x08 }),
+        0x07 => entry(
+            Kind::Empty,
+            Sender::Module,
+            Owed::Acknowledge { command: 0x08 },
+        ),
         0x08 | 0x0B | 0x0E | 0x10 | 0x13 | 0x15 | 0x17 | 0x1A | 0x1E | 0x20 | 0x27 | 0x29 => {
             entry(Kind::Empty, Sender::Box, Owed::Nothing)
         }
         0x09 => entry(Kind::Onboarding, Sender::Box, Owed::Nothing),
-        0x0D => entry(Kind::Network, Sender::Module, Owed::Acknowledge { command: 0x0E }),
-        0x0F => entry(Kind::Empty, Sender::Module, Owed::Acknowledge { command: 0x10 }),
+        0x0D => entry(
+            Kind::Network,
+            Sender::Module,
+            Owed::Acknowledge { command: 0x0E },
+        ),
+        0x0F => entry(
+            Kind::Empty,
+            Sender::Module,
+            Owed::Acknowledge { command: 0x10 },
+        ),
         0x11 => entry(Kind::ModuleReject, Sender::Module, Owed::Nothing),
         0x12 => entry(Kind::BoxReject, Sender::Box, Owed::Nothing),
         0x18 => entry(Kind::Time, Sender::Module, Owed::Nothing),

@@ -3,15 +3,16 @@
 ghost use Rattle.std.specs.Prelude.{◌≡◌};
 ghost use Rattle.message.specs.Parts.{texts_and, PartAt};
 
-/// The place of a part in the payload: its first byte and its size. Both are 0 where the message does not have the part.
+/// The place of a part in the payload: its first byte and its size. Both are 0 where the message does not have the
+/// part.
 #[derive(Clone, Copy, Debug, Default, PartialEq, Eq)]
 pub struct Place {
     pub start: usize,
     pub size: usize,
 }
 
-/// The places of the versions (of serial protocol, product's protocol, hardware, software), the product key, the secret,
-/// a check code, and a piece's data. `Parts::default()` are those of a message without parts.
+/// The places of the versions (of serial protocol, product's protocol, hardware, software), the product key, the
+/// secret, a check code, and a piece's data. `Parts::default()` has those of a message without parts.
 #[derive(Clone, Copy, Debug, Default, PartialEq, Eq)]
 pub struct Parts {
     pub serial: Place,

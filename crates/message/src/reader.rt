@@ -13,10 +13,9 @@
 //!   19   0 size  4 count n  6 check code  6 + n
 //!   1B   0 count n  2 check code  2 + n piece size  4 + n
 //!   1D   0 index  2 total  4 data
-#![tactic(auto, unfolding(base::specs::Keys::among, crate::specs::Layouts::fits, crate::specs::Layouts::size_fits))]
+#![tactic(auto, using(crate::proofs::Decoding::decode_sole), unfolding(base::specs::Keys::among, crate::specs::Layouts::fits, crate::specs::Layouts::size_fits))]
 
 ghost use Rattle.std.specs.Prelude.{◌≡◌, ◌==◌, ◌∷◌, [], length, get_or};
-
 ghost use Rattle.message.specs.Reading.{decode_as, decode_of, Found};
 ghost use Rattle.message.specs.Layouts.{code_number, code_allowed};
 ghost use Rattle.message.specs.Parts.{no_parts};
@@ -149,10 +148,10 @@ fn read_report(payload: &[u8]) -> Result<Reading, ReadError>
 fn read_onboarding(payload: &[u8]) -> Result<Reading, ReadError>
     ensures { reading_of result ≡ decode_as kind.Onboarding 0x09 payload.now }
 {
-    let &[byte] = payload else {
+    let &[way] = payload else {
         return Err(ReadError::Size);
     };
-    let way = Way::try_from(byte)?;
+    let way = Way::try_from(way)?;
     Ok(Message::Onboarding { way }.into())
 }
 
@@ -183,10 +182,10 @@ fn read_code(payload: &[u8]) -> Result<Code, ReadError>
     ensures { Found (λ code. code_number code ∷ []) (length payload.now == 1) (code_allowed (get_or payload.now 0 0))
         (get_or payload.now 0 0 ∷ []) result }
 {
-    let &[byte] = payload else {
+    let &[code] = payload else {
         return Err(ReadError::Size);
     };
-    Ok(Code::try_from(byte)?)
+    Ok(Code::try_from(code)?)
 }
 
 // 18: 7 or 11 bytes. PROTOCOL 7.14.
@@ -239,10 +238,9 @@ fn read_ready(payload: &[u8]) -> Result<Reading, ReadError>
     if payload.len() != 4 + count {
         return Err(ReadError::Size);
     }
+    let piece = base::two_at(payload, 2 + count);
     Ok(Reading {
-        message: Message::Ready {
-            piece: base::two_at(payload, 2 + count),
-        },
+        message: Message::Ready { piece },
         parts: Parts {
             code: Place {
                 start: 2,
@@ -276,7 +274,6 @@ fn read_piece(payload: &[u8]) -> Result<Reading, ReadError>
 }
 
 /// The message of a command and a payload, with the places of its parts, or the refusal.
-#[tactic(auto, using(crate::proofs::Decoding::decode_sole), unfolding(base::specs::Keys::among, crate::specs::Layouts::fits, crate::specs::Layouts::size_fits))]
 pub fn read(command: u8, payload: &[u8]) -> Result<Reading, ReadError>
     ensures { reading_of result ≡ decode_of command payload.now }
 {
