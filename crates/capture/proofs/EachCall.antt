@@ -6,6 +6,8 @@ use mathlib.Core.List.{List, [], ◌∷◌, ◌++◌}
 use native.Mathlib.Omega.{arith}
 use borrow.Author.Tests.{lt-ltb, le-ltb, lt-leb, ne_eqb, eq-eqb}
 use lib.ListN.{length, get_or, length-append, get_or-append, get_or-eq_default}
+use mathlib.Core.Bool.{cond}
+use Rattle.std.specs.Prelude.{Result, Ok, Err}
 use lib.Dec.{eqb, ltb}
 use Rattle.base.specs.Rows.{Row, row}
 use Rattle.base.specs.Outcomes.{Outcome, outcome, Output, output, placed}
@@ -16,16 +18,18 @@ use Rattle.capture.specs.Format.{mark, head, direction_of, milliseconds_of, size
 use Rattle.capture.specs.Captures.{Begins}
 use Rattle.capture.specs.Reading.{next_of, end_in, end_of}
 use Rattle.capture.specs.Windows.{count_of}
-use Rattle.capture.specs.Table.{next_row_of, end_row_of}
+use Rattle.capture.specs.Table.{taken_number, next_row_of, end_row_of}
 use Rattle.capture.specs.EachCall.{RowsInjective, OutOfRange, CursorRanges, CountsWithin, EachNextAlways}
 use Rattle.capture.specs.EachCall.{EachFinishAlways, MoreLater, WritesExactly, AllAnswerRows, WindowEnough}
-use Rattle.capture.specs.EachCall.{CursorKept, HeadAsked, RecordAsked}
-use Rattle.capture.specs.declared.reading.EndResult.{EndResult}
-use Rattle.capture.specs.declared.reading.EndResult.TheVariants as end
-use Rattle.capture.specs.declared.reading.NextResult.{NextResult}
-use Rattle.capture.specs.declared.reading.NextResult.TheVariants as next
+use Rattle.capture.specs.EachCall.{CursorKept, HeadAsked, RecordAsked, of_record}
+use Rattle.capture.specs.declared.reading.Ending.{Ending}
+use Rattle.capture.specs.declared.reading.Ending.TheVariants as end
+use Rattle.capture.specs.declared.reading.NextError.{NextError}
+use Rattle.capture.specs.declared.reading.NextError.TheVariants as error
 use Rattle.capture.specs.declared.reading.Refusal.{Refusal}
 use Rattle.capture.specs.declared.reading.Refusal.TheVariants as refusal
+use Rattle.capture.specs.declared.reading.Taken.{Taken}
+use Rattle.capture.specs.declared.reading.Taken.TheVariants as taken
 use Rattle.capture.specs.declared.record.Direction.{Direction}
 use Rattle.capture.specs.declared.record.Direction.TheVariants as direction
 use Rattle.capture.proofs.Agreeing.{Differs, differs_later, same_later}
@@ -46,38 +50,42 @@ direction_from (suc n) = direction.FromBox
 abbrev refusal_from : Row → Refusal
 refusal_from r = under r 51 refusal.Mark (under r 52 refusal.Version (under r 53 refusal.Direction refusal.Ended))
 
-abbrev next_from : Row → NextResult
+abbrev error_from : Row → NextError
+error_from r = under r 17 error.State (under r 18 error.Used (error.Refused (refusal_from r) (value r 0)))
+
+abbrev next_from : Row → Result Taken NextError
 next_from r =
-    under r 0 (next.More (value r 0))
-    (under r 1 (next.Record (value r 0) (direction_from (value r 1)) (value r 2))
-    (under r 17 next.State (under r 18 next.Used (next.Refused (refusal_from r) (value r 0)))))
+    under r 0 (cond (eqb (value r 0) 0) (Ok taken.Lacking) (Ok taken.Head))
+    (under r 1 (Ok (of_record (value r 0) (direction_from (value r 1)) (value r 2))) (Err (error_from r)))
 
-next_back : (a : NextResult) → next_from (next_row_of a) ≡ a
-next_back (next.More count) = refl
-next_back (next.Record count direction.FromModule milliseconds) = refl
-next_back (next.Record count direction.FromBox milliseconds) = refl
-next_back (next.Refused refusal.Mark place) = refl
-next_back (next.Refused refusal.Version place) = refl
-next_back (next.Refused refusal.Direction place) = refl
-next_back (next.Refused refusal.Ended place) = refl
-next_back next.State = refl
-next_back next.Used = refl
+record_back : (count : ℕ) (d : Direction) (time : ℕ)
+    → next_from (next_row_of (Ok (of_record count d time))) ≡ Ok (of_record count d time)
+record_back count direction.FromModule time = refl
+record_back count direction.FromBox time = refl
 
-abbrev end_from : Row → EndResult
-end_from r =
-    under r 0 end.More
-    (under r 2 (end.Whole (value r 0))
-    (under r 17 end.State (under r 18 end.Used (end.Refused (refusal_from r) (value r 0)))))
+next_back : (a : Result Taken NextError) → next_from (next_row_of a) ≡ a
+next_back (Ok taken.Lacking) = refl
+next_back (Ok taken.Head) = refl
+next_back (Ok (taken.Record r)) = record_back r.count r.direction r.milliseconds
+next_back (Err (error.Refused refusal.Mark place)) = refl
+next_back (Err (error.Refused refusal.Version place)) = refl
+next_back (Err (error.Refused refusal.Direction place)) = refl
+next_back (Err (error.Refused refusal.Ended place)) = refl
+next_back (Err error.State) = refl
+next_back (Err error.Used) = refl
 
-end_back : (a : EndResult) → end_from (end_row_of a) ≡ a
-end_back end.More = refl
-end_back (end.Whole place) = refl
-end_back (end.Refused refusal.Mark place) = refl
-end_back (end.Refused refusal.Version place) = refl
-end_back (end.Refused refusal.Direction place) = refl
-end_back (end.Refused refusal.Ended place) = refl
-end_back end.State = refl
-end_back end.Used = refl
+abbrev end_from : Row → Result Ending NextError
+end_from r = under r 0 (Ok end.More) (under r 2 (Ok (end.Whole (value r 0))) (Err (error_from r)))
+
+end_back : (a : Result Ending NextError) → end_from (end_row_of a) ≡ a
+end_back (Ok end.More) = refl
+end_back (Ok (end.Whole place)) = refl
+end_back (Err (error.Refused refusal.Mark place)) = refl
+end_back (Err (error.Refused refusal.Version place)) = refl
+end_back (Err (error.Refused refusal.Direction place)) = refl
+end_back (Err (error.Refused refusal.Ended place)) = refl
+end_back (Err error.State) = refl
+end_back (Err error.Used) = refl
 
 pub rows_injective : RowsInjective
 rows_injective =
@@ -257,10 +265,16 @@ record_asked d t p =
 
 -- ---- answer_rows
 
+count_said : (t : Taken) → taken_number t ≡ count_of (next_row_of (Ok t))
+count_said taken.Lacking = refl
+count_said taken.Head = refl
+count_said (taken.Record r) = refl
+
 pub answer_rows : AllAnswerRows
-answer_rows count place t =
+answer_rows count place r c =
     record {
-      more = refl;
+      lacking = refl;
+      head = refl;
       module_record = λ time. refl;
       box_record = λ time. refl;
       refused = λ r. refl;
@@ -268,6 +282,7 @@ answer_rows count place t =
       used = refl;
       taken_row = refl;
       taken_place = refl;
+      taken_count = count_said;
       end_more = refl;
       end_whole = refl;
       end_refused = λ r. refl;

@@ -1,48 +1,63 @@
 -- Claims: what each call answers, and exactly when. PROTOCOL 13.4 to 13.12, 6.12.
 use Rattle.std.specs.Prelude.{ℕ, ◌+◌, ◌≤◌, ◌<◌, ◌≡◌, ◌≢◌, ◌⊎◌, List, [], ◌∷◌, ◌++◌, length, get_or, take, drop}
+use Rattle.std.specs.Prelude.{Result, Ok, Err}
 use Rattle.base.specs.Asking.{AsksOnce}
 use Rattle.base.specs.Rows.{row}
 use Rattle.base.specs.Outcomes.{outcome, output}
 use Rattle.capture.specs.Format.{head, direction_of, milliseconds_of, size_of, IsRecord, record_bytes}
 use Rattle.capture.specs.Format.{head_write_of, record_write_of}
-use Rattle.capture.specs.Table.{refusal_number, next_row_of, taken_of, end_row_of}
+use Rattle.capture.specs.Table.{refusal_number, taken_number, next_row_of, taken_of, end_row_of}
 use Rattle.capture.specs.Captures.{Begins}
 use Rattle.capture.specs.Reading.{next_of, end_of}
 use Rattle.capture.specs.Windows.{count_of}
-use Rattle.capture.specs.declared.reading.EndResult.{EndResult}
-use Rattle.capture.specs.declared.reading.EndResult.TheVariants as end
-use Rattle.capture.specs.declared.reading.NextResult.{NextResult}
-use Rattle.capture.specs.declared.reading.NextResult.TheVariants as next
+use Rattle.capture.specs.declared.reading.Cursor.{Cursor}
+use Rattle.capture.specs.declared.reading.Ending.{Ending}
+use Rattle.capture.specs.declared.reading.Ending.TheVariants as end
+use Rattle.capture.specs.declared.reading.NextError.{NextError}
+use Rattle.capture.specs.declared.reading.NextError.TheVariants as error
+use Rattle.capture.specs.declared.reading.Record.{Record}
 use Rattle.capture.specs.declared.reading.Refusal.{Refusal}
 use Rattle.capture.specs.declared.reading.Taken.{Taken}
+use Rattle.capture.specs.declared.reading.Taken.TheVariants as taken
+use Rattle.capture.specs.declared.record.Direction.{Direction}
 use Rattle.capture.specs.declared.record.Direction.TheVariants as direction
 
 -- ---- rows_injective: two answers never have the same number and values
 pub record RowsInjective : Type 0 where
-  pub nexts : (a b : NextResult) → next_row_of a ≡ next_row_of b → a ≡ b
-  pub ends : (a b : EndResult) → end_row_of a ≡ end_row_of b → a ≡ b
+  pub nexts : (a b : Result Taken NextError) → next_row_of a ≡ next_row_of b → a ≡ b
+  pub ends : (a b : Result Ending NextError) → end_row_of a ≡ end_row_of b → a ≡ b
 
 -- ---- answer_rows: the number and the values of each answer, and what a contract says of the cursor: PROTOCOL 13.10
-pub record AnswerRows (count place : ℕ) (t : Taken) : Type 0 where
-  pub more : next_row_of (next.More count) ≡ row 0 (count ∷ [])
+
+-- a record that was taken
+abbrev pub of_record : ℕ → Direction → ℕ → Taken
+of_record count d time = taken.Record (record { count = count; direction = d; milliseconds = time })
+
+-- of a count, a place, and what a call of `next` returns and leaves
+pub record AnswerRows (count place : ℕ) (r : Result Taken NextError) (c : Cursor) : Type 0 where
+  pub lacking : next_row_of (Ok taken.Lacking) ≡ row 0 (0 ∷ [])
+  pub head : next_row_of (Ok taken.Head) ≡ row 0 (5 ∷ [])
   pub module_record : (time : ℕ)
-      → next_row_of (next.Record count direction.FromModule time) ≡ row 1 (count ∷ 0 ∷ time ∷ [])
-  pub box_record : (time : ℕ) → next_row_of (next.Record count direction.FromBox time) ≡ row 1 (count ∷ 1 ∷ time ∷ [])
+      → next_row_of (Ok (of_record count direction.FromModule time)) ≡ row 1 (count ∷ 0 ∷ time ∷ [])
+  pub box_record : (time : ℕ)
+      → next_row_of (Ok (of_record count direction.FromBox time)) ≡ row 1 (count ∷ 1 ∷ time ∷ [])
   -- `numbers` has the numbers of refusals
-  pub refused : (r : Refusal) → next_row_of (next.Refused r place) ≡ row (refusal_number r) (place ∷ [])
-  pub state : next_row_of next.State ≡ row 17 (0 ∷ [])
-  pub used : next_row_of next.Used ≡ row 18 (0 ∷ [])
-  pub taken_row : (taken_of t).row ≡ next_row_of t.answer
-  pub taken_place : (taken_of t).state ≡ t.cursor.place
-  pub end_more : end_row_of end.More ≡ row 0 (0 ∷ [])
-  pub end_whole : end_row_of (end.Whole place) ≡ row 2 (place ∷ [])
-  pub end_refused : (r : Refusal) → end_row_of (end.Refused r place) ≡ row (refusal_number r) (place ∷ [])
-  pub end_state : end_row_of end.State ≡ row 17 (0 ∷ [])
-  pub end_used : end_row_of end.Used ≡ row 18 (0 ∷ [])
+  pub refused : (r : Refusal) → next_row_of (Err (error.Refused r place)) ≡ row (refusal_number r) (place ∷ [])
+  pub state : next_row_of (Err error.State) ≡ row 17 (0 ∷ [])
+  pub used : next_row_of (Err error.Used) ≡ row 18 (0 ∷ [])
+  pub taken_row : (taken_of r c).row ≡ next_row_of r
+  pub taken_place : (taken_of r c).state ≡ c.place
+  -- what is said to be taken is what the row says
+  pub taken_count : (t : Taken) → taken_number t ≡ count_of (next_row_of (Ok t))
+  pub end_more : end_row_of (Ok end.More) ≡ row 0 (0 ∷ [])
+  pub end_whole : end_row_of (Ok (end.Whole place)) ≡ row 2 (place ∷ [])
+  pub end_refused : (r : Refusal) → end_row_of (Err (error.Refused r place)) ≡ row (refusal_number r) (place ∷ [])
+  pub end_state : end_row_of (Err error.State) ≡ row 17 (0 ∷ [])
+  pub end_used : end_row_of (Err error.Used) ≡ row 18 (0 ∷ [])
 
 -- of all values
 abbrev pub AllAnswerRows : Type 0
-AllAnswerRows = (count place : ℕ) (t : Taken) → AnswerRows count place t
+AllAnswerRows = (count place : ℕ) (r : Result Taken NextError) (c : Cursor) → AnswerRows count place r c
 
 -- ---- cursor_ranges: STATE exactly when the place is 1 to 4 or beyond 2^62, before all others, in both calls; USED
 -- exactly when a cursor in range is offered bytes beyond 2^62; nothing is taken: PROTOCOL 13.9

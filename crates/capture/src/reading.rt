@@ -1,22 +1,21 @@
-// A capture read from the front of what is left of it, one record to a call. PROTOCOL 13.4 to 13.10.
+//! A capture read from the front of what is left of it, one record to a call. PROTOCOL 13.4 to 13.10.
 ghost use Rattle.std.specs.Prelude.{◌≡◌, ◌+◌, ◌^◌, ◌≤◌, length};
-ghost use Rattle.capture.specs.Table.{direction_number, refusal_number, taken_of, end_row_of};
-ghost use Rattle.capture.specs.Reading.{agrees, in_range_of, head_of, record_in, record_of, next_of, lacking_of};
-ghost use Rattle.capture.specs.Reading.{end_of};
+ghost use Rattle.capture.specs.Table.{refusal_number, taken_number, taken_of, end_row_of};
+ghost use Rattle.capture.specs.Reading.{agrees, in_range_of, head_of, record_of, next_of, lacking_of, end_of};
 
-use super::record::{Direction, size};
+use crate::record::{Direction, size};
 
 // No more bytes are read from one capture: PROTOCOL 13.9.
-const MAX_PLACE: u64 = 4611686018427387904;
+const MAX_PLACE: u64 = 1 << 62;
 
-// How far a capture is read: the place after the last byte taken. 0 where its head is not taken yet.
-#[derive(Clone, Copy)]
+/// How far a capture is read: the place after the last byte taken. 0 where its head is not taken yet.
+#[derive(Clone, Copy, Debug, PartialEq, Eq)]
 pub struct Cursor {
     pub place: u64,
 }
 
-// Why a capture is refused: PROTOCOL 13.5 to 13.8.
-#[derive(Clone, Copy)]
+/// Why a capture is refused: PROTOCOL 13.5 to 13.8.
+#[derive(Clone, Copy, Debug, PartialEq, Eq)]
 pub enum Refusal {
     Mark,
     Version,
@@ -24,52 +23,46 @@ pub enum Refusal {
     Ended,
 }
 
-// The answers to `next`. MORE with a count took the capture's head; with 0, bytes are lacking.
-#[derive(Drop)]
-pub enum NextResult {
-    More {
-        count: usize,
-    },
-    Record {
-        count: usize,
-        direction: Direction,
-        milliseconds: u32,
-    },
-    Refused {
-        refusal: Refusal,
-        place: u64,
-    },
-    State,
-    Used,
+/// A record at the front of what was offered. `count` is the size of all of it; `payload` has its bytes.
+#[derive(Clone, Copy, Debug, PartialEq, Eq)]
+pub struct Record {
+    pub count: usize,
+    pub direction: Direction,
+    pub milliseconds: u32,
 }
 
-#[derive(Drop)]
-pub struct Taken {
-    pub answer: NextResult,
-    pub cursor: Cursor,
+/// What `next` took.
+#[derive(Clone, Copy, Debug, PartialEq, Eq)]
+pub enum Taken {
+    /// Nothing: bytes are lacking.
+    Lacking,
+    /// The capture's head.
+    Head,
+    Record(Record),
 }
 
-// The answers to `finish`. MORE says that `next` has something to take.
-#[derive(Drop)]
-pub enum EndResult {
-    More,
-    Whole { place: u64 },
+/// Why a call takes nothing, and leaves the cursor as it was.
+#[derive(Clone, Copy, Debug, PartialEq, Eq)]
+pub enum NextError {
+    /// A byte at this place refuses the capture, or the capture ends there.
     Refused { refusal: Refusal, place: u64 },
+    /// STATE 17: the cursor is out of its range.
     State,
+    /// USED 18: with these bytes the capture would be longer than 2^62.
     Used,
 }
 
-impl Cursor {
-    // At the beginning of a capture.
-    pub fn new() -> Self
-        ensures { result.place ≡ 0 }
-    {
-        Cursor { place: 0 }
-    }
+/// What a capture is that ends where `finish` was called.
+#[derive(Clone, Copy, Debug, PartialEq, Eq)]
+pub enum Ending {
+    /// `next` has something to take.
+    More,
+    /// The capture is whole, and this is its end.
+    Whole { place: u64 },
 }
 
 impl Refusal {
-    // Its number, as it is printed.
+    /// Its number, as it is printed.
     pub fn number(self) -> u8
         ensures { result ≡ refusal_number self }
     {
@@ -82,170 +75,129 @@ impl Refusal {
     }
 }
 
-// At the beginning, or after the head.
-fn in_range(cursor: Cursor) -> bool
-    ensures { result ≡ in_range_of cursor.place }
-{
-    if cursor.place == 0 {
-        return true;
+impl Taken {
+    /// How many bytes were taken.
+    pub fn count(self) -> usize
+        ensures { result ≡ taken_number self }
+    {
+        match self {
+            Taken::Lacking => 0,
+            Taken::Head => 5,
+            Taken::Record(record) => record.count,
+        }
     }
-    if cursor.place < 5 {
-        return false;
-    }
-    cursor.place <= MAX_PLACE
 }
 
 // Whether some bytes are as wanted, as far as both go.
+#[tactic(auto, using(crate::proofs::ReadingLaws::fronts_agree))]
 fn agree(wanted: &[u8], bytes: &[u8]) -> bool
     ensures { result ≡ agrees wanted.now bytes.now }
 {
-    let count = base::min(wanted.len(), bytes.len());
-    let mut i = 0;
-    while i < count {
-        if wanted[i] != bytes[i] {
-            return false;
-        }
-        i += 1;
-    }
-    true
+    let count = wanted.len().min(bytes.len());
+    wanted[..count] == bytes[..count]
 }
 
-// The head, at the front of a capture. Each byte that is there is tested.
-fn next_head(bytes: &[u8]) -> Taken
-    ensures { taken_of result ≡ head_of bytes.now }
-{
-    let cursor = Cursor { place: 0 };
-    if !agree(b"LFT", bytes) {
-        let answer = NextResult::Refused {
-            refusal: Refusal::Mark,
-            place: 0,
-        };
-        return Taken { answer, cursor };
+impl Cursor {
+    /// At the beginning of a capture.
+    pub fn new() -> Self
+        ensures { result.place ≡ 0 }
+    {
+        Cursor { place: 0 }
     }
-    if !agree(b"LFT\x00\x01", bytes) {
-        let answer = NextResult::Refused {
-            refusal: Refusal::Version,
-            place: 3,
-        };
-        return Taken { answer, cursor };
-    }
-    if bytes.len() < 5 {
-        let answer = NextResult::More { count: 0 };
-        return Taken { answer, cursor };
-    }
-    Taken {
-        answer: NextResult::More { count: 5 },
-        cursor: Cursor { place: 5 },
-    }
-}
 
-// A record of this direction, if all of it is there.
-fn take_record(cursor: Cursor, direction: Direction, bytes: &[u8]) -> Taken
-    requires { cursor.place + length bytes.now ≤ 2 ^ 62 }
-    ensures { taken_of result ≡ record_in (direction_number direction) cursor.place bytes.now }
-{
-    let count = size(bytes);
-    if bytes.len() < count {
-        let answer = NextResult::More { count: 0 };
-        return Taken { answer, cursor };
+    /// At the beginning, or after the head: every other place is STATE.
+    pub fn is_in_range(&self) -> bool
+        ensures { result ≡ in_range_of self.now.place }
+    {
+        self.place == 0 || (5..=MAX_PLACE).contains(&self.place)
     }
-    let milliseconds = base::four_at(bytes, 1);
-    Taken {
-        answer: NextResult::Record {
-            count,
-            direction,
-            milliseconds,
-        },
-        cursor: Cursor {
-            place: cursor.place + count as u64,
-        },
-    }
-}
 
-// A record, at the front of what is left. Its first byte is tested as soon as it is there.
-fn next_record(cursor: Cursor, bytes: &[u8]) -> Taken
-    requires { cursor.place + length bytes.now ≤ 2 ^ 62 }
-    ensures { taken_of result ≡ record_of cursor.place bytes.now }
-{
-    let first = base::byte_at(bytes, 0);
-    if first == 0 {
-        return take_record(cursor, Direction::FromModule, bytes);
-    }
-    if first == 1 {
-        return take_record(cursor, Direction::FromBox, bytes);
-    }
-    let answer = NextResult::Refused {
-        refusal: Refusal::Direction,
-        place: cursor.place,
-    };
-    Taken { answer, cursor }
-}
-
-// Takes the head or one record from the front of what is left of a capture. Bytes that are not taken come again, with
-// more after them.
-pub fn next(cursor: Cursor, bytes: &[u8]) -> Taken
-    ensures { taken_of result ≡ next_of cursor.place bytes.now }
-{
-    if !in_range(cursor) {
-        let answer = NextResult::State;
-        return Taken { answer, cursor };
-    }
-    if MAX_PLACE - cursor.place < bytes.len() as u64 {
-        let answer = NextResult::Used;
-        return Taken { answer, cursor };
-    }
-    if cursor.place == 0 {
-        return next_head(bytes);
-    }
-    next_record(cursor, bytes)
-}
-
-// What is lacking where a capture ends and nothing can be taken.
-fn lacking(cursor: Cursor, bytes: &[u8]) -> EndResult
-    ensures { end_row_of result ≡ lacking_of cursor.place bytes.now }
-{
-    let place = cursor.place;
-    if place == 0 {
-        if bytes.len() < 3 {
-            return EndResult::Refused {
+    // The head, at the front of a capture. Each byte that is there is tested.
+    fn next_head(&mut self, bytes: &[u8]) -> Result<Taken, NextError>
+        requires { self.old.place ≡ 0 }
+        ensures { taken_of result self.new ≡ head_of bytes.now }
+    {
+        if !agree(b"LFT", bytes) {
+            return Err(NextError::Refused {
                 refusal: Refusal::Mark,
                 place: 0,
-            };
+            });
         }
-        return EndResult::Refused {
-            refusal: Refusal::Version,
-            place: 3,
-        };
+        if !agree(b"LFT\x00\x01", bytes) {
+            return Err(NextError::Refused {
+                refusal: Refusal::Version,
+                place: 3,
+            });
+        }
+        if bytes.len() < 5 {
+            return Ok(Taken::Lacking);
+        }
+        self.place = 5;
+        Ok(Taken::Head)
     }
-    if bytes.len() == 0 {
-        return EndResult::Whole { place };
-    }
-    EndResult::Refused {
-        refusal: Refusal::Ended,
-        place,
-    }
-}
 
-// Says what a capture is that ends after these bytes, which are all that is left of it.
-pub fn finish(cursor: Cursor, bytes: &[u8]) -> EndResult
-    ensures { end_row_of result ≡ end_of cursor.place bytes.now }
-{
-    let taken = next(cursor, bytes);
-    let answer = taken.answer;
-    match answer {
-        NextResult::More { count } => {
-            if count == 0 {
-                return lacking(cursor, bytes);
-            }
-            EndResult::More
+    // A record, at the front of what is left. Its first byte is tested as soon as it is there, and it is taken when
+    // all of it is.
+    fn next_record(&mut self, bytes: &[u8]) -> Result<Taken, NextError>
+        requires { self.old.place + length bytes.now ≤ 2 ^ 62 }
+        ensures { taken_of result self.new ≡ record_of self.old.place bytes.now }
+    {
+        let Ok(direction) = Direction::try_from(base::byte_at(bytes, 0)) else {
+            return Err(NextError::Refused {
+                refusal: Refusal::Direction,
+                place: self.place,
+            });
+        };
+        let count = size(bytes);
+        if bytes.len() < count {
+            return Ok(Taken::Lacking);
         }
-        NextResult::Record {
-            count: _,
-            direction: _,
-            milliseconds: _,
-        } => EndResult::More,
-        NextResult::Refused { refusal, place } => EndResult::Refused { refusal, place },
-        NextResult::State => EndResult::State,
-        NextResult::Used => EndResult::Used,
+        self.place += count as u64;
+        Ok(Taken::Record(Record {
+            count,
+            direction,
+            milliseconds: base::four_at(bytes, 1),
+        }))
+    }
+
+    /// Takes the head or one record from the front of what is left of a capture. Bytes that are not taken come again,
+    /// with more after them.
+    pub fn next(&mut self, bytes: &[u8]) -> Result<Taken, NextError>
+        ensures { taken_of result self.new ≡ next_of self.old.place bytes.now }
+    {
+        if !self.is_in_range() {
+            return Err(NextError::State);
+        }
+        if MAX_PLACE - self.place < bytes.len() as u64 {
+            return Err(NextError::Used);
+        }
+        if self.place == 0 {
+            return self.next_head(bytes);
+        }
+        self.next_record(bytes)
+    }
+
+    // What is lacking where a capture ends and nothing can be taken.
+    fn lacking(&self, bytes: &[u8]) -> Result<Ending, NextError>
+        ensures { end_row_of result ≡ lacking_of self.now.place bytes.now }
+    {
+        let (refusal, place) = match (self.place, bytes.len()) {
+            (0, 0..=2) => (Refusal::Mark, 0),
+            (0, _) => (Refusal::Version, 3),
+            (place, 0) => return Ok(Ending::Whole { place }),
+            (place, _) => (Refusal::Ended, place),
+        };
+        Err(NextError::Refused { refusal, place })
+    }
+
+    /// Says what a capture is that ends after these bytes, which are all that is left of it.
+    pub fn finish(&self, bytes: &[u8]) -> Result<Ending, NextError>
+        ensures { end_row_of result ≡ end_of self.now.place bytes.now }
+    {
+        let mut ahead = *self;
+        match ahead.next(bytes)? {
+            Taken::Lacking => self.lacking(bytes),
+            Taken::Head | Taken::Record(_) => Ok(Ending::More),
+        }
     }
 }

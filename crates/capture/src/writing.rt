@@ -1,22 +1,22 @@
-// A capture written, so that a recorder can make one: its head, and then record after record. PROTOCOL 13.11, 13.12.
+//! A capture written, so that a recorder can make one: its head, and then record after record. PROTOCOL 13.11, 13.12.
 ghost use Rattle.base.specs.Writes.{Writes};
 ghost use Rattle.capture.specs.Format.{head_write_of, record_write_of};
 ghost use Rattle.capture.specs.Table.{direction_number};
 
-use super::record::{Direction, direction_byte};
+use crate::record::Direction;
 use base::{Unwritten, WriteResult};
 
 // A record's count has two bytes: PROTOCOL 13.3.
 const MAX_PAYLOAD: usize = 65535;
 
-// The head: what a capture begins with.
+/// The head: what a capture begins with. ROOM with 5 where the output is shorter.
 pub fn write_head(out: &mut [u8]) -> WriteResult
     ensures { Writes result out.new (head_write_of out.old) }
 {
     base::write_both(b"LFT\x00\x01", b"", out)
 }
 
-// A record of some bytes.
+/// A record of some bytes. PAYLOAD above 65,535 of them; then ROOM with the size of the record, 7 bytes more.
 pub fn write_record(
     direction: Direction,
     milliseconds: u32,
@@ -31,16 +31,7 @@ pub fn write_record(
             why: Unwritten::Payload,
         };
     }
-    let time = base::four_bytes(milliseconds);
-    let count = base::two_bytes(payload.len() as u16);
-    let head = [
-        direction_byte(direction),
-        time[0],
-        time[1],
-        time[2],
-        time[3],
-        count[0],
-        count[1],
-    ];
-    base::write_both(&head, payload, out)
+    let [t, u, v, w] = milliseconds.to_be_bytes();
+    let [high, low] = (payload.len() as u16).to_be_bytes();
+    base::write_both(&[u8::from(direction), t, u, v, w, high, low], payload, out)
 }
