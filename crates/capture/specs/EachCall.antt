@@ -15,7 +15,6 @@ use Rattle.capture.specs.declared.reading.Ending.{Ending}
 use Rattle.capture.specs.declared.reading.Ending.TheVariants as end
 use Rattle.capture.specs.declared.reading.NextError.{NextError}
 use Rattle.capture.specs.declared.reading.NextError.TheVariants as error
-use Rattle.capture.specs.declared.reading.Record.{Record}
 use Rattle.capture.specs.declared.reading.Refusal.{Refusal}
 use Rattle.capture.specs.declared.reading.Taken.{Taken}
 use Rattle.capture.specs.declared.reading.Taken.TheVariants as taken

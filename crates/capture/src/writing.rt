@@ -4,13 +4,13 @@ ghost use Rattle.capture.specs.Format.{head_write_of, record_write_of};
 ghost use Rattle.capture.specs.Table.{direction_number};
 
 use crate::record::Direction;
-use base::{Unwritten, WriteResult};
+use base::WriteError;
 
 // A record's count has two bytes: PROTOCOL 13.3.
 const MAX_PAYLOAD: usize = 65535;
 
 /// The head: what a capture begins with. ROOM with 5 where the output is shorter.
-pub fn write_head(out: &mut [u8]) -> WriteResult
+pub fn write_head(out: &mut [u8]) -> Result<usize, WriteError>
     ensures { Writes result out.new (head_write_of out.old) }
 {
     base::write_both(b"LFT\x00\x01", b"", out)
@@ -22,14 +22,12 @@ pub fn write_record(
     milliseconds: u32,
     payload: &[u8],
     out: &mut [u8],
-) -> WriteResult
+) -> Result<usize, WriteError>
     ensures { Writes result out.new (record_write_of (direction_number direction) milliseconds
         payload.now out.old) }
 {
     if payload.len() > MAX_PAYLOAD {
-        return WriteResult::Unwritten {
-            why: Unwritten::Payload,
-        };
+        return Err(WriteError::Payload);
     }
     let [t, u, v, w] = milliseconds.to_be_bytes();
     let [high, low] = (payload.len() as u16).to_be_bytes();
