@@ -1,6 +1,6 @@
 -- Laws of decimal text: its last digit and those before it, and how many there are.
 use Prim.Native.Nat.{ℕ, zero, suc, ◌+◌, ◌/◌, ◌%◌, ◌^◌, ◌≤◌, ◌<◌}
-use mathlib.Core.Path.{◌≡◌, refl}
+use mathlib.Core.Path.{◌≡◌, refl, sym, ap, ◌∙◌}
 use mathlib.Core.Bool.{Bool, true, false}
 use mathlib.Core.List.{[], ◌∷◌, ◌++◌}
 use native.Mathlib.Nat.{div-lt_self, mod-eq_of_lt, div-lt_iff_lt-mul, pow-suc}
@@ -8,6 +8,8 @@ use native.Mathlib.Omega.{arith}
 use borrow.Author.Tests.{lt-ltb, le-ltb, ltb-true, ltb-false}
 use lib.ListN.{length, length-append}
 use lib.Dec.{ltb}
+use Rattle.std.specs.Fmt.{decimal}
+use Rattle.std.proofs.lemmas.Fmt.{decimal_by_steps}
 use Rattle.listing.specs.Digits.{digit, digits_in, decimal_of}
 
 -- one digit or more
@@ -70,3 +72,11 @@ count_most zero n h = omega (arith, count_last n (omega arith))
 count_most (suc k) n h =
     by_size n _ (λ s. omega (arith, count_last n s))
     (λ l. omega (arith, count_more n l, count_most k (n / 10) ((div-lt_iff_lt-mul (omega arith)).1 (rw pow-suc at h))))
+
+-- ---- the library's digits
+
+-- of a number of 64 bits they are these
+pub decimal_here : (n : ℕ) → n < 2 ^ 64 → decimal n ≡ decimal_of n
+decimal_here n h =
+    sym (decimal_by_steps (λ m ds. decimal_of m ≡ ds) (λ m l. decimal_last m (omega arith))
+    (λ m ds l e. decimal_more m (omega arith) ∙ ap (λ front. front ++ digit (m % 10) ∷ []) e) n h)

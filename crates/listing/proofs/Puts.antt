@@ -1,11 +1,11 @@
--- Laws of stores: what is put byte by byte, from the front or from the back.
+-- Laws of stores: what is put from a place of the buffer on.
 use Prim.Native.Nat.{ℕ, suc, ◌+◌, ◌-◌, ◌/◌, ◌%◌, ◌≤◌, ◌<◌}
-use mathlib.Core.Path.{◌≡◌, refl, ap, ◌∙◌}
-use mathlib.Core.List.{List, [], ◌∷◌, ◌++◌}
+use mathlib.Core.Path.{◌≡◌, refl, sym, ap, ◌∙◌}
+use mathlib.Core.List.{List, [], ◌∷◌, ◌++◌, append_assoc}
 use native.Mathlib.Numerals.{add-one}
 use native.Mathlib.Omega.{arith}
-use lib.ListN.{length, get_or, take, drop, set, length-append, length-drop, drop_of_length-le}
-use lib.Seq.{drop-cons, sets, set_comm}
+use lib.ListN.{length, get_or, take, drop, set, length-append, length-drop, drop_of_length-le, take-append-drop}
+use lib.Seq.{drop-cons, sets, sets-eq}
 use borrow.Author.Tests.{le-ltb}
 use Rattle.base.specs.Rows.{Row, row}
 use Rattle.base.specs.Outcomes.{Output, output, onto, placed, written_in}
@@ -14,29 +14,12 @@ use Rattle.listing.specs.Digits.{digit, decimal_of}
 use Rattle.listing.specs.Lines.{columns_of}
 use Rattle.listing.proofs.Digits.{decimal_last, decimal_more, count_last, count_more}
 
--- ---- from the back
+-- ---- bytes written, and the others as they were
 
--- a store after a run of stores may come before it
-set_after : (vs l : List ℕ) (i j v : ℕ) → i + length vs ≤ j → sets (set l j v) i vs ≡ set (sets l i vs) j v
-set_after [] l i j v h = refl
-set_after (a ∷ vs) l i j v h =
-    rw (set_comm l j i v a (λ e. omega arith)) (set_after vs (set l i a) (suc i) j v (omega arith))
-
--- a last byte stored first
-pub sets_last : (vs l : List ℕ) (i v : ℕ) → sets (set l (i + length vs) v) i vs ≡ sets l i (vs ++ v ∷ [])
-sets_last vs l i v = set_after vs l i (i + length vs) v (omega arith) ∙ rw sets-append
-
--- the digits of a number: the last one stored, and those of a tenth before it; or the only one
-module _ (out : List ℕ) (at n i : ℕ) (e : i + 1 ≡ at + length (decimal_of n)) where
-  pub digits_back : 9 < n → sets (set out i (digit (n % 10))) at (decimal_of (n / 10)) ≡ sets out at (decimal_of n)
-  digits_back h =
-      let place : i ≡ at + length (decimal_of (n / 10)) = omega (arith, count_more n h) in
-      rw (place, decimal_more n h) (sets_last (decimal_of (n / 10)) out at (digit (n % 10)))
-
-  pub digits_done : n ≤ 9 → set out i (digit n) ≡ sets out at (decimal_of n)
-  digits_done h =
-      let place : i ≡ at = omega (arith, count_last n h) in
-      rw (place, decimal_last n h)
+pub put_between : (bytes out after : List ℕ) (at : ℕ) → at + length bytes ≤ length out → take at after ≡ take at out
+    → drop at after ≡ bytes ++ drop (at + length bytes) out → after ≡ sets out at bytes
+put_between bytes out after at fits before from =
+    sym (take-append-drop at after) ∙ rw (before, from, sets-eq bytes out at fits, append_assoc)
 
 -- ---- a text at the front of a buffer
 

@@ -4,6 +4,8 @@ use Rattle.std.specs.Prelude.{ℕ, cond, List, [], ◌∷◌, ◌++◌, length, 
 use Prim.Native.Char.{code}
 use Prim.Native.String.{String, [] as []ˢ, ◌∷◌ as ◌∷ˢ◌}
 use Rattle.frame.specs.Wire.{command_of, number_of, flags_of, payload_of}
+use Rattle.frame.specs.declared.scan.Verdict.{Verdict}
+use Rattle.frame.specs.declared.scan.Verdict.TheVariants as verdict
 use Rattle.base.specs.Rows.{Row}
 use Rattle.listing.specs.Digits.{decimal_of}
 
@@ -48,6 +50,16 @@ dashes = ascii " - - - -\n"
 -- a refused frame: PROTOCOL 10.5
 abbrev pub refused_text : List ℕ → String → Row → List ℕ
 refused_text prefix name r = text_of prefix (ascii name) (places_of r) dashes
+
+-- the word of a decided frame's line: PROTOCOL 10.4, 10.5
+abbrev pub word_of : Verdict → List ℕ
+word_of verdict.Frame = ascii "frame"
+word_of verdict.Short = ascii "short"
+word_of verdict.Long = ascii "long"
+word_of (verdict.Stuff byte) = ascii "stuff"
+word_of (verdict.StuffLate byte) = ascii "stufflate"
+word_of verdict.Cut = ascii "cut"
+word_of (verdict.Sum found computed) = ascii "sum"
 
 -- the line of an answer, by its number; MORE, STATE and USED have none: PROTOCOL 10.1
 abbrev pub answer_text : List ℕ → Row → List ℕ → List ℕ

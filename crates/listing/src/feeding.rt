@@ -10,7 +10,7 @@ ghost use Rattle.listing.specs.Lines.{answer_text, line_room};
 ghost use Rattle.listing.specs.Table.{stop_of};
 ghost use Rattle.listing.specs.Feeding.{refuses, loop_of, list_of, left_of};
 
-use super::lines::answer_line;
+use super::lines::line;
 use frame::{FeedResult, Reader};
 
 // No answer's line has more bytes from its word on: PROTOCOL 10.9.
@@ -75,7 +75,7 @@ fn add_line(answer: FeedResult, prefix: &[u8], body: &[u8], out: &mut [u8], at: 
         (answer_text prefix.now (row_of answer) body.now) result out.new }
     ensures upper_bound { result ≤ length out.old }
 {
-    at + answer_line(answer, prefix, body, &mut out[at..]).count()
+    at + line(answer, prefix, body, &mut out[at..]).count()
 }
 
 // Feeds bytes to a reader and puts the line of each answer.

@@ -13,9 +13,9 @@ pub returns : goal.returns
 returns c =
     let text : List ℕ = answer_text c.args.prefix.now (row_of c.args.answer) c.args.body.now in
     let fits : c.args.at + length text ≤ length c.args.out.now =
-    omega (arith, c.requires, c.answer_line.ensures.body_in_bounds) in
-    let counted : c.count.result ≡ length text = let put = c.answer_line.ensures.writes in
+    omega (arith, c.requires, c.line.ensures.in_bounds) in
+    let counted : c.count.result ≡ length text = let put = c.line.ensures.writes in
     c.count.ensures ∙ part_count text c.args.out.now c.args.at fits put in
     let put = part_put text c.args.out.now c.args.at fits
-    c.answer_line.ensures.writes in
+    c.line.ensures.writes in
     record { put_at = (ap (λ (n : ℕ). c.args.at + n) counted, put); upper_bound = omega (arith, counted, fits) }
