@@ -63,9 +63,6 @@ count_last n h = rw (decimal_last n h)
 pub count_more : (n : ℕ) → 9 < n → length (decimal_of n) ≡ length (decimal_of (n / 10)) + 1
 count_more n h = rw (decimal_more n h, length-append)
 
-pub count_least : (n : ℕ) → 1 ≤ length (decimal_of n)
-count_least n = by_size n _ (λ s. omega (arith, count_last n s)) (λ l. omega (arith, count_more n l))
-
 -- a number below a power of 10 has at most so many digits
 pub count_most : (k n : ℕ) → n < 10 ^ suc k → length (decimal_of n) ≤ suc k
 count_most zero n h = omega (arith, count_last n (omega arith))

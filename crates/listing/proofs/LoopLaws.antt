@@ -1,9 +1,9 @@
 -- Laws of the loop over bytes: its steps, and its invariant. Assumes nothing.
 use Prim.Native.Nat.{ℕ, zero, suc, ◌+◌, ◌-◌, ◌^◌, ◌≤◌, ◌<◌}
-use mathlib.Core.Path.{◌≡◌, refl, sym, ap, ◌∙◌}
+use mathlib.Core.Path.{◌≡◌, refl, ap, ◌∙◌}
 use mathlib.Core.Bool.{true, false, true≢false}
 use mathlib.Core.Logic.{◌≢◌}
-use mathlib.Core.List.{List, [], ◌∷◌}
+use mathlib.Core.List.{List, []}
 use native.Mathlib.Nat.{sub-zero}
 use native.Mathlib.Omega.{arith}
 use borrow.Author.Tests.{eq-eqb, ne_eqb, lt-ltb, le-ltb, leb-true, eqb-false}
@@ -11,18 +11,22 @@ use lib.ListN.{length, take, drop, length-drop}
 use lib.Seq.{sets, length-sets, drop-drop, take_all}
 use lib.Dec.{eqb, ltb, leb}
 use Rattle.base.specs.Runs.{Run, stopped, onward, left_by}
-use Rattle.base.specs.Rows.{row}
-use Rattle.base.specs.Outcomes.{Outcome, outcome}
+use Rattle.base.specs.Outcomes.{Outcome}
 use Rattle.base.specs.Stores.{PutAt}
 use Rattle.frame.specs.Rules.{in_range_of}
 use Rattle.frame.specs.State.{State}
-use Rattle.frame.specs.Table.{verdict_number, count_of}
-use Rattle.frame.specs.Calls.{feed_of}
+use Rattle.frame.specs.Table.{verdict_number, decision_row, row_of, count_of}
+use Rattle.frame.specs.Calls.{feed_of, run_of}
+use Rattle.frame.specs.declared.reader.Decision.{Decision}
+use Rattle.frame.specs.declared.reader.Fed.{Fed}
+use Rattle.frame.specs.declared.reader.FeedError.{FeedError}
+use Rattle.frame.specs.declared.reader.FeedError.TheVariants.{State as StateRefused, Used}
 use Rattle.frame.specs.declared.scan.Verdict.{Verdict}
 use Rattle.frame.specs.declared.scan.Verdict.TheVariants.{Frame, Short, Long, Stuff, StuffLate, Cut, Sum}
 use Rattle.frame.proofs.EachCall.{within as count_most}
-use Rattle.frame.proofs.EachCall.{progress, empty_call, state_kept}
-use Rattle.base.proofs.Tests.{either_way, cond_equal}
+use Rattle.frame.proofs.EachCall.{progress}
+use Rattle.std.specs.Prelude.{Option, Some, None, Ok, Err}
+use Rattle.base.proofs.Tests.{by_test, either_way, cond_equal}
 use Rattle.base.proofs.Runs.{Rest, rest_onward, rest_stopped}
 use Rattle.listing.specs.Lines.{line_room}
 use Rattle.listing.specs.Feeding.{full, refuses, line_after, list_in, loop_of, list_of}
@@ -36,6 +40,25 @@ verdict_continues (Stuff x) = refl
 verdict_continues (StuffLate x) = refl
 verdict_continues Cut = refl
 verdict_continues (Sum f g) = refl
+
+-- an answer that is not an error refuses nothing, and each error does
+decision_continues : (n : ℕ) (d : Option Decision) → refuses (decision_row n d).number ≡ false
+decision_continues n None = refl
+decision_continues n (Some d) = verdict_continues d.verdict
+
+pub fed_continues : (fed : Fed) → refuses (row_of (Ok fed)).number ≡ false
+fed_continues fed = decision_continues fed.count fed.decision
+
+decision_count : (n : ℕ) (d : Option Decision) → count_of (decision_row n d) ≡ n
+decision_count n None = refl
+decision_count n (Some d) = refl
+
+pub fed_count : (fed : Fed) → count_of (row_of (Ok fed)) ≡ fed.count
+fed_count fed = decision_count fed.count fed.decision
+
+pub error_refuses : (e : FeedError) → refuses (row_of (Err e)).number ≡ true
+error_refuses StateRefused = refl
+error_refuses Used = refl
 
 -- what is not 0 is at least 1
 pub nonzero : (n : ℕ) → (n ≡ 0 → ⊥) → 1 ≤ n
@@ -214,25 +237,22 @@ module _ {limit : ℕ} {prefix bytes out₀ out : List ℕ} {r₀ r : State} {us
 
 -- ---- the feed with no data before the loop
 
+-- it leaves the reader as it was
+pub none_kept : (limit : ℕ) (r : State) → (feed_of limit r []).state ≡ r
+unfolding run_of
+none_kept limit r =
+    by_test (λ (y : Outcome State). y.state ≡ r) (in_range_of limit r.scan)
+    (λ a. by_test (λ (y : Outcome State). y.state ≡ r) (leb (r.scan.consumed + 0) (2 ^ 62)) (λ b. refl) (λ b. refl))
+    (λ a. refl)
+
 module _ (limit : ℕ) (prefix bytes out : List ℕ) (r : State) (y : Outcome State) (e : y ≡ feed_of limit r []) where
   -- refused, it ends the call, and nothing changes
   pub none_fed : refuses y.row.number ≡ true
-      → record { state = r; used = 0; written = 0; stop = y.row.number; out = out }
+      → record { state = y.state; used = 0; written = 0; stop = y.row.number; out = out }
       ≡ left_by (list_of limit prefix r bytes (length out)) out
-  none_fed f = rw (← e, f)
+  none_fed f = let kept : y.state ≡ r = rw e (none_kept limit r) in rw (← e, f, kept)
 
   -- otherwise the loop decides
   pub all_fed : refuses y.row.number ≡ false
-      → loop_of limit prefix r bytes (length out) ≡ list_of limit prefix r bytes (length out)
-  all_fed f = rw (← e, f)
-
--- with bytes and room for a line, the loop's own first feed finds a reader that is out of range
-pub fed_at_once : (limit : ℕ) (prefix : List ℕ) (r : State) (bytes : List ℕ) (room : ℕ)
-    → 1 ≤ length bytes → length prefix + line_room ≤ room
-    → loop_of limit prefix r bytes room ≡ list_of limit prefix r bytes room
-fed_at_once limit prefix r bytes room some h =
-    either_way (in_range_of limit r.scan) (λ a. rw (empty_call limit r a))
-    (λ a.
-    let refused : feed_of limit r bytes ≡ outcome (row 17 (0 ∷ [])) r = (state_kept limit r bytes a).0 in
-    let none : feed_of limit r [] ≡ outcome (row 17 (0 ∷ [])) r = (state_kept limit r [] a).0 in
-    step_refused limit prefix r bytes room some h (outcome (row 17 (0 ∷ [])) r) (sym refused) refl ∙ rw none)
+      → loop_of limit prefix y.state bytes (length out) ≡ list_of limit prefix r bytes (length out)
+  all_fed f = let kept : y.state ≡ r = rw e (none_kept limit r) in rw (← e, f, kept)

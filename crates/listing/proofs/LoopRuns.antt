@@ -14,13 +14,11 @@ use Rattle.base.specs.Rows.{row}
 use Rattle.base.specs.Outcomes.{Outcome, outcome}
 use Rattle.base.specs.Keys.{among}
 use Rattle.frame.specs.Rules.{in_range_of, advance_of, decides_of}
-use Rattle.frame.specs.State.{State}
+use Rattle.frame.specs.State.{State, Event, Quiet, Decided}
 use Rattle.frame.specs.Table.{event_row, count_of}
 use Rattle.frame.specs.Calls.{next_of, run_of, feed_of}
 use Rattle.frame.specs.LogsComputed.{log_of, state_after, offer}
 use Rattle.frame.specs.Logs.{stream}
-use Rattle.frame.specs.declared.scan.Event.{Event}
-use Rattle.frame.specs.declared.scan.Event.TheVariants.{Quiet, Decided}
 use Rattle.frame.proofs.EachCall.{within}
 use Rattle.base.proofs.Tests.{by_test, either_way, both}
 use Rattle.listing.specs.Lines.{line_room}

@@ -1,6 +1,6 @@
 -- Laws of stores: what is put from a place of the buffer on.
-use Prim.Native.Nat.{ℕ, suc, ◌+◌, ◌-◌, ◌/◌, ◌%◌, ◌≤◌, ◌<◌}
-use mathlib.Core.Path.{◌≡◌, refl, sym, ap, ◌∙◌}
+use Prim.Native.Nat.{ℕ, ◌+◌, ◌-◌, ◌≤◌, ◌<◌}
+use mathlib.Core.Path.{◌≡◌, sym, ap, ◌∙◌}
 use mathlib.Core.List.{List, [], ◌∷◌, ◌++◌, append_assoc}
 use native.Mathlib.Numerals.{add-one}
 use native.Mathlib.Omega.{arith}
@@ -9,10 +9,9 @@ use lib.Seq.{drop-cons, sets, sets-eq}
 use borrow.Author.Tests.{le-ltb}
 use Rattle.base.specs.Rows.{Row, row}
 use Rattle.base.specs.Outcomes.{Output, output, onto, placed, written_in}
-use Rattle.base.proofs.Stores.{sets-append, put_placed, part_left, put_onto}
-use Rattle.listing.specs.Digits.{digit, decimal_of}
+use Rattle.base.proofs.Stores.{sets-append, part_left, put_onto}
+use Rattle.listing.specs.Digits.{decimal_of}
 use Rattle.listing.specs.Lines.{columns_of}
-use Rattle.listing.proofs.Digits.{decimal_last, decimal_more, count_last, count_more}
 
 -- ---- bytes written, and the others as they were
 
@@ -20,11 +19,6 @@ pub put_between : (bytes out after : List ℕ) (at : ℕ) → at + length bytes 
     → drop at after ≡ bytes ++ drop (at + length bytes) out → after ≡ sets out at bytes
 put_between bytes out after at fits before from =
     sym (take-append-drop at after) ∙ rw (before, from, sets-eq bytes out at fits, append_assoc)
-
--- ---- a text at the front of a buffer
-
-pub nothing_put : (out : List ℕ) → output (row 0 (0 ∷ [])) out ≡ placed [] out
-nothing_put out = put_placed [] out (omega arith) (refl, refl)
 
 -- ---- a text put in the part of a buffer that begins at a place: `after` is that part then
 

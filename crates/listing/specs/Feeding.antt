@@ -8,6 +8,7 @@ use Rattle.frame.specs.State.{State, state_of}
 use Rattle.frame.specs.Calls.{feed_of}
 use Rattle.listing.specs.Lines.{answer_text, line_room}
 use Rattle.listing.specs.Table.{stop_of}
+use Rattle.frame.specs.declared.reader.Reader.{Reader}
 use Rattle.listing.specs.declared.feeding.Listed.{Listed}
 
 -- the buffer might lack room for the next line
@@ -44,13 +45,13 @@ list_of limit prefix r bytes room =
     cond (refuses (feed_of limit r []).row.number) (stopped r (feed_of limit r []).row.number)
     (loop_of limit prefix r bytes room)
 
--- what the code's loop returns, and the buffer after it
-abbrev pub left_of : Listed → List ℕ → Left State
+-- what the code's loop returns, the reader that it leaves, and the buffer after it
+abbrev pub left_of : Listed × Reader → List ℕ → Left State
 left_of l after =
     record {
-      state = state_of l.reader;
-      used = l.used;
-      written = l.written;
-      stop = stop_of l.stop;
+      state = state_of l.1;
+      used = l.0.used;
+      written = l.0.written;
+      stop = stop_of l.0.stop;
       out = after;
     }

@@ -13,6 +13,7 @@ use Rattle.listing.specs.Table.{stop_of}
 use Rattle.listing.specs.CallTexts.{feed_text, OnlyFeed}
 use Rattle.listing.specs.Listing.{decisions_text}
 use Rattle.listing.specs.Feeding.{list_of, left_of}
+use Rattle.frame.specs.declared.reader.Reader.{Reader}
 use Rattle.listing.specs.declared.feeding.Listed.{Listed}
 use Rattle.listing.specs.declared.feeding.Stop.TheVariants as stop
 
@@ -23,17 +24,17 @@ pub record StopNumbers : Type 0 where
   pub state : stop_of stop.State ≡ 17
   pub used : stop_of stop.Used ≡ 18
 
--- ---- left_fields: what the contract's equation says of each field that the code returns
-pub record LeftFields (l : Listed) (after : List ℕ) : Type 0 where
-  pub state : (left_of l after).state ≡ state_of l.reader
-  pub used : (left_of l after).used ≡ l.used
-  pub written : (left_of l after).written ≡ l.written
-  pub stop : (left_of l after).stop ≡ stop_of l.stop
+-- ---- left_fields: what the contract's equation says of each field that the code returns, and of what it leaves
+pub record LeftFields (l : Listed × Reader) (after : List ℕ) : Type 0 where
+  pub state : (left_of l after).state ≡ state_of l.1
+  pub used : (left_of l after).used ≡ l.0.used
+  pub written : (left_of l after).written ≡ l.0.written
+  pub stop : (left_of l after).stop ≡ stop_of l.0.stop
   pub out : (left_of l after).out ≡ after
 
 -- of everything that it may return
 abbrev pub LeftFieldsAlways : Type 0
-LeftFieldsAlways = (l : Listed) (after : List ℕ) → LeftFields l after
+LeftFieldsAlways = (l : Listed × Reader) (after : List ℕ) → LeftFields l after
 
 -- ---- loop_lists: the loop's feeds are those of a sender that offers the bytes until they are consumed: the text is
 -- their lines, none lost, none twice, in order, and the bytes used are those that they consumed

@@ -8,20 +8,20 @@ ghost use Rattle.listing.specs.Lines.{ascii, text_of, heading_text, places_at, b
 ghost use Rattle.listing.specs.Lines.{line_room, last_of, refusal_text, word_of};
 
 use super::text::Line;
-use base::WriteResult;
-use frame::{FeedResult, FinishResult, Verdict, WirePlace};
+use base::{StateError, WriteError};
+use frame::{Decision, Fed, FeedError, Finish, Verdict};
 
 /// The heading: PROTOCOL 10.2.
-pub fn heading(prefix: &[u8], out: &mut [u8]) -> WriteResult
+pub fn heading(prefix: &[u8], out: &mut [u8]) -> Result<usize, WriteError>
     ensures { Writes result out.new (placed (heading_text prefix.now) out.old) }
 {
-    let line = Line {
+    Line {
         prefix,
         word: b"kind start end cmd sn flags payload\n",
         numbers: &[],
         rest: b"",
-    };
-    line.put(out)
+    }
+    .put(out)
 }
 
 // The word of a decided frame's line.
@@ -40,117 +40,106 @@ fn word(verdict: Verdict) -> &'static [u8]
     }
 }
 
-// The line of a frame, whose body the reader holds.
-fn frame_line(
-    start: WirePlace,
-    end: WirePlace,
-    prefix: &[u8],
-    body: &[u8],
-    out: &mut [u8],
-) -> WriteResult
-    ensures writes { Writes result out.new (placed (text_of prefix.now (ascii "frame")
-        (places_at start.0 end.0 ++ body_columns body.now) (ascii "\n")) out.old) }
-    ensures in_bounds { length (text_of prefix.now (ascii "frame")
-        (places_at start.0 end.0 ++ body_columns body.now) (ascii "\n"))
-        ≤ length prefix.now + line_room }
-{
-    let command = frame::command(body) as u64;
-    let number = frame::number(body) as u64;
-    let flags = frame::flags(body) as u64;
-    let size = frame::payload(body).len() as u64;
-    let line = Line {
-        prefix,
-        word: b"frame",
-        numbers: &[start.0, end.0, command, number, flags, size],
-        rest: b"\n",
-    };
-    line.put(out)
-}
-
 // The line of a decided frame, and of the body that the reader holds.
 fn decided_line(
-    verdict: Verdict,
-    start: WirePlace,
-    end: WirePlace,
+    decision: Decision,
     prefix: &[u8],
     body: &[u8],
     out: &mut [u8],
-) -> WriteResult
+) -> Result<usize, WriteError>
     ensures writes { Writes result out.new (placed (answer_text prefix.now
-        (decided_row verdict 0 start.0 end.0) body.now) out.old) }
-    ensures in_bounds { length (answer_text prefix.now (decided_row verdict 0 start.0 end.0)
-        body.now) ≤ length prefix.now + line_room }
+        (decided_row decision.verdict 0 decision.start.0 decision.end.0) body.now) out.old) }
+    ensures in_bounds { length (answer_text prefix.now
+        (decided_row decision.verdict 0 decision.start.0 decision.end.0) body.now)
+        ≤ length prefix.now + line_room }
 {
-    if let Verdict::Frame = verdict {
-        return frame_line(start, end, prefix, body, out);
+    let Decision {
+        start,
+        end,
+        verdict,
+    } = decision;
+    let word = word(verdict);
+    match verdict {
+        Verdict::Frame => Line {
+            prefix,
+            word,
+            numbers: &[
+                start.0,
+                end.0,
+                u64::from(frame::command(body)),
+                u64::from(frame::number(body)),
+                u64::from(frame::flags(body)),
+                frame::payload(body).len() as u64,
+            ],
+            rest: b"\n",
+        }
+        .put(out),
+        _ => Line {
+            prefix,
+            word,
+            numbers: &[start.0, end.0],
+            rest: b" - - - -\n",
+        }
+        .put(out),
     }
-    let line = Line {
-        prefix,
-        word: word(verdict),
-        numbers: &[start.0, end.0],
-        rest: b" - - - -\n",
-    };
-    line.put(out)
 }
 
 /// The line of the reader's answer, and of the body that it holds; MORE, STATE and USED have none.
 /// A body that does not belong to the answer is treated as if it did: PROTOCOL 12.5.
-pub fn line(answer: FeedResult, prefix: &[u8], body: &[u8], out: &mut [u8]) -> WriteResult
+pub fn line(
+    answer: Result<Fed, FeedError>,
+    prefix: &[u8],
+    body: &[u8],
+    out: &mut [u8],
+) -> Result<usize, WriteError>
     ensures writes { Writes result out.new (placed
         (answer_text prefix.now (row_of answer) body.now) out.old) }
     ensures in_bounds { length (answer_text prefix.now (row_of answer) body.now)
         ≤ length prefix.now + line_room }
 {
     match answer {
-        FeedResult::Decided {
-            start,
-            end,
-            verdict,
-            ..
-        } => decided_line(verdict, start, end, prefix, body, out),
-        FeedResult::More { .. } | FeedResult::State | FeedResult::Used => {
-            WriteResult::Wrote { count: 0 }
-        }
+        Ok(
+            Fed {
+                decision: Some(decision),
+                ..
+            },
+        ) => decided_line(decision, prefix, body, out),
+        Ok(Fed { decision: None, .. }) | Err(_) => Ok(0),
     }
 }
 
 /// The last line, of the answer to a finish: PROTOCOL 10.6. STATE has none.
-pub fn last(answer: FinishResult, prefix: &[u8], out: &mut [u8]) -> WriteResult
+pub fn last(
+    answer: Result<Finish, StateError>,
+    prefix: &[u8],
+    out: &mut [u8],
+) -> Result<usize, WriteError>
     ensures { Writes result out.new (placed
         (last_of prefix.now (finish_row_of answer)) out.old) }
 {
-    match answer {
-        FinishResult::Clean { consumed } => {
-            let line = Line {
-                prefix,
-                word: b"clean",
-                numbers: &[consumed.0],
-                rest: b"\n",
-            };
-            line.put(out)
-        }
-        FinishResult::Open { start, .. } => {
-            let line = Line {
-                prefix,
-                word: b"open",
-                numbers: &[start.0],
-                rest: b"\n",
-            };
-            line.put(out)
-        }
-        FinishResult::State => WriteResult::Wrote { count: 0 },
+    let (word, place) = match answer {
+        Ok(Finish::Clean { consumed }) => (b"clean".as_slice(), consumed),
+        Ok(Finish::Open { start, .. }) => (b"open".as_slice(), start),
+        Err(StateError) => return Ok(0),
+    };
+    Line {
+        prefix,
+        word,
+        numbers: &[place.0],
+        rest: b"\n",
     }
+    .put(out)
 }
 
 /// The line of a refusal that ends a text: its number, and the place where what is refused begins. PROTOCOL 10.11.
-pub fn refusal(number: u64, place: u64, out: &mut [u8]) -> WriteResult
+pub fn refusal(number: u64, place: u64, out: &mut [u8]) -> Result<usize, WriteError>
     ensures { Writes result out.new (placed (refusal_text number place) out.old) }
 {
-    let line = Line {
+    Line {
         prefix: b"",
         word: b"refused",
         numbers: &[number, place],
         rest: b"\n",
-    };
-    line.put(out)
+    }
+    .put(out)
 }

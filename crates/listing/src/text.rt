@@ -6,7 +6,7 @@ ghost use Rattle.base.specs.Writes.{Writes};
 ghost use Rattle.listing.specs.Lines.{columns_of, text_of};
 
 use super::decimal::{put_decimal, width};
-use base::{Unwritten, WriteResult, put_bytes};
+use base::{WriteError, put_bytes};
 
 // A line, whose parts but for the prefix are short.
 #[derive(Clone, Copy)]
@@ -47,7 +47,7 @@ fn put_columns(out: &mut [u8], at: usize, numbers: &[u64]) -> usize
 
 impl Line<'_> {
     // Puts the line at the front of the buffer, or refuses and leaves the buffer as it was.
-    pub(crate) fn put(&self, out: &mut [u8]) -> WriteResult
+    pub(crate) fn put(&self, out: &mut [u8]) -> Result<usize, WriteError>
         ensures writes { Writes result out.new (placed (text_of self.now.prefix.now
             self.now.word.now self.now.numbers.now self.now.rest.now) out.old) }
         ensures in_bounds { length (text_of self.now.prefix.now
@@ -60,15 +60,11 @@ impl Line<'_> {
             + columns_width(self.numbers)
             + self.rest.len();
         if out.len() < size {
-            return WriteResult::Unwritten {
-                why: Unwritten::Room { needed: size },
-            };
+            return Err(WriteError::Room { needed: size });
         }
         let at_word = put_bytes(out, 0, self.prefix);
         let after_word = put_bytes(out, at_word, self.word);
         let after_numbers = put_columns(out, after_word, self.numbers);
-        WriteResult::Wrote {
-            count: put_bytes(out, after_numbers, self.rest),
-        }
+        Ok(put_bytes(out, after_numbers, self.rest))
     }
 }

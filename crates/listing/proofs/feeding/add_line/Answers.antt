@@ -2,6 +2,7 @@
 use Prim.Native.Nat.{ℕ, ◌+◌, ◌≤◌}
 use mathlib.Core.Path.{◌≡◌, ap, ◌∙◌}
 use mathlib.Core.List.{List}
+use Rattle.std.specs.Prelude.{Ok}
 use native.Mathlib.Omega.{arith}
 use lib.ListN.{length}
 use Rattle.frame.specs.Table.{row_of}
@@ -11,7 +12,7 @@ use Rattle.listing.proofs.feeding.add_line.Goals as goal
 
 pub returns : goal.returns
 returns c =
-    let text : List ℕ = answer_text c.args.prefix.now (row_of c.args.answer) c.args.body.now in
+    let text : List ℕ = answer_text c.args.prefix.now (row_of (Ok c.args.fed)) c.args.body.now in
     let fits : c.args.at + length text ≤ length c.args.out.now =
     omega (arith, c.requires, c.line.ensures.in_bounds) in
     let counted : c.count.result ≡ length text = let put = c.line.ensures.writes in

@@ -1,7 +1,6 @@
 -- `Line::put` meets its contract: what it measures is the text's length, and the pieces that it puts, in order, are the
 -- text.
 use Rattle.std.proofs.Common.{◌≡◌, ◌+◌, ℕ, List, ◌++◌, length, length-append, arith}
-use Rattle.base.specs.Stores.{PutAt}
 use Rattle.base.proofs.Stores.{put_fitting, put_join, put_placed}
 use Rattle.listing.specs.Lines.{columns_of, text_of}
 use Rattle.listing.proofs.text.Line.put.Goals as goal
