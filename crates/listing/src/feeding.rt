@@ -91,8 +91,9 @@ fn feed_all(reader: &mut Reader, prefix: &[u8], bytes: &[u8], out: &mut [u8]) ->
 /// with the bytes that are left. Room is tested before a feed, so that no answer is lost. A feed with no data comes
 /// first, so that a reader out of range is found even with no room and no bytes.
 pub fn list(reader: &mut Reader, prefix: &[u8], bytes: &[u8], out: &mut [u8]) -> Listed
-    ensures { left_of (result, reader.new) out.new ≡ left_by (list_of frame_limit prefix.now
+    ensures leaves { left_of (result, reader.new) out.new ≡ left_by (list_of frame_limit prefix.now
         (state_of reader.old) bytes.now (length out.old)) out.old }
+    ensures within { result.used ≤ length bytes.now }
 {
     if let Err(error) = reader.feed(b"") {
         return Listed {

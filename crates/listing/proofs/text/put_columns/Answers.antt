@@ -22,7 +22,8 @@ loop-number-preserved c =
     record {
       same_length = c.put_decimal-next.auto.out ∙ rw length-set loop.invariant.same_length;
       ends = omega arith;
-      completes = rw (put.0, put.1) (columns_put numbers loop.number-index inside loop.out loop.next ∙ loop.invariant.completes);
+      completes = rw (put.0, put.1)
+          (columns_put numbers loop.number-index inside loop.out loop.next ∙ loop.invariant.completes);
     }
 
 pub returns : goal.returns

@@ -8,5 +8,6 @@ abbrev pub invariant-loop-number : goal.invariant-loop-number
 invariant-loop-number l = record {
   same_length : length l.out ≡ length l.initial.out;
   ends : l.next + length (columns_of (drop l.number-index l.numbers)) ≡ l.at + length (columns_of l.numbers);
-  completes : sets l.out l.next (columns_of (drop l.number-index l.numbers)) ≡ sets l.initial.out l.at (columns_of l.numbers);
+  completes : sets l.out l.next (columns_of (drop l.number-index l.numbers))
+      ≡ sets l.initial.out l.at (columns_of l.numbers);
 }
