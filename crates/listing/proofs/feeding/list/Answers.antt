@@ -1,5 +1,5 @@
 -- `list` feeds no data first, which changes nothing; what it uses is what its run uses.
-use Rattle.std.proofs.Common.{◌≡◌, Ok, Err, List, ℕ, length, arith, ap}
+use Rattle.std.proofs.Common.{◌≡◌, Ok, Err, length, arith, ap}
 use Rattle.base.specs.Runs.{Left, left_by}
 use Rattle.frame.specs.Wire.{frame_limit}
 use Rattle.frame.specs.State.{State, state_of}
@@ -23,7 +23,7 @@ returns c =
     let out = c.args.out.now in
     let fed = c.in_default.field-0 in
     let leaves : left_of (c.feed_all.result, c.feed_all.new.reader) c.feed_all.new.out
-        ≡ left_by (list_of frame_limit prefix reader bytes (length out)) out =
+    ≡ left_by (list_of frame_limit prefix reader bytes (length out)) out =
     rw (← all_fed frame_limit prefix bytes out reader (fed_of (Ok fed, c.feed.new.self)) c.in_default.ensures
     (fed_continues fed)) c.feed_all.ensures in
     let used = ap (λ (left : Left State). left.used) leaves in
