@@ -85,6 +85,13 @@ impl Scan {
 
     // `Ready` is what `feed` tests and no invariant of `Scan`: a caller may pass any reader, and STATE answers it.
 
+    // The same with another length.
+    fn of_length(self, length: u16) -> Self
+        ensures { result ≡ record self { length = length } }
+    {
+        Scan { length, ..self }
+    }
+
     /// A body byte, at the byte on the wire that completes it: PROTOCOL 3.12 to 3.14, 3.16.
     fn body_byte(self, byte: u8) -> Step
         requires { Ready frame_limit (scan_of self) 1 }
@@ -100,23 +107,11 @@ impl Scan {
             ..self
         };
         let (scan, verdict) = match self.filled.0 {
-            0 => (
-                Scan {
-                    length: u16::from(byte),
-                    ..grown
-                },
-                None,
-            ),
+            0 => (grown.of_length(u16::from(byte)), None),
             1 => match usize::from(self.length) * 256 + usize::from(byte) {
                 0..5 => (closed, Some(Verdict::Short)),
                 length if length > LIMIT => (closed, Some(Verdict::Long)),
-                length => (
-                    Scan {
-                        length: length as u16,
-                        ..grown
-                    },
-                    None,
-                ),
+                length => (grown.of_length(length as u16), None),
             },
             // A record that a caller made up may name any length: PROTOCOL 3.18.
             filled if filled <= usize::from(self.length) && filled <= LIMIT => (grown, None),
