@@ -24,7 +24,7 @@ pub struct Head {
 impl Head {
     // The first bytes of a body whose payload has this size: length, command, sequence number, flags.
     fn bytes(self, size: usize) -> [u8; 6]
-        requires { size ≤ 1019 }
+        requires { size + 5 ≤ frame_limit }
         ensures { result ≡ head_of size self.command self.number self.flags }
     {
         let [length_high, length_low] = (size as u16 + 5).to_be_bytes();
@@ -54,7 +54,7 @@ trait Bytes: Copy {
 
     // Their number, where a frame can have so many in its payload.
     fn size(self) -> Option<usize>
-        ensures { result ≡ (if nat_lt 1019 (length (bytes self))
+        ensures { result ≡ (if nat_lt frame_limit (length (bytes self) + 5)
             then None
             else Some (length (bytes self))) };
 
@@ -140,7 +140,7 @@ fn width(v: u8) -> usize
 
 // The size of a frame on the wire, and its sum.
 fn sized<P: Bytes>(head: [u8; 6], payload: P) -> Measure
-    requires { length (P.bytes payload) ≤ 1019 }
+    requires { length (P.bytes payload) + 5 ≤ frame_limit }
     ensures { Measured head (P.bytes payload) result.count result.sum }
 {
     let begun = (&head[..]).added(Measure { count: 2, sum: 0 });

@@ -15,14 +15,14 @@ use Rattle.frame.proofs.writer.write_any.Goals as goal
 
 record Found (size n : ℕ) : Type 0 where
   is : size ≡ n
-  fits : n ≤ 1019
+  fits : n + 5 ≤ frame_limit
 
-found : {size : ℕ} (n : ℕ) → Some size ≡ (if nat_lt 1019 n then None else Some n) → Found size n
-found {size} n e = go (nat_lt 1019 n) refl e
+found : {size : ℕ} (n : ℕ) → Some size ≡ (if nat_lt frame_limit (n + 5) then None else Some n) → Found size n
+found {size} n e = go (nat_lt frame_limit (n + 5)) refl e
   where
-    go : (b : Bool) → nat_lt 1019 n ≡ b → Some size ≡ (if b then None else Some n) → Found size n
+    go : (b : Bool) → nat_lt frame_limit (n + 5) ≡ b → Some size ≡ (if b then None else Some n) → Found size n
     go true h q = absurd (grind arith)
-    go false h q = record { is = grind arith; fits = ltb-false 1019 n h }
+    go false h q = record { is = grind arith; fits = ltb-false frame_limit (n + 5) h }
 
 -- ---- head, payload and their sum are the body, and the count is the size of its frame on the wire
 
