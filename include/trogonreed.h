@@ -43,7 +43,7 @@ typedef char trogonreed_checks_addresses[sizeof(void *) == sizeof(size_t) ? 1 : 
 
 /*
  * A call uses less than this many bytes of stack, its return address and the arguments on the stack included; payload
- * and buffer are the caller's own. Tested for payloads of every size, not proved; 81 bytes were measured on x86-64
+ * and buffer are the caller's own. Tested for payloads of every size, not proved; 93 bytes were measured on x86-64
  * Linux. docs/PROCESSORS.md has the figures of the other processors, and docs/STACK.md how they are measured.
  */
 #define TROGONREED_STACK 1024ul
