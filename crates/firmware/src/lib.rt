@@ -16,8 +16,8 @@ const REFUSED: u32 = 65_536;
 const NO_ROOM: u32 = 131_072;
 
 /// Writes a frame at the front of the caller's buffer and returns its size, at most 2,054 bytes. Or refuses, and the
-/// buffer is unchanged: 65,557 where the payload has more than 1,019 bytes; then 131,072 and the size of the frame, where
-/// the buffer is smaller than that. In C each slice is a pointer and a length. PROTOCOL 6.9, 6.12.
+/// buffer is unchanged: 65,557 where the payload has more than 1,019 bytes; then 131,072 and the size of the frame,
+/// where the buffer is smaller than that. In C each slice is a pointer and a length. PROTOCOL 6.9, 6.12.
 #[unsafe(no_mangle)]
 pub extern "C" fn trogonreed_write_frame(
     command: u8,
