@@ -1,23 +1,18 @@
 -- Laws of reading: a payload's size as tests of its length, and reading by a command's profile. Assumes nothing.
 use Prim.Native.Nat.{ℕ, zero, suc, ◌+◌}
-use mathlib.Core.Path.{◌≡◌, refl, sym, ap, ◌∙◌}
+use mathlib.Core.Path.{◌≡◌, refl, sym, ap}
 use mathlib.Core.Bool.{Bool, true, false, cond, not, ◌&&◌}
 use mathlib.Core.List.{List, [], ◌∷◌}
 use native.Mathlib.Omega.{arith}
-use lib.ListN.{length, get_or, get_or-eq_default}
+use lib.ListN.{length, get_or}
 use lib.Dec.{eqb, leb, leb-zero, leb-suc-suc, eqb-suc-zero}
 use Rattle.base.proofs.Keys.{among_none, among_next}
-use Rattle.base.proofs.Tests.{tests}
 use Rattle.base.specs.Numbers.{two_at}
-use Rattle.message.specs.Parts.{no_parts}
-use Rattle.message.specs.Commands.{exactly, from, counted, profile_of, kind_of}
+use Rattle.message.specs.Commands.{exactly, from, counted, kind_of}
 use Rattle.base.specs.Keys.{among}
-use Rattle.message.specs.Layouts.{is_listed, sizes_of, chosen_of, allowed, values_of, parts_in, fits, size_fits}
-use Rattle.message.specs.Table.{Read}
-use Rattle.message.specs.Reading.{checked_of, decode_as, decode_of}
-use Rattle.message.specs.declared.parts.Parts.{Parts}
+use Rattle.message.specs.Layouts.{sizes_of, chosen_of, fits, size_fits}
+use Rattle.message.specs.Reading.{decode_as, decode_of}
 use Rattle.message.specs.declared.kind.Kind.{Kind}
-use Rattle.message.specs.declared.kind.Profile.{Profile}
 use Rattle.message.proofs.CommandLists.{sole_of, only}
 use Rattle.message.proofs.Tests.{and_true}
 
@@ -77,3 +72,6 @@ decode_kind k command p e = rw e (ap (λ (c : ℕ). decode_as k c p) (only comma
 pub decode_sole : (command : ℕ) (p : List ℕ)
     → decode_of command p ≡ decode_as (kind_of command) (sole_of (kind_of command) command) p
 decode_sole command p = decode_kind (kind_of command) command p refl
+
+-- what reading by a command needs, where a kind has one size
+pub ruleset decoding = (decode_sole, size_fits_lem, fits_exactly, fits_any, among_next, among_none)

@@ -1,11 +1,11 @@
 -- The counter's status and control and the network's state are read back from their bytes. Assumes nothing.
-use Prim.Native.Nat.{ℕ, zero, suc, ◌*◌, ◌<◌}
-use mathlib.Core.Path.{◌≡◌, refl, sym}
-use mathlib.Core.Bool.{Bool, true, false, cond, ◌&&◌, true≢false}
+use Prim.Native.Nat.{ℕ, ◌*◌, ◌<◌}
+use mathlib.Core.Path.{◌≡◌, refl}
+use mathlib.Core.Bool.{Bool, true, false, cond, ◌&&◌}
 use mathlib.Core.List.{List, [], ◌∷◌}
 use native.Mathlib.Omega.{arith}
 use borrow.Author.Tests.{lt-ltb, ltb-true}
-use lib.Dec.{eqb, ltb}
+use lib.Dec.{ltb}
 use lib.ListN.{get_or}
 use Rattle.message.specs.Numbers.{num, bits, bit}
 use Rattle.base.specs.Numbers.{two_at}
@@ -24,8 +24,7 @@ use Rattle.message.specs.declared.values.Code.TheVariants as code
 use Rattle.message.specs.declared.values.Network.{Network}
 use Rattle.base.proofs.Lists.{all_same}
 use Rattle.message.proofs.Numbers.{mode_max, set_max, small}
-use Rattle.base.proofs.Tests.{either_way, cond_same}
-use Rattle.message.proofs.Tests.{and_false}
+use Rattle.base.proofs.Tests.{cond_same}
 
 -- ---- status
 

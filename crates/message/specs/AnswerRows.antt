@@ -72,7 +72,8 @@ codes = code.Sum ∷ code.Command ∷ code.Other ∷ code.FileType ∷ []
 
 -- for every count, received sequence number and place
 pub record WorkedNames : Type 0 where
-  pub got_as : (m : Message) (parts : Parts) → reading_of (Ok (record { message = m; parts = parts })) ≡ got (message_in m) parts
+  pub got_as : (m : Message) (parts : Parts)
+      → reading_of (Ok (record { message = m; parts = parts })) ≡ got (message_in m) parts
   pub readings :
       map reading_of (Err refused.Command ∷ Err refused.Size ∷ Err refused.Field ∷ [])
       ≡ map (λ n. record { row = row n []; parts = no_parts }) (31 ∷ 32 ∷ 33 ∷ [])

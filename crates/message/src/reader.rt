@@ -13,7 +13,7 @@
 //!   19   0 size  4 count n  6 check code  6 + n
 //!   1B   0 count n  2 check code  2 + n piece size  4 + n
 //!   1D   0 index  2 total  4 data
-#![tactic(auto, using(crate::proofs::Decoding::decode_sole), unfolding(base::specs::Keys::among, crate::specs::Layouts::fits, crate::specs::Layouts::size_fits))]
+#![tactic(auto, unfolding(base::specs::Keys::among, crate::specs::Layouts::fits, crate::specs::Layouts::size_fits))]
 
 ghost use Rattle.std.specs.Prelude.{◌≡◌, ◌==◌, ◌∷◌, [], length, get_or};
 ghost use Rattle.message.specs.Reading.{decode_as, decode_of, Found};
@@ -274,6 +274,7 @@ fn read_piece(payload: &[u8]) -> Result<Reading, ReadError>
 }
 
 /// The message of a command and a payload, with the places of its parts, or the refusal.
+#[tactic(auto, using(crate::proofs::Decoding::decoding))]
 pub fn read(command: u8, payload: &[u8]) -> Result<Reading, ReadError>
     ensures { reading_of result ≡ decode_of command payload.now }
 {
