@@ -1,10 +1,13 @@
 -- A message can be read back from its values, and an answer from its row, so no two have the same. Assumes nothing.
 use Prim.Native.Nat.{ℕ}
-use mathlib.Core.Path.{◌≡◌, refl, ap, sym}
-use mathlib.Core.Bool.{Bool, true, false, cond}
+use mathlib.Core.Path.{◌≡◌, refl, ap, sym, ◌∙◌}
+use mathlib.Core.Bool.{Bool, true, false, cond, true≢false}
 use mathlib.Core.List.{List, [], ◌∷◌}
 use lib.ListN.{get_or, drop}
 use lib.Dec.{eqb}
+use native.Mathlib.Omega.{arith}
+use Rattle.std.proofs.lemmas.Bool.Decides.{nat_tests}
+use Rattle.base.specs.Keys.{among}
 use Rattle.base.specs.Rows.{Row}
 use Rattle.base.specs.Outcomes.{Output}
 use Rattle.base.specs.declared.writes.WriteError.{WriteError}
@@ -12,11 +15,11 @@ use Rattle.base.specs.declared.writes.WriteError.TheVariants as unwritten
 use Rattle.base.proofs.Rows.{injective_by}
 use Rattle.base.proofs.WritesExact.{unwritten_from}
 use Rattle.message.specs.Numbers.{num}
-use Rattle.message.specs.Counter.{mode_number, status_in, control_in}
-use Rattle.message.specs.Layouts.{way_number, code_number}
+use Rattle.message.specs.Counter.{mode_number, NamesMode, status_in, control_in}
+use Rattle.message.specs.Layouts.{way_number, NamesWay, code_number, NamesCode}
 use Rattle.message.specs.Messages.{network_in, unix_in, time_in, message_in}
 use Rattle.message.specs.Table.{Read, reading_of, send_row_of, cause_number, reply_row_of}
-use Rattle.message.specs.AnswerRows.{RowsInjective, ContractsComplete, NamedNumbers, WorkedNames}
+use Rattle.message.specs.AnswerRows.{RowsInjective, ContractsComplete, NamedNumbers, NamesOfNumbers, WorkedNames}
 use Rattle.message.specs.declared.counter.Control.{Control}
 use Rattle.message.specs.declared.counter.Mode.{Mode}
 use Rattle.message.specs.declared.counter.Mode.TheVariants as mode
@@ -38,6 +41,7 @@ use Rattle.message.specs.declared.values.Message.TheVariants as message
 use Rattle.message.specs.declared.values.Network.{Network}
 use Rattle.message.specs.declared.values.Time.{Time}
 use Rattle.std.specs.Prelude.{Option, None, Some, Result, Ok, Err}
+use Rattle.message.specs.declared.values.UnknownNumber.{UnknownNumber}
 use Rattle.message.specs.declared.values.Way.{Way}
 use Rattle.message.specs.declared.values.Way.TheVariants as way
 use Rattle.message.specs.declared.writer.SendError.{SendError}
@@ -278,6 +282,47 @@ rows_injective =
 
 pub named_numbers : NamedNumbers
 named_numbers = record { modes = refl; ways = refl; codes = refl; causes = refl }
+
+-- values with the same number are the same
+same_by : {A : Type 0} (number : A → ℕ) (from : ℕ → A) → ((a : A) → from (number a) ≡ a) → {n : ℕ} (a b : A)
+    → number a ≡ n → number b ≡ n → a ≡ b
+same_by number from back a b p q = sym (back a) ∙ ap from (p ∙ sym q) ∙ back b
+
+error_same : {n : ℕ} (e b : UnknownNumber) → e.0 ≡ n → b.0 ≡ n → e ≡ b
+error_same e b p q = same_by (λ (e : UnknownNumber). e.0) (λ (n : ℕ). record { 0 = n }) (λ e. refl) e b p q
+
+one_mode : (n : ℕ) (r s : Result Mode UnknownNumber) → NamesMode n r → NamesMode n s → r ≡ s
+one_mode n (Ok a) (Ok b) p q = ap Ok (same_by mode_number mode_from mode_back a b p.0 q.0)
+one_mode n (Ok a) (Err b) p q = absurd (omega arith)
+one_mode n (Err e) (Ok b) p q = absurd (omega arith)
+one_mode n (Err e) (Err b) p q = ap Err (error_same e b p.0 q.0)
+
+one_way : (n : ℕ) (r s : Result Way UnknownNumber) → NamesWay n r → NamesWay n s → r ≡ s
+one_way n (Ok a) (Ok b) p q = ap Ok (same_by way_number way_from way_back a b p.0 q.0)
+one_way n (Ok a) (Err b) p q = absurd (true≢false (sym p.1 ∙ q.1))
+one_way n (Err e) (Ok b) p q = absurd (true≢false (sym q.1 ∙ p.1))
+one_way n (Err e) (Err b) p q = ap Err (error_same e b p.0 q.0)
+
+one_code : (n : ℕ) (r s : Result Code UnknownNumber) → NamesCode n r → NamesCode n s → r ≡ s
+one_code n (Ok a) (Ok b) p q = ap Ok (same_by code_number code_from code_back a b p.0 q.0)
+one_code n (Ok a) (Err b) p q = absurd (true≢false (sym p.1 ∙ q.1))
+one_code n (Err e) (Ok b) p q = absurd (true≢false (sym q.1 ∙ p.1))
+one_code n (Err e) (Err b) p q = ap Err (error_same e b p.0 q.0)
+
+pub names_of_numbers : NamesOfNumbers
+unfolding among
+names_of_numbers =
+    record {
+      modes = ((refl, omega arith), (refl, omega arith), (refl, omega arith));
+      ways = ((refl, refl), (refl, refl));
+      codes = ((refl, refl), (refl, refl), (refl, refl), (refl, refl));
+      no_mode = λ e h. (refl, grind (arith, nat_tests));
+      no_way = λ e h. (refl, grind (arith, nat_tests));
+      no_code = λ e h. (refl, grind (arith, nat_tests));
+      one_mode = one_mode;
+      one_way = one_way;
+      one_code = one_code;
+    }
 
 pub worked_names : WorkedNames
 worked_names =

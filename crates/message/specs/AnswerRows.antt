@@ -1,15 +1,17 @@
 -- Claims: rows of answers: each name has its number and values, and a row fixes its answer. PROTOCOL 12.2, 12.4.
-use Rattle.std.specs.Prelude.{ℕ, ◌≡◌, List, [], ◌∷◌, map, Result, Ok, Err}
+use Rattle.std.specs.Prelude.{ℕ, ◌≡◌, false, List, [], ◌∷◌, map, Result, Ok, Err}
 use Rattle.base.specs.Rows.{row}
 use Rattle.base.specs.Outcomes.{Output, output}
 use Rattle.base.specs.declared.writes.WriteError.{WriteError}
 use Rattle.base.specs.declared.writes.WriteError.TheVariants as unwritten
-use Rattle.message.specs.Counter.{mode_number}
+use Rattle.base.specs.Keys.{among}
+use Rattle.message.specs.Counter.{mode_number, NamesMode}
 use Rattle.message.specs.Parts.{no_parts}
-use Rattle.message.specs.Layouts.{way_number, code_number}
+use Rattle.message.specs.Layouts.{way_number, NamesWay, code_number, NamesCode}
 use Rattle.message.specs.Messages.{message_in}
 use Rattle.message.specs.Table.{got, reading_of, send_row_of, cause_number, reply_row_of}
 use Rattle.message.specs.Reading.{decode_of, read_of, parts_of}
+use Rattle.message.specs.declared.counter.Mode.{Mode}
 use Rattle.message.specs.declared.counter.Mode.TheVariants as mode
 use Rattle.message.specs.declared.kind.Cause.{Cause}
 use Rattle.message.specs.declared.kind.Cause.TheVariants as cause
@@ -22,6 +24,8 @@ use Rattle.message.specs.declared.answers.Reply.TheVariants as reply
 use Rattle.message.specs.declared.values.Code.{Code}
 use Rattle.message.specs.declared.values.Code.TheVariants as code
 use Rattle.message.specs.declared.values.Message.{Message}
+use Rattle.message.specs.declared.values.UnknownNumber.{UnknownNumber}
+use Rattle.message.specs.declared.values.Way.{Way}
 use Rattle.message.specs.declared.values.Way.TheVariants as way
 use Rattle.message.specs.declared.writer.SendError.{SendError}
 use Rattle.message.specs.declared.writer.SendError.TheVariants as unsent
@@ -59,6 +63,21 @@ pub record NamedNumbers : Type 0 where
   pub causes :
       map cause_number (cause.Sum ∷ cause.Command ∷ cause.Size ∷ cause.Field ∷ cause.BoxCommand ∷ [])
       ≡ 15 ∷ 31 ∷ 32 ∷ 33 ∷ 0 ∷ []
+
+-- ---- names_of_numbers: what each number stands for, in literal numbers; any other comes back
+pub record NamesOfNumbers : Type 0 where
+  pub modes : NamesMode 0 (Ok mode.Fold) × NamesMode 1 (Ok mode.Gather) × NamesMode 2 (Ok mode.Sew)
+  pub ways : NamesWay 1 (Ok way.SoftAp) × NamesWay 2 (Ok way.AirLink)
+  pub codes :
+      NamesCode 1 (Ok code.Sum) × NamesCode 2 (Ok code.Command) × NamesCode 3 (Ok code.Other)
+      × NamesCode 4 (Ok code.FileType)
+  pub no_mode : (e : UnknownNumber) → among e.0 (0 ∷ 1 ∷ 2 ∷ []) ≡ false → NamesMode e.0 (Err e)
+  pub no_way : (e : UnknownNumber) → among e.0 (1 ∷ 2 ∷ []) ≡ false → NamesWay e.0 (Err e)
+  pub no_code : (e : UnknownNumber) → among e.0 (1 ∷ 2 ∷ 3 ∷ 4 ∷ []) ≡ false → NamesCode e.0 (Err e)
+  -- a number has one answer
+  pub one_mode : (n : ℕ) (r s : Result Mode UnknownNumber) → NamesMode n r → NamesMode n s → r ≡ s
+  pub one_way : (n : ℕ) (r s : Result Way UnknownNumber) → NamesWay n r → NamesWay n s → r ≡ s
+  pub one_code : (n : ℕ) (r s : Result Code UnknownNumber) → NamesCode n r → NamesCode n s → r ≡ s
 
 -- ---- worked_names: the row of each answer, by its name in the code, in literal numbers
 
