@@ -23,15 +23,17 @@ OPERATORS = {"+", "-", "*", "/", "%", "(", ")", "<<", ">>"}
 KEYWORDS = {"as", "break", "const", "continue", "else", "enum", "extern", "false", "fn", "for", "if", "impl", "in"}
 KEYWORDS |= {"let", "loop", "match", "mut", "pub", "return", "struct", "trait", "true", "type", "where", "while", "_"}
 # Of std: names of types, of their variants and of traits; methods; a macro, whose text is read as any other text is;
-# and what stands in paths such as u64::MAX, where `from` may be one of ours too.
+# and what stands in paths such as u64::MAX, where `from` and `try_from` may be ours too.
 NAMES = {"Option", "None", "Some", "Result", "Err", "Ok", "Clone", "Copy", "From", "TryFrom"}
-BUILT_IN = {"checked_add", "checked_sub", "contains", "copied", "copy_from_slice", "div_ceil", "err", "get", "is_empty"}
-BUILT_IN |= {"is_none", "is_ok", "is_err", "is_some", "len", "map", "map_err", "map_or", "max", "min", "ok", "ok_or"}
-BUILT_IN |= {"saturating_add", "saturating_sub", "to_be_bytes", "unwrap_or", "wrapping_add", "wrapping_sub"}
+BUILT_IN = {"and_then", "checked_add", "checked_sub", "contains", "copied", "copy_from_slice", "div_ceil", "err", "get"}
+BUILT_IN |= {"is_empty", "is_none", "is_ok", "is_err", "is_some", "len", "map", "map_err", "map_or", "max", "min", "ok"}
+BUILT_IN |= {"ok_or", "saturating_add", "saturating_sub", "split_at", "to_be_bytes", "unwrap_or", "wrapping_add"}
+BUILT_IN |= {"wrapping_sub"}
 INTO = {"into": "from", "try_into": "try_from"}  # methods of std that call one of ours
 OPENING = {"(", "[", "{", ",", ";", "=", "=>", "return", "move"}  # what a closure may follow
 MACROS = {"matches"}
-OF_NUMBERS = {"count_ones", "leading_zeros", "trailing_zeros", "MAX", "MIN", "BITS", "from", "from_be_bytes"}
+CONVERTING = {"from": "From", "try_from": "TryFrom"}
+OF_NUMBERS = {"count_ones", "leading_zeros", "trailing_zeros", "MAX", "MIN", "BITS", "from_be_bytes", *CONVERTING}
 
 
 def path_at(tokens, place):
@@ -102,7 +104,7 @@ def conversions(sources, item):
     if result[:2] != ("Result", "<") or result[-1] != ">" or has_closure(item.tokens):
         raise Unreadable(f"{item.name}: what a ? makes is not known")
     error = arguments(result)[-1]
-    yield from made_by_from(sources, error, sources.resolve(item.home, own_path(item, path_at(error, 0)[0])))
+    yield from made_by(sources, "from", error, sources.resolve(item.home, own_path(item, path_at(error, 0)[0])))
 
 
 def has_closure(tokens):
@@ -110,10 +112,10 @@ def has_closure(tokens):
     return any(mark in ("|", "||") and before in OPENING for before, mark in zip(tokens, tokens[1:]))
 
 
-def made_by_from(sources, text, found):
-    """Each `from` in an `impl` of ours that makes a type, by its text, or by what this means."""
-    for method in sources.methods.get("from", {}).values():
-        if method.trait == "From":
+def made_by(sources, name, text, found=None):
+    """Each `from` or `try_from` in an `impl` of ours that makes a type, by its text, or by what this means."""
+    for method in sources.methods.get(name, {}).values():
+        if method.trait == CONVERTING[name]:
             owner = sources.resolve(method.home, method.owner[:1]) if len(method.owner) == 1 else None
             if method.owner == text or found is not None and owner == found:
                 yield method
@@ -137,7 +139,7 @@ def named_in(sources, item):
         if after == "!" or is_declared or is_local(path, after, before) or path[0] in SIZES and len(path) == 1:
             continue
         if path[0] in SIZES and path[1] in OF_NUMBERS:
-            yield from made_by_from(sources, path[:1], None) if path[1] == "from" else ()
+            yield from made_by(sources, path[1], path[:1]) if path[1] in CONVERTING else ()
         elif path[0] in item.parameters or item.kind == "trait" and path[0] == "Self":
             yield from sources.methods.get(path[-1], {}).values() if len(path) > 1 else ()
         else:
@@ -156,16 +158,22 @@ def item_named(sources, item, path):
 def reached(sources, start):
     """All items that an item reaches, itself first.
 
-    A method may be one of a crate that is only read on the way, so this goes on until no module is new.
+    A method may be one of a crate that is only read on the way, so this goes on until no module is new: what is not
+    found then is nowhere.
     """
     known = -1
     while known != len(sources.modules):
-        known, found, waiting = len(sources.modules), {}, [start]
+        known, found, waiting, lost = len(sources.modules), {}, [start], []
         while waiting:
             item = waiting.pop()
             if item.path not in found:
                 found[item.path] = item
-                waiting.extend(named_in(sources, item))
+                try:
+                    waiting += named_in(sources, item)
+                except Unreadable as error:
+                    lost.append(error)
+    if lost:
+        raise lost[0]
     return list(found.values())
 
 
@@ -258,6 +266,14 @@ class Reader:
             found.append(self.layout_of_type(run) or self.fail(f"{' '.join(run)} is not a type"))
         return found
 
+    def is_type(self, tokens):
+        """Whether tokens are a type, as between the brackets of the type `[T]` of a slice."""
+        tokens = tokens[next((place for place, token in enumerate(tokens) if token not in ("&", "mut")), 0) :]
+        tokens = tokens[tokens[:1] != () and tokens[0].startswith("'") :]
+        if tokens[:1] == ("[",) and closing(tokens, 0) == len(tokens) - 1 and len(split(tokens[1:-1], ",")) == 1:
+            return self.is_type(tokens[1:-1]) or self.layout_of_type(tokens) is not None
+        return set(tokens) <= self.item.parameters or self.layout_of_type(tokens) is not None
+
     def size_of_value(self, tokens):
         """The bytes of a value where its text says them, by a cast, a suffix, a byte or an array; else None."""
         if len(tokens) > 2 and tokens[-2] == "as" and tokens[-1] in SIZES:
@@ -294,7 +310,7 @@ class Reader:
                 yield token, len(re.sub(r"\\(x..|.)", "?", token)) - 3
             elif token == "[" and not follows_value(tokens, place) and not is_pattern(tokens, place):
                 inside = tokens[place + 1 : closing(tokens, place)]
-                if len(split(inside, ";")) == 2 or len(split(inside, ",")) > 1:
+                if len(split(inside, ",")) != 1 or len(split(inside, ";")) == 2 or not self.is_type(inside):
                     yield "[" + " ".join(inside[:12]) + "]", self.size_of_array_at(place, inside)
 
     def size_of_array_at(self, place, inside):

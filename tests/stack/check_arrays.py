@@ -1,5 +1,5 @@
 """arrays.py on made-up crates: what it has to find, what it has to leave, and what it must not pass over."""
-from arrays import arrays_of, reached
+from arrays import Reader, arrays_of, reached
 from rattle import Sources, Unreadable
 
 CRATES = {
@@ -262,6 +262,18 @@ PASSED = [
     ("a number of bytes", "let b = wide(n);"),
     ("words of std", "let b = Some(n).copied().map_or(Ok(n), |b| Err(b.min(n)));"),
 ]
+# What stands between two brackets of a function, and the bytes of the arrays that it is.
+BRACKETS = [
+    ("[]", [0]),
+    ("[n]", [16]),
+    ("[7]", [8]),
+    ("[&bytes]", [16]),
+    ("[[0u8; 9]]", [9, 9]),
+    ("n as &[u8]", []),
+    ("n as &'a [&mut [Wide]]", []),
+    ("n as &[&[P]]", []),
+    ("n[7]", []),
+]
 LOST = [
     ("a function", INNER, "let k =", "let b = far(n); let k ="),
     ("a method", INNER, "k.least()", "k.most()"),
@@ -342,6 +354,10 @@ def check(checks):
     for what, text in PASSED:
         found = largest(edited(INNER, "let k =", f"{text} let k ="))
         checks.test(f"{what} is no array above a number's bytes", found == 16, f"{found} bytes")
+    for text, wanted in BRACKETS:
+        other = edited(INNER, "fn apart()", f"fn all<P>(bytes: P) -> u8 {{ let b = {text}; b }} fn apart()")
+        found = [size for _, size in Reader(other, other.module(INNER)[0]["all"]).arrays()]
+        checks.test(f"the arrays of {text}", found == wanted, str(found))
     for what, *edit in LOST:
         checks.test(f"{what} that is not there is not passed over", is_lost(edited(*edit)))
     for what, *edit in HIDDEN:
