@@ -19,7 +19,7 @@ use Rattle.transfer.specs.Checks.{in_range_of}
 use Rattle.transfer.specs.Calls.{put_at}
 use Rattle.transfer.specs.Logs.{Piece, number_of, Account, none, since, with_piece, summed, joined, count_from}
 use Rattle.transfer.specs.declared.state.Transfer.{Transfer}
-use Rattle.transfer.specs.declared.state.Transfer.TheVariants.{Absent, Open}
+use Rattle.transfer.specs.Transfers.{absent, opened}
 use Rattle.transfer.proofs.PieceLaws.{below_end}
 use Rattle.transfer.proofs.TestLaws.{Accepted, open_sizes, stored_one, next_index, next_listed, next_size}
 use Rattle.transfer.proofs.TestLaws.{next_fits}
@@ -76,8 +76,8 @@ among_above x from (suc n) a =
 
 -- of a table that is being received, `t` and `buffer` after the calls
 pub record Holds (size piece : ℕ) (start : List ℕ) (ps : List Piece) (t : Transfer) (buffer : List ℕ) : Type 0 where
-  pub is : t ≡ Open size piece (length ps)
-  pub ranged : in_range_of (Open size piece (length ps)) ≡ true
+  pub is : t ≡ opened size piece (length ps)
+  pub ranged : in_range_of (opened size piece (length ps)) ≡ true
   pub roomy : size ≤ length buffer
   pub numbers : map number_of ps ≡ count_from 1 (length ps)
   pub bytes : summed ps ≡ bytes_of size piece (length ps)
@@ -85,7 +85,7 @@ pub record Holds (size piece : ℕ) (start : List ℕ) (ps : List Piece) (t : Tr
   pub rest : drop (summed ps) buffer ≡ drop (summed ps) start
 
 abbrev pub Told : Account → Transfer → List ℕ → Type 0
-Told none t buffer = t ≡ Absent
+Told none t buffer = t ≡ absent
 Told (since size piece start ps) t buffer = Holds size piece start ps t buffer
 
 -- a transfer that is told of is in range
@@ -97,7 +97,7 @@ told_ranged (since size piece start ps) t buffer h = rw h.is h.ranged
 
 -- a table of a size, in pieces of a size, of which none is stored
 pub begins : (size piece : ℕ) (buffer : List ℕ) → (eqb size 0 || eqb piece 0) ≡ false → size ≤ length buffer
-    → pieces_of size piece ≤ max_pieces → Holds size piece buffer [] (Open size piece 0) buffer
+    → pieces_of size piece ≤ max_pieces → Holds size piece buffer [] (opened size piece 0) buffer
 unfolding joined summed count_from
 begins size piece buffer some room few =
     record {
@@ -203,7 +203,7 @@ module _ (size piece : ℕ) (start : List ℕ) (ps : List Piece) (t : Transfer) 
         let inner = length-append bytes (drop (at + length bytes) buffer) in
         omega (arith, outer, inner, front_size, fits, length-drop (at + length bytes) buffer)
 
-    in_range_still : in_range_of (Open size piece (suc (length ps))) ≡ true
+    in_range_still : in_range_of (opened size piece (suc (length ps))) ≡ true
     in_range_still =
         let outer = both (not (eqb size 0 || eqb piece 0)) h.ranged in
         let inner = both (leb (pieces_of size piece) max_pieces) outer.1 in
@@ -217,11 +217,11 @@ module _ (size piece : ℕ) (start : List ℕ) (ps : List Piece) (t : Transfer) 
         ∙ ap (λ k. count_from 1 (length ps) ++ (k ∷ [])) next ∙ numbers_more 1 (length ps)
         ∙ ap (λ k. count_from 1 k) (sym longer)
 
-    pub next_told : Holds size piece start (with_piece p ps) (Open size piece index) put
+    pub next_told : Holds size piece start (with_piece p ps) (opened size piece index) put
     next_told =
         rw (next_new n) (
         record {
-          is = ap (λ k. Open size piece k) (one_more ∙ sym longer);
+          is = ap (λ k. opened size piece k) (one_more ∙ sym longer);
           ranged = rw longer in_range_still;
           roomy = omega (arith, put_size, h.roomy);
           numbers = numbered;

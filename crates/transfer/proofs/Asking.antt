@@ -23,7 +23,7 @@ use Rattle.transfer.specs.Checks.{Test, first_refusal, begin_tests, store_tests,
 use Rattle.transfer.specs.Writing.{acknowledged, rejection_of, refused_of, ready_payload, pair_wire, pair_of}
 use Rattle.transfer.specs.Calls.{Left, left, settled, both, held, put_in}
 use Rattle.transfer.specs.Asking.{AllAsked}
-use Rattle.transfer.specs.declared.state.Transfer.TheVariants.{Absent, Open}
+use Rattle.transfer.specs.Transfers.{open_of, absent, opened}
 use Rattle.transfer.proofs.WriteLaws.{pair_too_long, pair_no_room, pair_put}
 use Rattle.transfer.proofs.Outcomes.{Others, other_refusal}
 use Rattle.transfer.proofs.Refusals.{piece_others}
@@ -81,7 +81,7 @@ pub calls_asked : AllAsked
 calls_asked limit first max t l clock number payload =
     record {
       begins = λ piece room.
-          call_asks limit (both t l) (both (Open (size_in payload) piece 0) (offer_of first max l 0x1B clock).state)
+          call_asks limit (both t l) (both (opened (size_in payload) piece 0) (offer_of first max l 0x1B clock).state)
           number
           (begin_tests first max t l (eqb (offer_of first max l 0x1B clock).row.number 41) (faulty 0x19 payload)
           (size_in payload) piece room)
@@ -91,13 +91,13 @@ calls_asked limit first max t l clock number payload =
       stores = λ flags buffer.
           call_asks limit (held t buffer) (put_in t (index_in payload) (bytes_in payload) buffer) number
           (store_tests t flags (faulty 0x1D payload) (index_in payload) (total_in payload) (bytes_in payload) buffer)
-          (refl, (refl, piece_others 22 refl refl refl refl refl t flags _ _ _ buffer))
+          (refl, (refl, piece_others 22 refl refl refl refl refl (open_of t) flags _ _ _ buffer))
           (λ out. acknowledged limit 0x1E number out) (acknowledged_asks limit 0x1E number);
       stops =
-          call_asks limit t Absent number (stop_tests t (faulty 0x1F payload)) (refl, (refl, tt))
+          call_asks limit t absent number (stop_tests t (faulty 0x1F payload)) (refl, (refl, tt))
           (λ out. acknowledged limit 0x20 number out) (acknowledged_asks limit 0x20 number);
       cancels =
-          call_asks limit (both t l) (both Absent (offer_of first max l 0x27 clock).state) 0
+          call_asks limit (both t l) (both absent (offer_of first max l 0x27 clock).state) 0
           (cancel_tests first max t l (eqb (offer_of first max l 0x27 clock).row.number 41))
           (refl, (refl, (refl, tt)))
           (λ out. acknowledged limit 0x27 l.next out) (acknowledged_asks limit 0x27 l.next);

@@ -2,109 +2,37 @@
 use Prim.Native.Nat.{ℕ, min}
 use mathlib.Core.Path.{◌≡◌, refl, sym, ap, subst, ◌∙◌}
 use mathlib.Core.Bool.{Bool, true, false, cond, not}
-use mathlib.Core.Logic.{◌≢◌}
 use mathlib.Core.List.{List, [], ◌∷◌}
 use lib.Dec.{eqb}
 use lib.ListN.{length, take, drop}
+use Rattle.std.specs.Prelude.{Option, Some, None, Result, Ok, Err, IsErrAnd}
 use Rattle.base.specs.Rows.{Row, row}
 use Rattle.base.proofs.Lists.{drop_min}
 use Rattle.message.specs.Parts.{bytes_of}
 use Rattle.message.specs.declared.parts.Place.{Place}
 use Rattle.base.specs.Outcomes.{Outcome, outcome, Output, output, rowed}
-use Rattle.transfer.specs.Table.{refusal_number, check_number, busy_row, wrote_row, began_row}
-use Rattle.link.specs.Calls.{in_range, offer_of}
+use Rattle.transfer.specs.Table.{denial_number, check_number, wrote_row, began_row}
+use Rattle.transfer.specs.declared.answers.Denial.{Denial}
+use Rattle.link.specs.Calls.{offer_of}
 use Rattle.link.specs.declared.state.Link.{Link}
-use Rattle.transfer.specs.Payloads.{faulty, size_in, code_in, index_in, total_in, bytes_in}
-use Rattle.transfer.specs.Checks.{first_refusal, in_range_of, begin_tests, store_tests, stop_tests}
-use Rattle.transfer.specs.Writing.{acknowledged, refused_of, pair_of}
-use Rattle.transfer.specs.Calls.{left, settled, Both, both, begin_with, begin_of, held, put_in, Fits, store_of}
-use Rattle.transfer.specs.Calls.{stop_of, cancel_with, cancel_of}
+use Rattle.transfer.specs.Payloads.{faulty, size_in, code_in, code_at, index_in, total_in, bytes_in, bytes_at}
+use Rattle.transfer.specs.Payloads.{announcement_of, piece_of}
+use Rattle.transfer.specs.declared.announcements.Announcement.{Announcement}
+use Rattle.transfer.specs.declared.announcements.Piece.{Piece}
+use Rattle.transfer.specs.Checks.{first_refusal, open_in_range, in_range_of, test, piece_tests, begin_tests}
+use Rattle.transfer.specs.Checks.{store_tests, open_tests}
+use Rattle.transfer.specs.Writing.{refused_of, pair_of}
+use Rattle.transfer.specs.Calls.{left, settled, Both, both, begin_with, begin_of, Held, held, put_open, put_in, Fits}
+use Rattle.transfer.specs.Calls.{store_of}
+use Rattle.frame.specs.Calls.{write_of}
+use Rattle.transfer.specs.declared.state.Open.{Open}
 use Rattle.transfer.specs.declared.state.Transfer.{Transfer}
-use Rattle.transfer.specs.declared.state.Transfer.TheVariants.{Absent, Open}
+use Rattle.transfer.specs.Transfers.{open_of, opened}
 use Rattle.transfer.proofs.TestLaws.{passes, held_by, open_sizes, accepted, next_fits}
-use Rattle.transfer.specs.declared.answers.Refusal.{Refusal}
-use Rattle.transfer.specs.declared.answers.Refusal.TheVariants as refusal
-use Rattle.transfer.specs.declared.answers.Check.{Check}
-use Rattle.transfer.specs.declared.answers.Check.TheVariants as check
 
-module _ {S : Type 0} (before next : S) where
-  -- a frame that was written changes what is held
-  pub settled_wrote : (command count : ℕ) (o : List ℕ) (w : Output) → output (row 0 (count ∷ [])) o ≡ w
-      → left (output (wrote_row command count) o) next ≡ settled (rowed (wrote_row command) w) before next
-  settled_wrote command count o w e =
-      subst (λ (v : Output). left (output (wrote_row command count) o) next
-      ≡ settled (rowed (wrote_row command) v) before next) e refl
-
-  pub settled_to : (made : S) → made ≡ next → (command count : ℕ) (o : List ℕ) (w : Output)
-      → output (row 0 (count ∷ [])) o ≡ w
-      → left (output (wrote_row command count) o) made ≡ settled (rowed (wrote_row command) w) before next
-  settled_to made q command count o w e =
-      ap (λ (s : S). left (output (wrote_row command count) o) s) q ∙ settled_wrote command count o w e
-
-  -- a refusal does not
-  pub settled_kept : (f : ℕ → Row) (a : Row) (o : List ℕ) (w : Output) → eqb a.number 0 ≡ false
-      → output a o ≡ w → left (output a o) before ≡ settled (rowed f w) before next
-  settled_kept f a o w n e =
-      subst (λ (v : Output). left (output a o) before ≡ settled (rowed f v) before next) e (simp n)
-
--- ---- by the number of the first refusal
-
-module _ {A : Type 0} (x : A) (y : ℕ → A) where
-  pub by_none : (n : ℕ) → 0 ≡ n → x ≡ cond (eqb n 0) x (y n)
-  by_none n e = subst (λ (k : ℕ). x ≡ cond (eqb k 0) x (y k)) e refl
-
-  pub by_refusal : (m n : ℕ) → m ≡ n → eqb m 0 ≡ false → y m ≡ cond (eqb n 0) x (y n)
-  by_refusal m n e h = subst (λ (k : ℕ). y m ≡ cond (eqb k 0) x (y k)) e (rw h)
-
--- only one check does not refuse
-refusal_some : (why : Refusal) → eqb (refusal_number why) 0 ≡ false
-refusal_some refusal.Size = refl
-refusal_some refusal.Empty = refl
-refusal_some refusal.TooBig = refl
-refusal_some refusal.HexLines = refl
-refusal_some refusal.Pieces = refl
-refusal_some refusal.Turn = refl
-refusal_some refusal.Piece = refl
-
-pub check_refuses : (c : Check) → c ≢ check.Accepted → eqb (check_number c) 0 ≡ false
-check_refuses check.Accepted h = absurd (h refl)
-check_refuses (check.Refused why) h = refusal_some why
-check_refuses check.State h = refl
-check_refuses check.Busy h = refl
-
--- ---- each call, by what its tests said
-
-module _ (limit : ℕ) (t : Transfer) (number : ℕ) (payload out : List ℕ) (misread : Bool)
-    (read : misread ≡ faulty 0x1F payload) (n : ℕ) (said : n ≡ first_refusal (stop_tests t misread)) where
-  stop_said : n ≡ first_refusal (stop_tests t (faulty 0x1F payload))
-  stop_said = said ∙ ap (λ (b : Bool). first_refusal (stop_tests t b)) read
-
-  pub stop_accepted : n ≡ 0 → settled (acknowledged limit 0x20 number out) t Absent ≡ stop_of limit t number payload out
-  stop_accepted z = by_none _ (λ k. left (refused_of limit k number out) t) _ (sym z ∙ stop_said)
-
-  pub stop_refused : eqb n 0 ≡ false → left (refused_of limit n number out) t ≡ stop_of limit t number payload out
-  stop_refused h =
-      by_refusal (settled (acknowledged limit 0x20 number out) t Absent) (λ k. left (refused_of limit k number out) t) n
-      _
-      stop_said h
-
--- `r` and `next` are what the link said of the 27
-module _ (limit first max : ℕ) (t : Transfer) (l : Link) (clock : ℕ) (out : List ℕ) (ranged : in_range_of t ≡ true)
-    (linked : in_range first max l ≡ true) (r : Row) (next : Link)
-    (offered : outcome r next ≡ offer_of first max l 0x27 clock) where
-  pub cancel_busy : eqb r.number 41 ≡ true
-      → left (output busy_row out) (both t l) ≡ cancel_of limit first max t l clock out
-  cancel_busy b =
-      subst (λ (y : Outcome Link). left (output busy_row out) (both t l) ≡ cancel_with limit first max t l y out)
-      offered
-      (simp (ranged, linked, b))
-
-  pub cancel_accepted : eqb r.number 41 ≡ false
-      → settled (acknowledged limit 0x27 l.next out) (both t l) (both Absent next)
-      ≡ cancel_of limit first max t l clock out
-  cancel_accepted b =
-      subst (λ (y : Outcome Link). settled (acknowledged limit 0x27 l.next out) (both t l) (both Absent next)
-      ≡ cancel_with limit first max t l y out) offered (simp (ranged, linked, b))
+-- where no test refuses
+by_none : {A : Type 0} (x : A) (y : ℕ → A) (n : ℕ) → 0 ≡ n → x ≡ cond (eqb n 0) x (y n)
+by_none x y n e = subst (λ (k : ℕ). x ≡ cond (eqb k 0) x (y k)) e refl
 
 -- `r`, the part of the payload that the code found, holds the bytes at its place
 pub part_bytes : (p r : List ℕ) (at place : Place) → at ≡ place
@@ -112,47 +40,104 @@ pub part_bytes : (p r : List ℕ) (at place : Place) → at ≡ place
 part_bytes p r at place q e =
     e ∙ ap (λ l. take at.size l) (drop_min at.start p) ∙ ap (λ (s : Place). bytes_of s p) q
 
--- `misread`, `index`, `total` and `bytes` are what the code read of a 1D
-module _ (limit : ℕ) (t : Transfer) (number flags : ℕ) (payload buffer out : List ℕ) (misread : Bool) (index total : ℕ)
-    (bytes : List ℕ) (q : misread ≡ faulty 0x1D payload) (i : index ≡ index_in payload) (s : total ≡ total_in payload)
-    (d : bytes ≡ bytes_in payload) (n : ℕ)
-    (said : n ≡ first_refusal (store_tests t flags misread index total bytes buffer)) where
-  store_said : n ≡ first_refusal (store_tests t flags (faulty 0x1D payload) (index_in payload) (total_in payload)
-      (bytes_in payload) buffer)
-  store_said =
-      said ∙ ap (λ (b : Bool). first_refusal (store_tests t flags b index total bytes buffer)) q
-      ∙ ap (λ k. first_refusal (store_tests t flags (faulty 0x1D payload) k total bytes buffer)) i
-      ∙ ap (λ k. first_refusal (store_tests t flags (faulty 0x1D payload) (index_in payload) k bytes buffer)) s
-      ∙ ap (λ l. first_refusal
-      (store_tests t flags (faulty 0x1D payload) (index_in payload) (total_in payload) l buffer)) d
+-- a frame that was written changes what is held
+settled_wrote : {S : Type 0} (before next : S) (command count : ℕ) (o : List ℕ) (w : Output)
+    → output (row 0 (count ∷ [])) o ≡ w
+    → left (output (wrote_row command count) o) next ≡ settled (rowed (wrote_row command) w) before next
+settled_wrote before next command count o w e =
+    subst (λ (v : Output). left (output (wrote_row command count) o) next
+    ≡ settled (rowed (wrote_row command) v) before next) e refl
 
-  pub store_accepted : n ≡ 0
-      → settled (acknowledged limit 0x1E number out) (held t buffer) (put_in t index bytes buffer)
-      ≡ store_of limit t number flags payload buffer out
-  store_accepted z =
-      ap (λ k. settled (acknowledged limit 0x1E number out) (held t buffer) (put_in t k bytes buffer)) i
-      ∙ ap (λ l. settled (acknowledged limit 0x1E number out) (held t buffer) (put_in t (index_in payload) l buffer)) d
-      ∙ by_none _ (λ k. left (refused_of limit k number out) (held t buffer)) _ (sym z ∙ store_said)
+-- what a test refused, passed on
+pub denied_as : {A : Type 0} (r : Result A Denial) (why : Denial) → IsErrAnd r (λ (e : Denial). e ≡ why)
+    → check_number r ≡ denial_number why
+denied_as (Ok a) why h = absurd h
+denied_as (Err e) why h = ap denial_number h
 
-  pub store_refused : eqb n 0 ≡ false
-      → left (refused_of limit n number out) (held t buffer) ≡ store_of limit t number flags payload buffer out
-  store_refused h =
-      by_refusal (settled (acknowledged limit 0x1E number out) (held t buffer)
-      (put_in t (index_in payload) (bytes_in payload) buffer))
-      (λ k. left (refused_of limit k number out) (held t buffer))
-      n _
-      store_said h
+-- ---- a 1D
+
+-- a value that is there, by a test
+some_by : {A : Type 0} (b : Bool) (x y : A) → Some x ≡ cond b None (Some y) → (b ≡ false) × (x ≡ y)
+some_by true x y e = cc
+some_by false x y e = let q : x ≡ y = cc in (refl, q)
 
 -- an accepted piece has room
-pub store_fits : (t : Transfer) (flags : ℕ) (misread : Bool) (index total : ℕ) (bytes buffer : List ℕ)
-    → 0 ≡ first_refusal (store_tests t flags misread index total bytes buffer) → Fits t index bytes buffer
-store_fits Absent flags misread index total bytes buffer e = tt
-store_fits (Open size piece stored) flags misread index total bytes buffer e = λ h.
-    let a = passes (not (in_range_of (Open size piece stored))) 17 refl e in
+store_fits : (o : Option Open) (flags : ℕ) (misread : Bool) (index total : ℕ) (bytes buffer : List ℕ)
+    → 0 ≡ first_refusal
+    (test (not (open_in_range o)) 17 ∷ test misread 32 ∷ piece_tests o flags index total bytes buffer)
+    → Fits o index bytes buffer
+store_fits None flags misread index total bytes buffer e = tt
+store_fits (Some o) flags misread index total bytes buffer e = λ h.
+    let a = passes (not (open_in_range (Some o))) 17 refl e in
     let b = passes misread 32 refl a.1 in
-    let sizes = open_sizes size piece stored (held_by (in_range_of (Open size piece stored)) a.0) in
-    next_fits size piece stored index total bytes buffer h
-    (accepted size piece stored flags index total bytes buffer b.1) sizes.1
+    let sizes = open_sizes o.size o.piece o.stored (held_by (open_in_range (Some o)) a.0) in
+    next_fits o.size o.piece o.stored index total bytes buffer h
+    (accepted o.size o.piece o.stored flags index total bytes buffer b.1) sizes.1
+
+-- where an open transfer in range gets a piece without a fault, the tests of the piece decide
+open_said : (x : Option Open) (o : Open) → x ≡ Some o → open_in_range x ≡ true → (misread : Bool) → misread ≡ false
+    → (flags index total : ℕ) (bytes buffer : List ℕ)
+    → first_refusal (open_tests o.size o.piece o.stored flags index total bytes buffer)
+    ≡ first_refusal (test (not (open_in_range x)) 17 ∷ test misread 32 ∷ piece_tests x flags index total bytes buffer)
+open_said None o q r misread m flags index total bytes buffer = cc
+open_said (Some y) o q r misread m flags index total bytes buffer = let e : y ≡ o = cc in rw (r, m, e)
+
+-- `p` is what the code read of a 1D, and `bytes` are those at its place
+module _ (t : Transfer) (o : Open) (is : open_of t ≡ Some o) (flags : ℕ) (payload buffer bytes : List ℕ) (p : Piece)
+    (read : Some p ≡ piece_of payload) (found : bytes ≡ bytes_of p.bytes payload) where
+  said : (faulty 0x1D payload ≡ false)
+      × (p ≡ record { index = index_in payload; total = total_in payload; bytes = bytes_at payload })
+  said = some_by (faulty 0x1D payload) p _ read
+
+  index_is : p.index ≡ index_in payload
+  index_is = ap (λ (q : Piece). q.index) said.1
+
+  total_is : p.total ≡ total_in payload
+  total_is = ap (λ (q : Piece). q.total) said.1
+
+  bytes_are : bytes ≡ bytes_in payload
+  bytes_are = found ∙ ap (λ (q : Piece). bytes_of q.bytes payload) said.1
+
+  pub piece_said : in_range_of t ≡ true
+      → first_refusal (open_tests o.size o.piece o.stored flags p.index p.total bytes buffer)
+      ≡ first_refusal (store_tests t flags (faulty 0x1D payload) (index_in payload) (total_in payload)
+      (bytes_in payload) buffer)
+  piece_said r =
+      ap (λ k. first_refusal (open_tests o.size o.piece o.stored flags k p.total bytes buffer)) index_is
+      ∙ ap (λ k. first_refusal (open_tests o.size o.piece o.stored flags (index_in payload) k bytes buffer)) total_is
+      ∙ ap (λ l. first_refusal (open_tests o.size o.piece o.stored flags (index_in payload) (total_in payload) l
+      buffer)) bytes_are
+      ∙ open_said (open_of t) o is r (faulty 0x1D payload) said.0 flags (index_in payload) (total_in payload)
+      (bytes_in payload) buffer
+
+  -- an accepted piece has room
+  pub store_room : 0 ≡ first_refusal (store_tests t flags (faulty 0x1D payload) (index_in payload) (total_in payload)
+      (bytes_in payload) buffer)
+      → Fits (Some o) p.index bytes buffer
+  store_room z =
+      let f = store_fits (open_of t) flags (faulty 0x1D payload) (index_in payload) (total_in payload)
+      (bytes_in payload) buffer z in
+      let g = subst (λ (x : Option Open). Fits x (index_in payload) (bytes_in payload) buffer) is f in
+      let h = subst (λ k. Fits (Some o) k (bytes_in payload) buffer) (sym index_is) g in
+      subst (λ l. Fits (Some o) p.index l buffer) (sym bytes_are) h
+
+  put_is : put_open (Some o) p.index bytes buffer ≡ put_in t (index_in payload) (bytes_in payload) buffer
+  put_is =
+      ap (λ k. put_open (Some o) k bytes buffer) index_is
+      ∙ ap (λ l. put_open (Some o) (index_in payload) l buffer) bytes_are
+      ∙ ap (λ (x : Option Open). put_open x (index_in payload) (bytes_in payload) buffer) (sym is)
+
+  -- a 1E that was written goes with the piece that was put
+  pub store_wrote : 0 ≡ first_refusal (store_tests t flags (faulty 0x1D payload) (index_in payload) (total_in payload)
+      (bytes_in payload) buffer)
+      → (limit number : ℕ) (out : List ℕ) (count : ℕ) (made : List ℕ)
+      → output (row 0 (count ∷ [])) made ≡ write_of limit 0x1E number 0 [] out
+      → (h : Held) → h ≡ put_open (Some o) p.index bytes buffer
+      → left (output (wrote_row 0x1E count) made) h ≡ store_of limit t number flags payload buffer out
+  store_wrote z limit number out count made e h q =
+      ap (λ (s : Held). left (output (wrote_row 0x1E count) made) s) (q ∙ put_is)
+      ∙ settled_wrote (held t buffer) (put_in t (index_in payload) (bytes_in payload) buffer) 0x1E count made _ e
+      ∙ by_none _ (λ k. left (refused_of limit k number out) (held t buffer)) _ z
 
 -- ---- a 19
 
@@ -170,35 +155,50 @@ module _ (before next : Both) (limit number link piece : ℕ) (code out : List �
       → left (output a o) before ≡ settled (pair_of limit number link piece code out) before next
   begun_kept a o n e = subst (λ (w : Output). left (output a o) before ≡ settled w before next) e (simp n)
 
--- `misread`, `size` and `code` are what the code read of a 19, `r` and `next` what the link said of the 1B
+-- `r` and `next` are what the link said of the 1B, `a` is what the code read of a 19, and `code` the code at its place
 module _ (limit first max : ℕ) (t : Transfer) (l : Link) (clock number : ℕ) (payload : List ℕ) (piece room : ℕ)
-    (out : List ℕ) (misread : Bool) (size : ℕ) (code : List ℕ) (q : misread ≡ faulty 0x19 payload)
-    (s : size ≡ size_in payload) (d : code ≡ code_in payload) (r : Row) (next : Link)
-    (offered : outcome r next ≡ offer_of first max l 0x1B clock) (busy : Bool) (b : busy ≡ eqb r.number 41) (n : ℕ)
-    (said : n ≡ first_refusal (begin_tests first max t l busy misread size piece room)) where
-  begin_said : n ≡ first_refusal (begin_tests first max t l (eqb r.number 41) (faulty 0x19 payload) (size_in payload)
-      piece room)
-  begin_said =
-      said ∙ ap (λ (k : Bool). first_refusal (begin_tests first max t l k misread size piece room)) b
-      ∙ ap (λ (k : Bool). first_refusal (begin_tests first max t l (eqb r.number 41) k size piece room)) q
-      ∙ ap (λ k. first_refusal (begin_tests first max t l (eqb r.number 41) (faulty 0x19 payload) k piece room)) s
+    (out : List ℕ) (r : Row) (next : Link) (offered : outcome r next ≡ offer_of first max l 0x1B clock)
+    (passed : 0 ≡ first_refusal
+    (begin_tests first max t l (eqb r.number 41) (faulty 0x19 payload) (size_in payload) piece room))
+    (a : Announcement) (read : Some a ≡ announcement_of payload) (code : List ℕ)
+    (found : code ≡ bytes_of a.code payload) where
+  announced : (faulty 0x19 payload ≡ false) × (a ≡ record { size = size_in payload; code = code_at payload })
+  announced = some_by (faulty 0x19 payload) a _ read
 
-  pub begin_accepted : n ≡ 0
-      → settled (pair_of limit number l.next piece code out) (both t l) (both (Open size piece 0) next)
+  -- the pair decides
+  begin_by_pair : settled (pair_of limit number l.next piece (code_in payload) out) (both t l)
+      (both (opened (size_in payload) piece 0) next)
       ≡ begin_of limit first max t l clock number payload piece room out
-  begin_accepted z =
-      ap (λ c. settled (pair_of limit number l.next piece c out) (both t l) (both (Open size piece 0) next)) d
-      ∙ ap (λ k. settled (pair_of limit number l.next piece (code_in payload) out) (both t l)
-      (both (Open k piece 0) next)) s
-      ∙ by_none _ (λ k. left (refused_of limit k number out) (both t l)) _ (sym z ∙ begin_said)
+  begin_by_pair =
+      by_none _ (λ k. left (refused_of limit k number out) (both t l)) _ passed
       ∙ ap (λ (y : Outcome Link). begin_with limit first max t l y number payload piece room out) offered
 
-  pub begin_refused : eqb n 0 ≡ false
-      → left (refused_of limit n number out) (both t l)
+  code_is : code ≡ code_in payload
+  code_is = found ∙ ap (λ (q : Announcement). bytes_of q.code payload) announced.1
+
+  pair_is : (w : Output) → w ≡ pair_of limit number l.next piece code out
+      → w ≡ pair_of limit number l.next piece (code_in payload) out
+  pair_is w e = e ∙ ap (λ c. pair_of limit number l.next piece c out) code_is
+
+  -- what was written changes transfer and link
+  pub begin_wrote : (made : Open) → made ≡ record { size = a.size; piece = piece; stored = 0 }
+      → (count ready : ℕ) (o : List ℕ)
+      → output (began_row count ready) o ≡ pair_of limit number l.next piece code out
+      → left (output (began_row count ready) o) (both (record { «open» = Some made }) next)
       ≡ begin_of limit first max t l clock number payload piece room out
-  begin_refused h =
-      by_refusal (settled (pair_of limit number l.next piece (code_in payload) out) (both t l)
-      (both (Open (size_in payload) piece 0) next)) (λ k. left (refused_of limit k number out) (both t l)) n _
-      begin_said
-      h
-      ∙ ap (λ (y : Outcome Link). begin_with limit first max t l y number payload piece room out) offered
+  begin_wrote made m count ready o e =
+      ap (λ (x : Open). left (output (began_row count ready) o) (both (record { «open» = Some x }) next)) m
+      ∙ ap (λ n. left (output (began_row count ready) o) (both (opened n piece 0) next))
+      (ap (λ (q : Announcement). q.size) announced.1)
+      ∙ begun_wrote (both t l) (both (opened (size_in payload) piece 0) next) limit number l.next piece
+      (code_in payload) out count ready o (pair_is _ e)
+      ∙ begin_by_pair
+
+  -- a refusal does not
+  pub begin_unwritten : (w : Row) (o : List ℕ) → eqb w.number 0 ≡ false
+      → output w o ≡ pair_of limit number l.next piece code out
+      → left (output w o) (both t l) ≡ begin_of limit first max t l clock number payload piece room out
+  begin_unwritten w o n e =
+      begun_kept (both t l) (both (opened (size_in payload) piece 0) next) limit number l.next piece
+      (code_in payload) out w o n (pair_is _ e)
+      ∙ begin_by_pair

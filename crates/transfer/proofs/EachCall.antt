@@ -8,6 +8,7 @@ use native.Mathlib.Omega.{arith}
 use borrow.Author.Tests.{eq-eqb, ne_eqb, eqb-true, eqb-false, lt-ltb, le-ltb, le-leb, lt-leb}
 use lib.Dec.{eqb, ltb}
 use lib.ListN.{length, take, drop, length-append}
+use Rattle.std.specs.Prelude.{None}
 use Rattle.base.specs.Same.{same_bytes}
 use Rattle.base.proofs.Tests.{either_way}
 use Rattle.base.proofs.SameExact.{same_exactly}
@@ -19,7 +20,7 @@ use Rattle.base.specs.Keys.{among}
 use Rattle.link.specs.Sending.{may_wait}
 use Rattle.link.specs.Calls.{in_range, offer_of}
 use Rattle.link.specs.declared.state.Link.{Link}
-use Rattle.link.specs.declared.state.Wait.TheVariants.{Idle, Waiting}
+use Rattle.link.specs.Sending.{waits_for}
 use Rattle.transfer.specs.Payloads.{faulty, size_in, code_in, index_in, total_in, bytes_in}
 use Rattle.transfer.specs.Checks.{first_refusal, in_range_of, size_tests, begin_tests, stop_tests, cancel_tests}
 use Rattle.transfer.specs.Checks.{hex_lines, in_turn, right_bytes, open_tests, store_tests}
@@ -30,7 +31,7 @@ use Rattle.transfer.specs.Calls.{begin_of, stop_of, cancel_with}
 use Rattle.transfer.specs.Refusals.{twelve}
 use Rattle.transfer.specs.EachCall.{Rejected, Written, Sent, link_after, BeginExact, StoreExact, CallsAlways}
 use Rattle.transfer.specs.declared.state.Transfer.{Transfer}
-use Rattle.transfer.specs.declared.state.Transfer.TheVariants.{Absent, Open}
+use Rattle.transfer.specs.Transfers.{absent, opened}
 use Rattle.transfer.proofs.WriteLaws.{pair_too_long, pair_no_room, pair_put}
 use Rattle.transfer.proofs.TestLaws.{or_true, open_sizes}
 use Rattle.transfer.proofs.PieceLaws.{few_pieces, many_pieces, reaches_end, below_more, right_total, inside}
@@ -88,11 +89,11 @@ module _ {S : Type 0} (limit : ℕ) (enough : 6 ≤ limit) (before next : S) (co
 
 module _ (first max : ℕ) (l : Link) (command clock : ℕ) (linked : in_range first max l ≡ true)
     (may : may_wait command ≡ true) where
-  offer_idle : l.wait ≡ Idle
+  offer_idle : l.waiting ≡ None
       → offer_of first max l command clock ≡ outcome (row 0 (l.next ∷ [])) (link_after first l command clock)
   offer_idle w = simp (linked, may) (simp w)
 
-  offer_waits : (other under sent repeats : ℕ) → l.wait ≡ Waiting other under sent repeats
+  offer_waits : (other under sent repeats : ℕ) → l.waiting ≡ waits_for other under sent repeats
       → offer_of first max l command clock ≡ outcome (row 41 []) l
   offer_waits other under sent repeats w = simp (linked, may) (simp w)
 
@@ -110,12 +111,12 @@ module _ (limit : ℕ) (enough : 6 ≤ limit) (t : Transfer) (ranged : in_range_
     (payload out : List ℕ) where
   stop_misread : faulty 0x1F payload ≡ true → Rejected _ 32 number out t (stop_of limit t number payload out)
   stop_misread f =
-      rejected limit enough t Absent number (acknowledged limit 0x20 number out) out 32
+      rejected limit enough t absent number (acknowledged limit 0x20 number out) out 32
       (first_refusal (stop_tests t (faulty 0x1F payload))) (rw (ranged, f)) refl refl refl
 
-  stops : faulty 0x1F payload ≡ false → Sent _ 0x20 number out t Absent (stop_of limit t number payload out)
+  stops : faulty 0x1F payload ≡ false → Sent _ 0x20 number out t absent (stop_of limit t number payload out)
   stops f =
-      sent limit enough t Absent 0x20 number out number (first_refusal (stop_tests t (faulty 0x1F payload)))
+      sent limit enough t absent 0x20 number out number (first_refusal (stop_tests t (faulty 0x1F payload)))
       (rw (ranged, f))
 
 -- `offered` is what the link says
@@ -126,11 +127,11 @@ module _ (limit first max : ℕ) (enough : 6 ≤ limit) (t : Transfer) (l : Link
   cancel_busy offered e = rw (e, ranged, linked)
 
   cancel_sent : (offered : Outcome Link) (next : Link) → offered ≡ outcome (row 0 (l.next ∷ [])) next
-      → Sent _ 0x27 l.next out (both t l) (both Absent next) (cancel_with limit first max t l offered out)
+      → Sent _ 0x27 l.next out (both t l) (both absent next) (cancel_with limit first max t l offered out)
   cancel_sent offered next e =
-      subst (λ (y : Outcome Link). Sent _ 0x27 l.next out (both t l) (both Absent next)
+      subst (λ (y : Outcome Link). Sent _ 0x27 l.next out (both t l) (both absent next)
       (cancel_with limit first max t l y out)) (sym e)
-      (sent limit enough (both t l) (both Absent next) 0x27 l.next out 0
+      (sent limit enough (both t l) (both absent next) 0x27 l.next out 0
       (first_refusal (cancel_tests first max t l false)) (rw (ranged, linked)))
 
 -- ---- a 19
@@ -150,7 +151,7 @@ module _ (limit first max : ℕ) (enough : 6 ≤ limit) (t : Transfer) (l : Link
   begin_misread : (offered : Outcome Link) → faulty 0x19 payload ≡ true
       → Rejected _ 32 number out (both t l) (begins_with offered)
   begin_misread offered f =
-      rejected limit enough (both t l) (both (Open size piece 0) offered.state) number pair out 32
+      rejected limit enough (both t l) (both (opened size piece 0) offered.state) number pair out 32
       (first_refusal (begin_tests first max t l (eqb offered.row.number 41) (faulty 0x19 payload) size piece room))
       (rw (ranged, linked, f)) refl refl refl
 
@@ -172,15 +173,15 @@ module _ (limit first max : ℕ) (enough : 6 ≤ limit) (t : Transfer) (l : Link
       begin_refused : (k : ℕ) → first_refusal (size_tests size piece room) ≡ k → eqb k 0 ≡ false → eqb k 17 ≡ false
           → eqb k 41 ≡ false → Rejected _ k number out (both t l) (begins_with offered)
       begin_refused k e a b c =
-          rejected limit enough (both t l) (both (Open size piece 0) offered.state) number pair out k refusal
+          rejected limit enough (both t l) (both (opened size piece 0) offered.state) number pair out k refusal
           (sizes_decide ∙ e) a b c
 
       begin_settled : first_refusal (size_tests size piece room) ≡ 0
-          → begins_with offered ≡ settled pair (both t l) (both (Open size piece 0) next)
+          → begins_with offered ≡ settled pair (both t l) (both (opened size piece 0) next)
       begin_settled e =
-          ap (λ n. By limit enough (both t l) (both (Open size piece 0) offered.state) number pair out n)
+          ap (λ n. By limit enough (both t l) (both (opened size piece 0) offered.state) number pair out n)
           (sizes_decide ∙ e)
-          ∙ ap (λ (y : Outcome Link). settled pair (both t l) (both (Open size piece 0) y.state)) idle
+          ∙ ap (λ (y : Outcome Link). settled pair (both t l) (both (opened size piece 0) y.state)) idle
 
   -- the tests of the sizes
   zero_size : size ≡ 0 → first_refusal (size_tests size piece room) ≡ 61
@@ -243,12 +244,12 @@ module _ (limit first max : ℕ) (enough : 6 ≤ limit) (t : Transfer) (l : Link
         too_many = λ f w p r h.
             begin_refused f offered next (idle w) 63 (above_most (omega (arith, h)) p r h) refl refl refl;
         too_long = λ f w s p r m h. begin_settled f offered next (idle w) (sizes_pass s p r m)
-            ∙ ap (λ (v : Output). settled v (both t l) (both (Open size piece 0) next)) (pair_long h);
+            ∙ ap (λ (v : Output). settled v (both t l) (both (opened size piece 0) next)) (pair_long h);
         begun = λ f w s p r m h.
             subst (λ (y : Left Both). Written _ (pair_wire number l.next piece (code_in payload))
-            (26 ∷ length (frame_of 0x1A number 0 []) ∷ []) out (both t l) (both (Open size piece 0) next) y)
+            (26 ∷ length (frame_of 0x1A number 0 []) ∷ []) out (both t l) (both (opened size piece 0) next) y)
             (sym (begin_settled f offered next (idle w) (sizes_pass s p r m)))
-            (pair_written (both (Open size piece 0) next) h);
+            (pair_written (both (opened size piece 0) next) h);
       }
 
 -- ---- a 1D
@@ -259,7 +260,7 @@ not_same a b n =
     either_way (same_bytes a b) (λ e. absurd (n ((same_exactly a b).equal e))) (λ e. e)
 
 module _ (limit : ℕ) (enough : 6 ≤ limit) (size piece stored number flags : ℕ) (payload buffer out : List ℕ)
-    (ranged : in_range_of (Open size piece stored) ≡ true) (f : faulty 0x1D payload ≡ false) where
+    (ranged : in_range_of (opened size piece stored) ≡ true) (f : faulty 0x1D payload ≡ false) where
   abbrev index : ℕ
   index = index_in payload
 
@@ -270,10 +271,10 @@ module _ (limit : ℕ) (enough : 6 ≤ limit) (size piece stored number flags : 
   bytes = bytes_in payload
 
   abbrev open_now : Held
-  open_now = held (Open size piece stored) buffer
+  open_now = held (opened size piece stored) buffer
 
   abbrev stores : Left Held
-  stores = store_of limit (Open size piece stored) number flags payload buffer out
+  stores = store_of limit (opened size piece stored) number flags payload buffer out
 
   abbrev tests : ℕ
   tests = first_refusal (open_tests size piece stored flags index total bytes buffer)
@@ -281,24 +282,25 @@ module _ (limit : ℕ) (enough : 6 ≤ limit) (size piece stored number flags : 
   sizes : (1 ≤ size) × (1 ≤ piece)
   sizes = open_sizes size piece stored ranged
 
-  all_tests : first_refusal (store_tests (Open size piece stored) flags (faulty 0x1D payload) index total bytes buffer)
+  all_tests :
+      first_refusal (store_tests (opened size piece stored) flags (faulty 0x1D payload) index total bytes buffer)
       ≡ tests
   all_tests = rw (ranged, f)
 
   store_refused : (k : ℕ) → tests ≡ k → eqb k 0 ≡ false → eqb k 17 ≡ false → eqb k 41 ≡ false
       → Rejected _ k number out open_now stores
   store_refused k e a b c =
-      rejected limit enough open_now (put_in (Open size piece stored) index bytes buffer) number
+      rejected limit enough open_now (put_in (opened size piece stored) index bytes buffer) number
       (acknowledged limit 0x1E number out) out k
-      (first_refusal (store_tests (Open size piece stored) flags (faulty 0x1D payload) index total bytes buffer))
+      (first_refusal (store_tests (opened size piece stored) flags (faulty 0x1D payload) index total bytes buffer))
       (all_tests ∙ e) a b c
 
-  store_sent : (after : Held) → tests ≡ 0 → put_in (Open size piece stored) index bytes buffer ≡ after
+  store_sent : (after : Held) → tests ≡ 0 → put_in (opened size piece stored) index bytes buffer ≡ after
       → Sent _ 0x1E number out open_now after stores
   store_sent after e q =
       subst (λ (h : Held). Sent _ 0x1E number out open_now h stores) q
-      (sent limit enough open_now (put_in (Open size piece stored) index bytes buffer) 0x1E number out number
-      (first_refusal (store_tests (Open size piece stored) flags (faulty 0x1D payload) index total bytes buffer))
+      (sent limit enough open_now (put_in (opened size piece stored) index bytes buffer) 0x1E number out number
+      (first_refusal (store_tests (opened size piece stored) flags (faulty 0x1D payload) index total bytes buffer))
       (all_tests ∙ e))
 
   module _ (roomy : size ≤ length buffer) where
@@ -362,12 +364,12 @@ module _ (limit : ℕ) (enough : 6 ≤ limit) (size piece stored number flags : 
               → right_bytes size piece stored index bytes buffer ≡ b
           next_right b q = rw (ne_eqb index stored other) q
 
-          put_next : put_in (Open size piece stored) index bytes buffer
-              ≡ held (Open size piece (stored + 1))
+          put_next : put_in (opened size piece stored) index bytes buffer
+              ≡ held (opened size piece (stored + 1))
               (take (stored * piece) buffer ++ (bytes ++ drop (stored * piece + length bytes) buffer))
           put_next =
               rw (ne_eqb index stored other)
-              (ap (λ k. held (Open size piece k)
+              (ap (λ k. held (opened size piece k)
               (take (stored * piece) buffer ++ (bytes ++ drop (stored * piece + length bytes) buffer))) e)
 
         -- the one just stored
@@ -381,7 +383,7 @@ module _ (limit : ℕ) (enough : 6 ≤ limit) (size piece stored number flags : 
               → right_bytes size piece stored index bytes buffer ≡ b
           again_same b q = rw (eq-eqb index stored e) q
 
-          put_again : put_in (Open size piece stored) index bytes buffer ≡ open_now
+          put_again : put_in (opened size piece stored) index bytes buffer ≡ open_now
           put_again = rw (eq-eqb index stored e)
 
         zero_turn : index ≡ 0 → in_turn index total stored ≡ false
@@ -431,11 +433,11 @@ module _ (limit : ℕ) (enough : 6 ≤ limit) (number flags : ℕ) (payload buff
 
   absent_store : (k : ℕ) → faulty 0x1D payload ≡ false → cond (hex_lines flags) 64 65 ≡ k → eqb k 0 ≡ false
       → eqb k 17 ≡ false → eqb k 41 ≡ false
-      → Rejected _ k number out (held Absent buffer) (store_of limit Absent number flags payload buffer out)
+      → Rejected _ k number out (held absent buffer) (store_of limit absent number flags payload buffer out)
   absent_store k f e a b c =
-      rejected limit enough (held Absent buffer) (held Absent buffer) number (acknowledged limit 0x1E number out) out k
+      rejected limit enough (held absent buffer) (held absent buffer) number (acknowledged limit 0x1E number out) out k
       (first_refusal
-      (store_tests Absent flags (faulty 0x1D payload) (index_in payload) (total_in payload) (bytes_in payload)
+      (store_tests absent flags (faulty 0x1D payload) (index_in payload) (total_in payload) (bytes_in payload)
       buffer)) (rw f e) a b c
 
 -- a link that is out of range

@@ -7,6 +7,7 @@ use native.Mathlib.Omega.{arith, min_cases}
 use borrow.Author.Tests.{eq-eqb, leb-true}
 use lib.Dec.{eqb, leb}
 use lib.ListN.{length, get_or}
+use Rattle.std.specs.Prelude.{Option, Some, None}
 use Rattle.base.specs.Rows.{Row}
 use Rattle.base.proofs.Tests.{either_way, both as both_hold}
 use Rattle.link.specs.Calls.{in_range, offer_of}
@@ -22,8 +23,9 @@ use Rattle.transfer.specs.Logs.{Piece, Account, none, since, account_step, accou
 use Rattle.transfer.specs.LogsComputed.{call_of, entry_of, log_of}
 use Rattle.transfer.specs.History.{progress_row, Receiving, LinkOut}
 use Rattle.transfer.specs.Histories.{TransferHistory}
+use Rattle.transfer.specs.declared.state.Open.{Open}
 use Rattle.transfer.specs.declared.state.Transfer.{Transfer}
-use Rattle.transfer.specs.declared.state.Transfer.TheVariants.{Absent, Open}
+use Rattle.transfer.specs.Transfers.{open_of, absent, opened}
 use Rattle.transfer.proofs.PieceLaws.{below_end, reaches_end}
 use Rattle.transfer.proofs.TestLaws.{open_sizes}
 use Rattle.transfer.proofs.Outcomes.{Others, other_refusal, acknowledged_other, pair_other, not_state}
@@ -32,10 +34,10 @@ use Rattle.transfer.proofs.Moves.{begin_keeps, store_keeps, stop_keeps, cancel_k
 
 -- ---- STATE is a link's
 
-piece_others : (t : Transfer) (flags index total : ℕ) (bytes buffer : List ℕ)
-    → Others 17 (piece_tests t flags index total bytes buffer)
-piece_others Absent flags index total bytes buffer = (refl, (refl, tt))
-piece_others (Open size piece stored) flags index total bytes buffer = (refl, (refl, (refl, (refl, (refl, tt)))))
+piece_others : (o : Option Open) (flags index total : ℕ) (bytes buffer : List ℕ)
+    → Others 17 (piece_tests o flags index total bytes buffer)
+piece_others None flags index total bytes buffer = (refl, (refl, tt))
+piece_others (Some o) flags index total bytes buffer = (refl, (refl, (refl, (refl, (refl, tt)))))
 
 -- with a transfer and a link in range, no test of a 19 or of a 27 is STATE
 module _ (first max : ℕ) (t : Transfer) (l : Link) (busy : Bool) (ranged : in_range_of t ≡ true)
@@ -60,7 +62,7 @@ module _ (limit first max : ℕ) (t : Transfer) (buffer : List ℕ) (ranged : in
       other : in_range first max l ≡ true
           → eqb (call_of limit first max t buffer (beginning l clock number payload piece out)).row.number 17 ≡ false
       other h =
-          not_state (both t l) (both (Open (size_in payload) piece 0) (offer_of first max l 0x1B clock).state) limit
+          not_state (both t l) (both (opened (size_in payload) piece 0) (offer_of first max l 0x1B clock).state) limit
           (first_refusal (begin_tests first max t l (eqb (offer_of first max l 0x1B clock).row.number 41)
           (faulty 0x19 payload) (size_in payload) piece (length buffer)))
           number (pair_of limit number l.next piece (code_in payload) out) out
@@ -78,14 +80,14 @@ module _ (limit first max : ℕ) (t : Transfer) (buffer : List ℕ) (ranged : in
           buffer)) number (acknowledged limit 0x1E number out) out
           (rw ranged (other_refusal 17
           (test (faulty 0x1D payload) 32
-          ∷ piece_tests t flags (index_in payload) (total_in payload) (bytes_in payload) buffer) refl
-          (refl, piece_others t flags (index_in payload) (total_in payload) (bytes_in payload) buffer)))
+          ∷ piece_tests (open_of t) flags (index_in payload) (total_in payload) (bytes_in payload) buffer) refl
+          (refl, piece_others (open_of t) flags (index_in payload) (total_in payload) (bytes_in payload) buffer)))
           (acknowledged_other limit 0x1E number out)
   state_link (stopping number payload out) e = no_state other e
     where
       other : eqb (call_of limit first max t buffer (stopping number payload out)).row.number 17 ≡ false
       other =
-          not_state t Absent limit (first_refusal (stop_tests t (faulty 0x1F payload))) number
+          not_state t absent limit (first_refusal (stop_tests t (faulty 0x1F payload))) number
           (acknowledged limit 0x20 number out) out
           (rw ranged (other_refusal 17 (test (faulty 0x1F payload) 32 ∷ []) refl (refl, tt)))
           (acknowledged_other limit 0x20 number out)
@@ -95,7 +97,7 @@ module _ (limit first max : ℕ) (t : Transfer) (buffer : List ℕ) (ranged : in
       other : in_range first max l ≡ true
           → eqb (call_of limit first max t buffer (cancelling l clock out)).row.number 17 ≡ false
       other h =
-          not_state (both t l) (both Absent (offer_of first max l 0x27 clock).state) limit
+          not_state (both t l) (both absent (offer_of first max l 0x27 clock).state) limit
           (first_refusal (cancel_tests first max t l (eqb (offer_of first max l 0x27 clock).row.number 41))) 0
           (acknowledged limit 0x27 l.next out) out
           (cancel_others first max t l (eqb (offer_of first max l 0x27 clock).row.number 41) ranged h)
@@ -201,13 +203,13 @@ bytes_told (since size piece start ps) t buffer h =
 
 pub transfer_history : TransferHistory
 transfer_history limit first max buffer calls =
-    let log = log_of limit first max Absent buffer calls in
-    let h = told_after limit first max none Absent buffer refl calls in
+    let log = log_of limit first max absent buffer calls in
+    let h = told_after limit first max none absent buffer refl calls in
     record {
-      progress = progress_told (account_after none log) (transfer_after Absent log) (buffer_after buffer log) h;
-      bytes = bytes_told (account_after none log) (transfer_after Absent log) (buffer_after buffer log) h;
+      progress = progress_told (account_after none log) (transfer_after absent log) (buffer_after buffer log) h;
+      bytes = bytes_told (account_after none log) (transfer_after absent log) (buffer_after buffer log) h;
       stored = λ size piece start ps e.
-          stored_told size piece start ps (transfer_after Absent log) (buffer_after buffer log)
-          (subst (λ (a : Account). Told a (transfer_after Absent log) (buffer_after buffer log)) e h);
-      never_state = state_only limit first max none Absent buffer refl calls;
+          stored_told size piece start ps (transfer_after absent log) (buffer_after buffer log)
+          (subst (λ (a : Account). Told a (transfer_after absent log) (buffer_after buffer log)) e h);
+      never_state = state_only limit first max none absent buffer refl calls;
     }

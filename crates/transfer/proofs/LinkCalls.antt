@@ -24,7 +24,7 @@ use Rattle.transfer.specs.LinkCalls.{link_entries_in, link_entries, last_link, W
 use Rattle.transfer.specs.Logs as own
 use Rattle.transfer.specs.LogsComputed as step
 use Rattle.transfer.specs.declared.state.Transfer.{Transfer}
-use Rattle.transfer.specs.declared.state.Transfer.TheVariants.{Absent}
+use Rattle.transfer.specs.Transfers.{absent}
 use Rattle.transfer.proofs.OfferLaws.{Asked, taken, busy, unasked, begin_asks, begin_writes, cancel_asks}
 use Rattle.transfer.proofs.OfferLaws.{cancel_writes}
 use Rattle.transfer.proofs.Histories.{transfer_history}
@@ -212,10 +212,10 @@ module _ (limit first max : ℕ) where
       asked : List link.Call
       called : List own.Call
       link_is : b.link ≡ link_to (fresh_of first) asked
-      transfer_is : b.transfer ≡ transfer_to Absent buffer called
-      buffer_is : b.buffer ≡ buffer_to Absent buffer called
+      transfer_is : b.transfer ≡ transfer_to absent buffer called
+      buffer_is : b.buffer ≡ buffer_to absent buffer called
 
-    fresh_reached : Reached (box Absent (fresh_of first) buffer)
+    fresh_reached : Reached (box absent (fresh_of first) buffer)
     unfolding answer.log_of last_link step.log_of own.transfer_after own.buffer_after
     fresh_reached = record { asked = []; called = []; link_is = refl; transfer_is = refl; buffer_is = refl }
 
@@ -223,7 +223,7 @@ module _ (limit first max : ℕ) where
     next_reached b c r =
         let one = asked_by b c in
         let its = own_calls b c in
-        let joined = own_joined Absent buffer r.called its in
+        let joined = own_joined absent buffer r.called its in
         record {
           asked = r.asked ++ one;
           called = r.called ++ its;
@@ -234,14 +234,14 @@ module _ (limit first max : ℕ) where
               ∙ lasts_joined (fresh_of first) (link_log (fresh_of first) r.asked) _);
           transfer_is =
               step_transfer b c ∙ ap (λ (t : Transfer). transfer_to t b.buffer its) r.transfer_is
-              ∙ ap (λ (u : List ℕ). transfer_to (transfer_to Absent buffer r.called) u its) r.buffer_is
-              ∙ sym (ap (λ (es : List own.Entry). own.transfer_after Absent es) joined
-              ∙ transfers_joined Absent (own_log Absent buffer r.called) _);
+              ∙ ap (λ (u : List ℕ). transfer_to (transfer_to absent buffer r.called) u its) r.buffer_is
+              ∙ sym (ap (λ (es : List own.Entry). own.transfer_after absent es) joined
+              ∙ transfers_joined absent (own_log absent buffer r.called) _);
           buffer_is =
               step_buffer b c ∙ ap (λ (t : Transfer). buffer_to t b.buffer its) r.transfer_is
-              ∙ ap (λ (u : List ℕ). buffer_to (transfer_to Absent buffer r.called) u its) r.buffer_is
+              ∙ ap (λ (u : List ℕ). buffer_to (transfer_to absent buffer r.called) u its) r.buffer_is
               ∙ sym (ap (λ (es : List own.Entry). own.buffer_after buffer es) joined
-              ∙ buffers_joined buffer (own_log Absent buffer r.called) _);
+              ∙ buffers_joined buffer (own_log absent buffer r.called) _);
         }
 
     -- what the link answers
@@ -261,10 +261,10 @@ module _ (limit first max : ℕ) where
         → (step.call_of limit first max b.transfer b.buffer c).row.number ≡ 17 → LinkOut first max c
     unfolding step.log_of
     transfer_never b r c e =
-        (transfer_history limit first max buffer (r.called ++ (c ∷ []))).never_state (own_log Absent buffer r.called)
-        _ [] (own_joined Absent buffer r.called (c ∷ []))
+        (transfer_history limit first max buffer (r.called ++ (c ∷ []))).never_state (own_log absent buffer r.called)
+        _ [] (own_joined absent buffer r.called (c ∷ []))
         (sym (ap (λ (t : Transfer). (step.call_of limit first max t b.buffer c).row.number) r.transfer_is
-        ∙ ap (λ (u : List ℕ). (step.call_of limit first max (transfer_to Absent buffer r.called) u c).row.number)
+        ∙ ap (λ (u : List ℕ). (step.call_of limit first max (transfer_to absent buffer r.called) u c).row.number)
         r.buffer_is) ∙ e)
 
     step_never : (b : Box) → Reached b → (c : BothCall) → (row_of b c).number ≢ 17
@@ -296,7 +296,7 @@ module _ (limit first max : ℕ) where
 
 pub link_follows : LinksFollow
 link_follows limit first max small buffer calls =
-    let start = box Absent (fresh_of first) buffer in
+    let start = box absent (fresh_of first) buffer in
     let log = both_log limit first max start calls in
     let same = same limit first max start calls in
     let all = each limit first max small buffer start (fresh_reached limit first max small buffer) calls in

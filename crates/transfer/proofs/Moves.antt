@@ -20,7 +20,7 @@ use Rattle.transfer.specs.Logs.{Call, beginning, storing, stopping, cancelling, 
 use Rattle.transfer.specs.Logs.{Piece, with_piece, added, account_step}
 use Rattle.transfer.specs.LogsComputed.{call_of, entry_of}
 use Rattle.transfer.specs.declared.state.Transfer.{Transfer}
-use Rattle.transfer.specs.declared.state.Transfer.TheVariants.{Absent, Open}
+use Rattle.transfer.specs.Transfers.{absent, opened}
 use Rattle.transfer.proofs.ReadLaws.{size_read, index_read, bytes_read}
 use Rattle.transfer.proofs.TestLaws.{passes, accepted}
 use Rattle.transfer.proofs.Outcomes.{Went, done, kept, went}
@@ -38,7 +38,7 @@ module _ (flags : ℕ) (payload buffer : List ℕ) where
   piece_held t = put_in t (index_in payload) (bytes_in payload) buffer
 
   -- without a transfer there is none
-  none_accepted : 0 ≡ piece_number Absent → ⊥
+  none_accepted : 0 ≡ piece_number absent → ⊥
   none_accepted z =
       let p = passes false 17 refl z in
       let q = passes (faulty 0x1D payload) 32 refl p.1 in
@@ -47,14 +47,14 @@ module _ (flags : ℕ) (payload buffer : List ℕ) where
 
   -- of an open one
   module _ (size piece : ℕ) (start : List ℕ) (ps : List Piece)
-      (h : Holds size piece start ps (Open size piece (length ps)) buffer)
-      (z : 0 ≡ piece_number (Open size piece (length ps))) where
+      (h : Holds size piece start ps (opened size piece (length ps)) buffer)
+      (z : 0 ≡ piece_number (opened size piece (length ps))) where
     abbrev now : Held
-    now = piece_held (Open size piece (length ps))
+    now = piece_held (opened size piece (length ps))
 
     open_told : Holds size piece start (with_piece (piece_in payload) ps) now.transfer now.buffer
     open_told =
-        let p = passes (not (in_range_of (Open size piece (length ps)))) 17 refl z in
+        let p = passes (not (in_range_of (opened size piece (length ps)))) 17 refl z in
         let q = passes (faulty 0x1D payload) 32 refl p.1 in
         let a = accepted size piece (length ps) flags (index_in payload) (total_in payload) (bytes_in payload) buffer
         q.1 in
@@ -62,11 +62,10 @@ module _ (flags : ℕ) (payload buffer : List ℕ) where
         let b = sym (bytes_read payload q.0) in
         by_test (λ (y : Held). Holds size piece start (with_piece (piece_in payload) ps) y.transfer y.buffer)
         (eqb (index_in payload) (length ps))
-        (λ e. again_told size piece start ps (Open size piece (length ps)) buffer h (index_in payload)
-        (total_in payload)
-        (bytes_in payload) a (piece_in payload) i b (eqb-true (index_in payload) (length ps) e))
-        (λ e. next_told size piece start ps (Open size piece (length ps)) buffer h (index_in payload) (total_in payload)
-        (bytes_in payload) a (piece_in payload) i b (eqb-false (index_in payload) (length ps) e))
+        (λ e. again_told size piece start ps (opened size piece (length ps)) buffer h (index_in payload)
+        (total_in payload) (bytes_in payload) a (piece_in payload) i b (eqb-true (index_in payload) (length ps) e))
+        (λ e. next_told size piece start ps (opened size piece (length ps)) buffer h (index_in payload)
+        (total_in payload) (bytes_in payload) a (piece_in payload) i b (eqb-false (index_in payload) (length ps) e))
 
   -- of any
   put_told : (a : Account) (t : Transfer) → Told a t buffer → 0 ≡ piece_number t
@@ -110,7 +109,7 @@ module _ (limit first max : ℕ) (a : Account) (t : Transfer) (buffer : List ℕ
         (faulty 0x19 payload)
         (size_in payload) piece (length buffer))
 
-    begun : 0 ≡ begin_number → Holds (four_at payload 0) piece buffer [] (Open (size_in payload) piece 0) buffer
+    begun : 0 ≡ begin_number → Holds (four_at payload 0) piece buffer [] (opened (size_in payload) piece 0) buffer
     begun z =
         let p = passes (not (in_range_of t)) 17 refl z in
         let q = passes (not (in_range first max l)) 17 refl p.1 in
@@ -119,7 +118,7 @@ module _ (limit first max : ℕ) (a : Account) (t : Transfer) (buffer : List ℕ
         let u = passes (eqb (size_in payload) 0 || eqb piece 0) 61 refl s.1 in
         let v = passes (ltb (length buffer) (size_in payload)) 62 refl u.1 in
         let w = passes (ltb max_pieces (pieces_of (size_in payload) piece)) 63 {k = 0} refl v.1 in
-        subst (λ k. Holds k piece buffer [] (Open (size_in payload) piece 0) buffer) (size_read payload r.0)
+        subst (λ k. Holds k piece buffer [] (opened (size_in payload) piece 0) buffer) (size_read payload r.0)
         (begins (size_in payload) piece buffer u.0 (ltb-false (length buffer) (size_in payload) v.0)
         (ltb-false max_pieces (pieces_of (size_in payload) piece) w.0))
 
@@ -127,7 +126,7 @@ module _ (limit first max : ℕ) (a : Account) (t : Transfer) (buffer : List ℕ
     began = begin_of limit first max t l clock number payload piece (length buffer) out
 
     abbrev ready : Both
-    ready = both (Open (size_in payload) piece 0) (offer_of first max l 0x1B clock).state
+    ready = both (opened (size_in payload) piece 0) (offer_of first max l 0x1B clock).state
 
     pub begin_keeps : After (beginning l clock number payload piece out)
     begin_keeps =
@@ -137,7 +136,7 @@ module _ (limit first max : ℕ) (a : Account) (t : Transfer) (buffer : List ℕ
         go : Went (both t l) ready began begin_number → After (beginning l clock number payload piece out)
         go (done e z s) =
             moved began.row.number (since (four_at payload 0) piece buffer []) began.state.transfer
-            (Open (size_in payload) piece 0) buffer e (ap (λ (b : Both). b.transfer) s) (begun z)
+            (opened (size_in payload) piece 0) buffer e (ap (λ (b : Both). b.transfer) s) (begun z)
         go (kept e s) =
             stayed began.row.number (since (four_at payload 0) piece buffer []) began.state.transfer buffer e
             (ap (λ (b : Both). b.transfer) s) refl
@@ -151,14 +150,14 @@ module _ (limit first max : ℕ) (a : Account) (t : Transfer) (buffer : List ℕ
     cancelled = cancel_of limit first max t l clock out
 
     abbrev dropped : Both
-    dropped = both Absent (offer_of first max l 0x27 clock).state
+    dropped = both absent (offer_of first max l 0x27 clock).state
 
     pub cancel_keeps : After (cancelling l clock out)
     cancel_keeps = go (went (both t l) dropped limit cancel_number 0 (acknowledged limit 0x27 l.next out) out)
       where
         go : Went (both t l) dropped cancelled cancel_number → After (cancelling l clock out)
         go (done e z s) =
-            moved cancelled.row.number none cancelled.state.transfer Absent buffer e
+            moved cancelled.row.number none cancelled.state.transfer absent buffer e
             (ap (λ (b : Both). b.transfer) s) refl
         go (kept e s) =
             stayed cancelled.row.number none cancelled.state.transfer buffer e
@@ -172,10 +171,10 @@ module _ (limit first max : ℕ) (a : Account) (t : Transfer) (buffer : List ℕ
     stopped = stop_of limit t number payload out
 
     pub stop_keeps : After (stopping number payload out)
-    stop_keeps = go (went t Absent limit stop_number number (acknowledged limit 0x20 number out) out)
+    stop_keeps = go (went t absent limit stop_number number (acknowledged limit 0x20 number out) out)
       where
-        go : Went t Absent stopped stop_number → After (stopping number payload out)
-        go (done e z s) = moved stopped.row.number none stopped.state Absent buffer e s refl
+        go : Went t absent stopped stop_number → After (stopping number payload out)
+        go (done e z s) = moved stopped.row.number none stopped.state absent buffer e s refl
         go (kept e s) = stayed stopped.row.number none stopped.state buffer e s refl
 
   -- a 1D

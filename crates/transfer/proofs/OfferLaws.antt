@@ -8,6 +8,7 @@ use borrow.Author.Tests.{eq-eqb, eqb-true}
 use lib.Dec.{eqb, ltb}
 use lib.ListN.{length, take, drop}
 use lib.Seq.{take_at}
+use Rattle.std.specs.Prelude.{None, Some}
 use Rattle.base.specs.Keys.{among}
 use Rattle.base.specs.Rows.{Row, row}
 use Rattle.base.specs.Outcomes.{Outcome, Output, output, onto, written_in, placed, rowed}
@@ -18,15 +19,14 @@ use Rattle.link.specs.Calls.{in_range, offer_in, offer_of}
 use Rattle.link.specs.Sending.{may_wait}
 use Rattle.link.specs.Table.{accepted_row}
 use Rattle.link.specs.declared.state.Link.{Link}
-use Rattle.link.specs.declared.state.Wait.{Wait}
-use Rattle.link.specs.declared.state.Wait.TheVariants.{Idle, Waiting}
+use Rattle.link.specs.Sending.{Wait}
 use Rattle.transfer.specs.Table.{payload_row, busy_row, wrote_row}
 use Rattle.transfer.specs.Payloads.{faulty, size_in, code_in}
 use Rattle.transfer.specs.Checks.{Test, test, first_refusal, in_range_of, size_tests, begin_tests, cancel_tests}
 use Rattle.transfer.specs.Writing.{acknowledged, refused_of, pair_wire, pair_of}
 use Rattle.transfer.specs.Calls.{Left, left, settled, Both, both, begin_of, cancel_of}
 use Rattle.transfer.specs.declared.state.Transfer.{Transfer}
-use Rattle.transfer.specs.declared.state.Transfer.TheVariants.{Absent, Open}
+use Rattle.transfer.specs.Transfers.{absent, opened}
 use Rattle.transfer.proofs.WriteLaws.{by_pair}
 use Rattle.transfer.proofs.TestLaws.{passes, held_by}
 use Rattle.transfer.proofs.Outcomes.{Others, other_refusal, Went, done, kept, went}
@@ -40,17 +40,17 @@ module _ (first max : ℕ) (l : Link) (command clock : ℕ) (may : may_wait comm
   abbrev by_wait : Wait → Outcome Link
   by_wait w = offer_in w first l command clock
 
-  is_in_range : in_range first max l ≡ true → offered ≡ by_wait l.wait
+  is_in_range : in_range first max l ≡ true → offered ≡ by_wait l.waiting
   is_in_range h = rw (h, may)
 
   accepts : in_range first max l ≡ true → eqb offered.row.number 41 ≡ false → offered.row ≡ accepted_row l.next
   accepts h n =
       ap (λ (y : Outcome Link). y.row) (is_in_range h)
-      ∙ go l.wait (ap (λ (y : Outcome Link). eqb y.row.number 41) (sym (is_in_range h)) ∙ n)
+      ∙ go l.waiting (ap (λ (y : Outcome Link). eqb y.row.number 41) (sym (is_in_range h)) ∙ n)
     where
       go : (w : Wait) → eqb (by_wait w).row.number 41 ≡ false → (by_wait w).row ≡ accepted_row l.next
-      go Idle q = refl
-      go (Waiting waiting number sent repeats) q = absurd (true≢false q)
+      go None q = refl
+      go (Some w) q = absurd (true≢false q)
 
   refuses : eqb offered.row.number 41 ≡ true → (offered.row ≡ busy_row) × (offered.state ≡ l)
   refuses e = either_way (in_range first max l) inside outside
@@ -59,13 +59,13 @@ module _ (first max : ℕ) (l : Link) (command clock : ℕ) (may : may_wait comm
       Busy y = (y.row ≡ busy_row) × (y.state ≡ l)
 
       go : (w : Wait) → eqb (by_wait w).row.number 41 ≡ true → Busy (by_wait w)
-      go Idle q = absurd (true≢false (sym q))
-      go (Waiting waiting number sent repeats) q = (refl, refl)
+      go None q = absurd (true≢false (sym q))
+      go (Some w) q = (refl, refl)
 
       inside : in_range first max l ≡ true → Busy offered
       inside h =
           subst (λ y. Busy y) (sym (is_in_range h))
-          (go l.wait (ap (λ (y : Outcome Link). eqb y.row.number 41) (sym (is_in_range h)) ∙ e))
+          (go l.waiting (ap (λ (y : Outcome Link). eqb y.row.number 41) (sym (is_in_range h)) ∙ e))
 
       outside : in_range first max l ≡ false → Busy offered
       outside h = absurd (true≢false (sym (rw h at e)))
@@ -165,11 +165,11 @@ module _ (limit first max : ℕ) (t : Transfer) (l : Link) (clock : ℕ) where
     abbrev pair : Output
     pair = pair_of limit number l.next piece (code_in payload) out
 
-    abbrev opened : Both
-    opened = both (Open (size_in payload) piece 0) ready.state
+    abbrev begun_by : Both
+    begun_by = both (opened (size_in payload) piece 0) ready.state
 
-    begin_went : Went (both t l) opened begun refusal
-    begin_went = went (both t l) opened limit refusal number pair out
+    begin_went : Went (both t l) begun_by begun refusal
+    begin_went = went (both t l) begun_by limit refusal number pair out
 
     begin_ready : 0 ≡ refusal → ready.row ≡ accepted_row l.next
     begin_ready z =
@@ -197,15 +197,15 @@ module _ (limit first max : ℕ) (t : Transfer) (l : Link) (clock : ℕ) where
     pub begin_asks : Asked l ready begun.row begun.state.link
     begin_asks = go begin_went
       where
-        go : Went (both t l) opened begun refusal → Asked l ready begun.row begun.state.link
+        go : Went (both t l) begun_by begun refusal → Asked l ready begun.row begun.state.link
         go (done e z s) = taken e (begin_ready z) (ap (λ (b : Both). b.link) s)
         go (kept e s) =
             either_way (eqb begun.row.number 41)
-            (λ h. let n = busy_only limit number pair out t l opened refusal pair_not h in
+            (λ h. let n = busy_only limit number pair out t l begun_by refusal pair_not h in
             let b = refuses first max l 0x1B clock may_ready
             (busy_test (not (in_range_of t)) (not (in_range first max l)) (faulty 0x19 payload)
             (eqb ready.row.number 41) (size_tests (size_in payload) piece room) (refl, (refl, (refl, tt))) n) in
-            busy (busy_row_lem limit number pair out t l opened refusal n) b.0 b.1 (ap (λ (b : Both). b.link) s))
+            busy (busy_row_lem limit number pair out t l begun_by refusal n) b.0 b.1 (ap (λ (b : Both). b.link) s))
             (λ h. unasked e h (ap (λ (b : Both). b.link) s))
 
     -- accepted, the pair is written
@@ -213,9 +213,9 @@ module _ (limit first max : ℕ) (t : Transfer) (l : Link) (clock : ℕ) where
     begin_writes e = go begin_went
       where
         made : ℕ → Left Both
-        made n = leaves limit number pair out t l opened n
+        made n = leaves limit number pair out t l begun_by n
 
-        go : Went (both t l) opened begun refusal → take (written_in begun.row) begun.out ≡ wires
+        go : Went (both t l) begun_by begun refusal → take (written_in begun.row) begun.out ≡ wires
         go (done h z s) =
             subst (λ n. take (written_in (made n).row) (made n).out ≡ wires) z
             (pair_front (subst (λ n. (made n).row.number ≡ 0) (sym z) e))
@@ -235,7 +235,7 @@ module _ (limit first max : ℕ) (t : Transfer) (l : Link) (clock : ℕ) where
     sent = acknowledged limit 0x27 l.next out
 
     abbrev dropped : Both
-    dropped = both Absent offer.state
+    dropped = both absent offer.state
 
     cancel_went : Went (both t l) dropped cancelled refusing
     cancel_went = went (both t l) dropped limit refusing 0 sent out

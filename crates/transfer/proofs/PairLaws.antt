@@ -2,20 +2,18 @@
 use Prim.Native.Nat.{ℕ, ◌+◌, ◌-◌, ◌≤◌, ◌<◌, ◌^◌, min}
 use mathlib.Core.Path.{◌≡◌, refl, sym, ap, subst, ◌∙◌}
 use mathlib.Core.Bool.{false, cond, true≢false}
-use mathlib.Core.Logic.{◌≢◌}
 use mathlib.Core.List.{List, [], ◌∷◌, ◌++◌, append-nil, append_assoc}
 use native.Mathlib.Omega.{arith, min_cases}
 use borrow.Author.Tests.{eq-eqb, lt-ltb, le-ltb, ltb-true, ltb-false, leb-false}
 use lib.Dec.{ltb}
 use lib.ListN.{length, take, drop, length-append, length-drop, drop_of_length-le, take-append-drop}
 use lib.Seq.{drop-drop, length-take-le, drop_at}
+use Rattle.std.specs.Prelude.{Err}
+use Rattle.std.proofs.Common.{◌⊎◌, inl, inr}
 use Rattle.base.specs.Rows.{Row, row}
 use Rattle.base.specs.Outcomes.{Output, output, onto, written_in, needed_in, placed}
-use Rattle.base.specs.Writes.{unwritten_row_of, write_row_of}
-use Rattle.base.specs.declared.writes.Unwritten.{Unwritten}
-use Rattle.base.specs.declared.writes.Unwritten.TheVariants as unwritten
-use Rattle.base.specs.declared.writes.WriteResult.{WriteResult}
-use Rattle.base.specs.declared.writes.WriteResult.TheVariants as written
+use Rattle.base.specs.Writes.{unwritten_row_of}
+use Rattle.base.specs.declared.writes.WriteError.{WriteError}
 use Rattle.base.specs.Numbers.{two}
 use Rattle.base.proofs.Stores.{part_left}
 use Rattle.base.proofs.Tests.{by_test, either_way}
@@ -27,11 +25,11 @@ use Rattle.message.specs.Commands.{table, profile_in}
 use Rattle.message.specs.Messages.{countable}
 use Rattle.message.specs.Table.{send_row_of}
 use Rattle.message.specs.Writing.{send_of}
-use Rattle.message.specs.declared.writer.SendResult.{SendResult}
-use Rattle.message.specs.declared.writer.SendResult.TheVariants as sending
+use Rattle.message.specs.declared.writer.SendError.{SendError}
+use Rattle.message.specs.declared.writer.SendError.TheVariants as error
 use Rattle.message.specs.declared.values.Message.TheVariants.{Ready}
 use Rattle.transfer.specs.Table.{payload_row, began_row}
-use Rattle.transfer.specs.Writing.{after, with_first, ready_payload, pair_of}
+use Rattle.transfer.specs.Writing.{after, ready_payload, pair_of}
 use Rattle.transfer.proofs.WriteLaws.{at_most_16, pair_too_long, pair_no_room, pair_put}
 
 -- a call that is lent the rest of an output, from a place on
@@ -60,45 +58,30 @@ low_number limit number payload out =
     (λ _. by_test (λ (w : Output). w.row.number ≤ 22) (ltb (length out) (length (frame_of 0x1B number 0 payload)))
     (λ _. omega arith) (λ _. omega arith))
 
-low_row : (w : WriteResult) → (write_row_of w).number ≤ 22
-low_row (written.Wrote count) = omega arith
-low_row (written.Unwritten unwritten.Payload) = omega arith
-low_row (written.Unwritten (unwritten.Room needed)) = omega arith
-
 -- and every other answer of `message` is
-high_row : (r : SendResult) → ((w : WriteResult) → r ≢ sending.Written w) → 31 ≤ (send_row_of r).number
-high_row (sending.Written w) h = absurd (h w refl)
-high_row sending.Command h = omega arith
-high_row sending.Size h = omega arith
-high_row sending.Field h = omega arith
+pub not_frame : (r : SendError) → (r ≡ error.Command) ⊎ ((r ≡ error.Size) ⊎ (r ≡ error.Field))
+    → 31 ≤ (send_row_of (Err r)).number
+not_frame r (inl e) = rw e (omega arith)
+not_frame r (inr (inl e)) = rw e (omega arith)
+not_frame r (inr (inr e)) = rw e (omega arith)
 
 module _ (limit piece number : ℕ) (code rest : List ℕ) (small : limit ≤ 65535) where
   -- a check code that no count can name makes the payload too long
   uncounted : countable (length code) ≡ false → limit < length (ready_payload piece code) + 5
   uncounted e = let h = leb-false (length code) 65535 e in omega (arith, h, small, length-append code (two piece []))
 
-  -- the frame writer's answer, and any other
+  -- an answer that is not the frame writer's
   module _ (o : List ℕ) where
-    pub ready_written : (w : WriteResult)
-        → output (write_row_of w) o ≡ send_of limit (Ready piece) number 0 code rest
-        → output (write_row_of w) o ≡ write_of limit 0x1B number 0 (ready_payload piece code) rest
-    ready_written w e =
-        either_way (countable (length code)) (λ c. e ∙ ready_sent limit piece number code rest ∙ rw c)
-        (λ c. let z : (write_row_of w).number ≡ 32 =
-        ap (λ (v : Output). v.row.number) e
-        ∙ ap (λ (v : Output). v.row.number) (ready_sent limit piece number code rest) ∙ rw c in
-        absurd (omega (arith, z, low_row w)))
-
-    pub ready_other : (r : SendResult) → ((w : WriteResult) → r ≢ sending.Written w)
-        → output (send_row_of r) o ≡ send_of limit (Ready piece) number 0 code rest
+    pub ready_other : (r : SendError) → 31 ≤ (send_row_of (Err r)).number
+        → output (send_row_of (Err r)) o ≡ send_of limit (Ready piece) number 0 code rest
         → output payload_row o ≡ write_of limit 0x1B number 0 (ready_payload piece code) rest
     ready_other r h e =
         either_way (countable (length code))
-        (λ c. let z : (send_row_of r).number
+        (λ c. let z : (send_row_of (Err r)).number
         ≡ (write_of limit 0x1B number 0 (ready_payload piece code) rest).row.number =
         ap (λ (v : Output). v.row.number) e
         ∙ ap (λ (v : Output). v.row.number) (ready_sent limit piece number code rest) ∙ rw c in
-        absurd (omega (arith, z, high_row r h, low_number limit number (ready_payload piece code) rest)))
+        absurd (omega (arith, z, h, low_number limit number (ready_payload piece code) rest)))
         (λ c. let q : o ≡ rest =
         ap (λ (v : Output). v.out) e
         ∙ ap (λ (v : Output). v.out) (ready_sent limit piece number code rest) ∙ rw c in
@@ -206,7 +189,7 @@ module _ (limit number next piece : ℕ) (code out : List ℕ) where
         ap (λ (v : Output). v.out) e ∙ ap (λ (l : List ℕ). take from out ++ l) q ∙ take-append-drop from out
 
     -- a refusal of the second is one of both
-    module _ (why : Unwritten) (o : List ℕ) (e : output (unwritten_row_of why) o ≡ after (take from out) sent) where
+    module _ (why : WriteError) (o : List ℕ) (e : output (unwritten_row_of why) o ≡ after (take from out) sent) where
       shown : {w : Output} → sent ≡ w → unwritten_row_of why ≡ w.row
       shown q = ap (λ (v : Output). v.row) (e ∙ ap (λ (w : Output). after (take from out) w) q)
 
@@ -227,25 +210,6 @@ module _ (limit number next piece : ℕ) (code out : List ℕ) where
               let most = (stuffed_form (body_of 0x1B next 0 (ready_payload piece code))).at_most_twice in
               rw (ap needed_in (shown s))
               (omega (arith, least, most, body_size 0x1B next (ready_payload piece code), h, small))
-          go (wrote s f l b) = not_written (ap (λ (r : Row). r.number) (shown s))
-
-      pub pair_refused : (r : Row) → r ≡ with_first (length first) (unwritten_row_of why) → output r o ≡ both
-      pair_refused r q = go sent_cases
-        where
-          as_row : {w : Output} → sent ≡ w → r ≡ with_first (length first) w.row
-          as_row s = q ∙ ap (with_first (length first)) (shown s)
-
-          go : Sent → output r o ≡ both
-          go (long s b) =
-              ap (λ (a : Row). output a o) (as_row s)
-              ∙ ap (λ (l : List ℕ). output payload_row l)
-              (rejoined (unwritten_row_of why) e (ap (λ (w : Output). w.out) s))
-              ∙ sym b
-          go (no_room h s b) =
-              ap (λ (a : Row). output a o) (as_row s)
-              ∙ ap (λ (l : List ℕ). output (row 22 ((length first + length second) ∷ [])) l)
-              (rejoined (unwritten_row_of why) e (ap (λ (w : Output). w.out) s))
-              ∙ sym b
           go (wrote s f l b) = not_written (ap (λ (r : Row). r.number) (shown s))
 
     -- the first goes before the second
@@ -269,21 +233,6 @@ module _ (limit number next piece : ℕ) (code out : List ℕ) where
           )
           (sym (ap (λ n. (first ++ second) ++ drop n out) (length-append first second)
           ∙ append_assoc first second (drop (length first + length second) out)))
-
-    pub pair_fits : (count : ℕ) (o : List ℕ) → output (row 0 (count ∷ [])) o ≡ after (take from out) sent
-        → length first + count ≤ length out
-    pair_fits count o e = go sent_cases
-      where
-        numbers : (n : ℕ) (v l : List ℕ) → sent ≡ output (row n v) l → 0 ≡ n
-        numbers n v l q = ap (λ (w : Output). w.row.number) (e ∙ ap (λ (w : Output). after (take from out) w) q)
-
-        go : Sent → length first + count ≤ length out
-        go (long s b) = let z = numbers 21 _ _ s in absurd (omega (arith, z))
-        go (no_room h s b) = let z = numbers 22 _ _ s in absurd (omega (arith, z))
-        go (wrote s f l b) =
-            let c : count ≡ length second =
-            ap (λ (w : Output). written_in w.row) (e ∙ ap (λ (w : Output). after (take from out) w) s) in
-            omega (arith, c, l)
 
     pub pair_wrote : 5 ≤ limit → (count : ℕ) (o : List ℕ) → output (row 0 (count ∷ [])) o ≡ after (take from out) sent
         → (a : Row) (made : List ℕ) → output a made ≡ write_of limit 0x1A number 0 [] o

@@ -37,7 +37,7 @@ use Rattle.transfer.specs.Checks.{first_refusal, begin_tests}
 use Rattle.transfer.specs.Writing.{ready_payload, pair_wire, pair_of}
 use Rattle.transfer.specs.Calls.{Left, Both, both, begin_by}
 use Rattle.transfer.specs.PairRead.{IsAccept, IsReady, Pair, Begins, PairBack, PairRead, PairAmong, PairAnywhere}
-use Rattle.transfer.specs.declared.state.Transfer.TheVariants.{Open}
+use Rattle.transfer.specs.Transfers.{opened}
 use Rattle.transfer.proofs.WriteLaws.{by_pair}
 use Rattle.transfer.proofs.Outcomes.{Went, done, kept, went}
 use Rattle.transfer.proofs.FoundLaws.{around, apart_back, next_is, lies, front_lists}
@@ -89,16 +89,16 @@ module _ (limit : ℕ) (l : Link) (number : ℕ) (payload : List ℕ) (piece at 
   abbrev Written : List ℕ → Type 0
   Written v = Wrote limit number l.next piece (code_in payload) at count v
 
-  abbrev opened : Both
-  opened = both (Open (size_in payload) piece 0) next
+  abbrev begun_by : Both
+  begun_by = both (opened (size_in payload) piece 0) next
 
   begun : Written w
   begun =
       subst (λ v. Written v) b.wrote
-      (go (went (both b.transfer l) opened limit refusal number
+      (go (went (both b.transfer l) begun_by limit refusal number
       (pair_of limit number l.next piece (code_in payload) b.out) b.out))
     where
-      go : Went (both b.transfer l) opened (made refusal) refusal → Written (take count (made refusal).out)
+      go : Went (both b.transfer l) begun_by (made refusal) refusal → Written (take count (made refusal).out)
       go (done e z s) =
           subst (λ n. Written (take count (made n).out)) z
           (wrote limit number l.next piece (code_in payload) b.out at count

@@ -22,7 +22,7 @@ use Rattle.transfer.specs.Checks.{cancel_tests}
 use Rattle.transfer.specs.Writing.{acknowledged, refused_of, pair_of}
 use Rattle.transfer.specs.Calls.{Left, left, settled, both, held, put_in}
 use Rattle.transfer.specs.PayloadNever.{NeverPayload}
-use Rattle.transfer.specs.declared.state.Transfer.TheVariants.{Absent, Open}
+use Rattle.transfer.specs.Transfers.{open_of, absent, opened}
 use Rattle.transfer.proofs.WriteLaws.{by_pair}
 use Rattle.transfer.proofs.Outcomes.{Others, other_refusal, rowed_other}
 use Rattle.transfer.proofs.PayloadsExact.{payloads_exact}
@@ -79,7 +79,7 @@ pub payload_never : NeverPayload
 payload_never first max t l clock number payload out =
     record {
       begins = λ piece room short.
-          call_never (both t l) (both (Open (size_in payload) piece 0) (offer_of first max l 0x1B clock).state) number
+          call_never (both t l) (both (opened (size_in payload) piece 0) (offer_of first max l 0x1B clock).state) number
           out
           (begin_tests first max t l (eqb (offer_of first max l 0x1B clock).row.number 41) (faulty 0x19 payload)
           (size_in payload) piece room) (pair_of frame_limit number l.next piece (code_in payload) out)
@@ -92,13 +92,13 @@ payload_never first max t l clock number payload out =
           call_never (held t buffer) (put_in t (index_in payload) (bytes_in payload) buffer) number out
           (store_tests t flags (faulty 0x1D payload) (index_in payload) (total_in payload) (bytes_in payload) buffer)
           (acknowledged frame_limit 0x1E number out)
-          (refl, (refl, piece_others 21 refl refl refl refl refl t flags _ _ _ buffer))
+          (refl, (refl, piece_others 21 refl refl refl refl refl (open_of t) flags _ _ _ buffer))
           (λ _. acknowledged_never 0x1E number out);
       stops =
-          call_never t Absent number out (stop_tests t (faulty 0x1F payload)) (acknowledged frame_limit 0x20 number out)
+          call_never t absent number out (stop_tests t (faulty 0x1F payload)) (acknowledged frame_limit 0x20 number out)
           (refl, (refl, tt)) (λ _. acknowledged_never 0x20 number out);
       cancels =
-          call_never (both t l) (both Absent (offer_of first max l 0x27 clock).state) 0 out
+          call_never (both t l) (both absent (offer_of first max l 0x27 clock).state) 0 out
           (cancel_tests first max t l (eqb (offer_of first max l 0x27 clock).row.number 41))
           (acknowledged frame_limit 0x27 l.next out) (refl, (refl, (refl, tt)))
           (λ _. acknowledged_never 0x27 l.next out);

@@ -1,32 +1,16 @@
 -- The pieces of a table, in numbers. Assumes nothing.
-use Prim.Native.Nat.{ℕ, zero, suc, ◌+◌, ◌-◌, ◌*◌, ◌/◌, ◌≤◌, ◌<◌}
-use mathlib.Core.Path.{◌≡◌, refl, sym, ap, ◌∙◌}
+use Prim.Native.Nat.{ℕ, zero, suc, ◌+◌, ◌-◌, ◌*◌, ◌/◌, ◌%◌, ◌≤◌, ◌<◌, min}
+use mathlib.Core.Path.{◌≡◌, refl, ap, ◌∙◌}
 use mathlib.Core.Bool.{true, false}
-use native.Mathlib.Nat.{add-div_right, div-le_self, mul-le-mul, le-div_iff_mul-le, lt-div-mul-add, add-mul, one-mul}
+use native.Mathlib.Nat.{mul-le-mul, le-div_iff_mul-le, lt-div-mul-add, add-mul, one-mul}
 use native.Mathlib.Nat.{zero-mul}
 use native.Mathlib.Nat.{suc-mul}
 use native.Mathlib.Omega.{arith}
 use borrow.Author.Tests.{ltb-true, ltb-false}
 use lib.Dec.{ltb}
+use Rattle.std.proofs.lemmas.Grind.{div_ceil_times}
 use Rattle.base.proofs.Tests.{either_way}
 use Rattle.transfer.specs.Pieces.{max_pieces, pieces_of}
-
--- a product of two numbers below 2^16 is below 2^32
-pub product_fits : (a b : ℕ) → a < 65536 → b < 65536 → a * b < 4294967296
-product_fits a b p q =
-    let h : a * b ≤ 65535 * 65535 = mul-le-mul {n₁ = a} {m₁ = b} {n₂ = 65535} {m₂ = 65535} (omega (arith, p))
-    (omega (arith, q)) in
-    omega (arith, h)
-
--- rounding up, as the code divides
-pub rounds_up : (size piece : ℕ) → 1 ≤ size → 1 ≤ piece → (size - 1) / piece + 1 ≡ pieces_of size piece
-rounds_up size piece s p =
-    let e : size - 1 + piece ≡ size + (piece - 1) = omega (arith, s, p) in
-    sym (add-div_right (size - 1) {k = piece} (omega (arith, p))) ∙ ap (λ n. n / piece) e
-
--- there are at most as many pieces as bytes
-pub no_more : (size piece : ℕ) → (size - 1) / piece ≤ size - 1
-no_more size piece = div-le_self (size - 1) piece
 
 -- ---- t, rounded up
 
@@ -44,6 +28,18 @@ module _ (size piece : ℕ) (p : 1 ≤ piece) where
   reaches_end =
       let all = lt-div-mul-add {a = size + (piece - 1)} {b = piece} (omega (arith, p)) in
       omega (arith, all, p)
+
+  -- rounding up, as the code divides
+  pub rounds_up : size / piece + min 1 (size % piece) ≡ pieces_of size piece
+  rounds_up =
+      let t = div_ceil_times size piece (omega (arith, p)) in
+      let few = (le-div_iff_mul-le {k = piece} {x = size / piece + min 1 (size % piece)} {y = size + (piece - 1)}
+      (omega (arith, p))).1 (omega (arith, p, t.1)) in
+      either_way (ltb (size / piece + min 1 (size % piece)) (pieces_of size piece))
+      (λ e. let inside = below_end _ (ltb-true (size / piece + min 1 (size % piece)) (pieces_of size piece) e) in
+      absurd (omega (arith, inside, t.0)))
+      (λ e. let most = ltb-false (size / piece + min 1 (size % piece)) (pieces_of size piece) e in
+      omega (arith, few, most))
 
   -- whether there are too many, without a division
   pub few_pieces : size ≤ 65535 * piece → ltb max_pieces (pieces_of size piece) ≡ false

@@ -7,6 +7,7 @@ use native.Mathlib.Nat.{zero-mul, mul-le-mul_right, suc-mul}
 use native.Mathlib.Omega.{arith}
 use borrow.Author.Tests.{ne_eqb, eqb-false, leb-true, leb-false}
 use lib.Dec.{eqb, leb}
+use Rattle.std.specs.Prelude.{Option, Some, None}
 use Rattle.base.specs.Rows.{Row, row}
 use Rattle.base.proofs.Tests.{either_way}
 use Rattle.transfer.specs.Pieces.{max_pieces, pieces_of}
@@ -16,8 +17,9 @@ use Rattle.transfer.specs.Logs.{Call, beginning, storing, stopping, cancelling}
 use Rattle.transfer.specs.LogsComputed.{call_of}
 use Rattle.transfer.specs.History.{LinkOut}
 use Rattle.transfer.specs.Ranges.{LinkIn, OutOfRange, InRange, TransferRanges, ProgressExact}
+use Rattle.transfer.specs.declared.state.Open.{Open}
 use Rattle.transfer.specs.declared.state.Transfer.{Transfer}
-use Rattle.transfer.specs.declared.state.Transfer.TheVariants.{Absent, Open}
+use Rattle.transfer.specs.Transfers.{open_of, absent, opened}
 use Rattle.transfer.proofs.PieceLaws.{below_end, reaches_end}
 use Rattle.transfer.proofs.TestLaws.{or_true}
 use Rattle.transfer.proofs.Histories.{state_link}
@@ -45,19 +47,21 @@ not_both first max (storing number flags payload out) a b = b
 not_both first max (stopping number payload out) a b = b
 not_both first max (cancelling l clock out) a b = true≢false (sym a ∙ b)
 
-shown : (t : Transfer) → (progress_in t).number ≡ 0
-shown Absent = refl
-shown (Open size piece stored) = refl
+shown : (o : Option Open) → (progress_in o).number ≡ 0
+shown None = refl
+shown (Some o) = refl
 
 in_of : (t : Transfer) → in_range_of t ≡ true → InRange t
 in_of t h =
     record {
       calls = λ limit first max buffer c l e. not_both first max c l (state_link limit first max t buffer h c e);
-      progress = λ e. let z = sym (shown t) ∙ ap (λ (r : Row). r.number) (sym shows) ∙ e in absurd (omega (arith, z));
+      progress = λ e.
+          let z = sym (shown (open_of t)) ∙ ap (λ (r : Row). r.number) (sym shows) ∙ e in
+          absurd (omega (arith, z));
       test = h;
     }
   where
-    shows : progress_of t ≡ progress_in t
+    shows : progress_of t ≡ progress_in (open_of t)
     shows = rw h
 
 -- ---- the test, in numbers
@@ -106,12 +110,13 @@ module _ (size piece stored : ℕ) where
             absurd (omega (arith, inside, most, h, suc-mul n piece))
 
 -- a transfer without bytes, or with pieces of none
-empty_out : (size piece stored : ℕ) → (eqb size 0 || eqb piece 0) ≡ true → in_range_of (Open size piece stored) ≡ false
+empty_out : (size piece stored : ℕ) → (eqb size 0 || eqb piece 0) ≡ true
+    → in_range_of (opened size piece stored) ≡ false
 empty_out size piece stored e = rw e
 
 -- of any sizes, by whether they are 0
-by_sizes : (size piece stored : ℕ) → (1 ≤ size → 1 ≤ piece → in_range_of (Open size piece stored) ≡ false)
-    → in_range_of (Open size piece stored) ≡ false
+by_sizes : (size piece stored : ℕ) → (1 ≤ size → 1 ≤ piece → in_range_of (opened size piece stored) ≡ false)
+    → in_range_of (opened size piece stored) ≡ false
 by_sizes size piece stored f =
     either_way (eqb size 0) (λ e. empty_out size piece stored (rw e))
     (λ e. either_way (eqb piece 0) (λ q. empty_out size piece stored (rw q (or_true (eqb size 0))))
@@ -120,14 +125,14 @@ by_sizes size piece stored f =
 pub transfer_ranges : TransferRanges
 transfer_ranges =
     record {
-      absent_in = in_of Absent refl;
-      open_in = λ size piece stored s p m t. in_of (Open size piece stored)
+      absent_in = in_of absent refl;
+      open_in = λ size piece stored s p m t. in_of (opened size piece stored)
           (rw (some size piece stored s p, few size piece stored p m, enough size piece stored p t));
-      size_out = λ piece stored. out_of (Open 0 piece stored) (empty_out 0 piece stored refl);
-      piece_out = λ size stored. out_of (Open size 0 stored) (empty_out size 0 stored (or_true (eqb size 0)));
-      many_out = λ size piece stored m. out_of (Open size piece stored)
+      size_out = λ piece stored. out_of (opened 0 piece stored) (empty_out 0 piece stored refl);
+      piece_out = λ size stored. out_of (opened size 0 stored) (empty_out size 0 stored (or_true (eqb size 0)));
+      many_out = λ size piece stored m. out_of (opened size piece stored)
           (by_sizes size piece stored (λ s p. rw (some size piece stored s p, many size piece stored p m)));
-      stored_out = λ size piece stored m. out_of (Open size piece stored)
+      stored_out = λ size piece stored m. out_of (opened size piece stored)
           (by_sizes size piece stored (λ s p. rw (
             some size piece stored s p,
             too_far size piece stored p s m,

@@ -1,58 +1,31 @@
 -- What `message` reads from a 19, a 1D and a 1F. Assumes nothing.
 use Prim.Native.Nat.{ℕ, ◌-◌}
-use mathlib.Core.Path.{◌≡◌, refl, sym, ap, ◌∙◌}
+use mathlib.Core.Path.{◌≡◌, refl, sym, ap, subst, ◌∙◌}
 use mathlib.Core.Bool.{Bool, true, false, cond, not, true≢false}
-use mathlib.Core.Logic.{◌≢◌}
-use mathlib.Core.List.{List, [], ◌∷◌, map}
+use mathlib.Core.List.{List, [], ◌∷◌}
 use native.Mathlib.Omega.{arith}
-use borrow.Author.Tests.{eq-eqb}
-use types.Run.{OneOf}
 use lib.Dec.{eqb}
 use lib.ListN.{length, get_or, drop, length-drop}
 use lib.Seq.{take_all}
+use Rattle.std.specs.Prelude.{Option, Some, None}
 use Rattle.base.specs.Rows.{row}
 use Rattle.base.specs.Numbers.{two_at, four_at}
-use Rattle.base.proofs.Keys.{at_keys}
 use Rattle.message.specs.Commands.{table, profile_in}
 use Rattle.message.specs.Layouts.{size_fits}
 use Rattle.message.specs.Parts.{place, nowhere, no_texts, no_parts, bytes_of}
-use Rattle.message.specs.Table.{Read, got, refusal, reading_of}
-use Rattle.message.specs.Reading.{decode_of, read_of, parts_of}
+use Rattle.message.specs.Table.{Read, got, refusal}
+use Rattle.message.specs.Reading.{decode_of, read_of}
 use Rattle.message.specs.declared.kind.Kind.TheVariants as kind
 use Rattle.message.specs.declared.parts.Parts.{Parts}
-use Rattle.message.specs.declared.reader.ReadResult.{ReadResult}
-use Rattle.message.specs.declared.reader.ReadResult.TheVariants as reading
-use Rattle.message.specs.declared.values.Message.{Message}
-use Rattle.transfer.specs.Payloads.{faulty, size_in, index_in, total_in, bytes_in}
-
--- ---- the last arm of a `match`, which takes all other variants: the variant's place is one of theirs
-
-pub none_of : (keys : List ℕ) (k : ℕ) → map (λ n. eqb n k) keys ≡ map (λ _. false) keys → OneOf keys k → ⊥
-none_of keys k e h = true≢false (sym (eq-eqb k k refl) ∙ sym (at_keys (λ n. eqb n k) false keys k e h))
+use Rattle.transfer.specs.Payloads.{faulty, size_in, index_in, total_in, bytes_in, announcement_of, piece_of}
+use Rattle.transfer.specs.declared.announcements.Announcement.{Announcement}
+use Rattle.transfer.specs.declared.announcements.Piece.{Piece}
 
 -- ---- any command
 
 -- a message that is read
-pub was_read : (vs p : List ℕ) (ps : Parts) (command : ℕ) → got vs ps ≡ decode_of command p → false ≡ faulty command p
+was_read : (vs p : List ℕ) (ps : Parts) (command : ℕ) → got vs ps ≡ decode_of command p → false ≡ faulty command p
 was_read vs p ps command e = ap (λ (r : Read). not (eqb r.row.number 0)) e
-
--- a refusal
-refused_by : (n : ℕ) → not (eqb n 0) ≡ true → (command : ℕ) (p : List ℕ) → refusal n ≡ decode_of command p
-    → (true ≡ faulty command p) × ([] ≡ (read_of command p).values) × (no_parts ≡ parts_of command p)
-refused_by n h command p e = (
-  sym h ∙ ap (λ (r : Read). not (eqb r.row.number 0)) e,
-  ap (λ (r : Read). r.row.values) e,
-  ap (λ (r : Read). r.parts) e,
-)
-
--- a reading that is not a message
-pub was_refused : (r : ReadResult) → ((m : Message) (ps : Parts) → r ≢ reading.Got m ps)
-    → (command : ℕ) (p : List ℕ) → reading_of r ≡ decode_of command p
-    → (true ≡ faulty command p) × ([] ≡ (read_of command p).values) × (no_parts ≡ parts_of command p)
-was_refused (reading.Got m ps) h command p e = absurd (h m ps refl)
-was_refused reading.Command h command p e = refused_by 31 refl command p e
-was_refused reading.Size h command p e = refused_by 32 refl command p e
-was_refused reading.Field h command p e = refused_by 33 refl command p e
 
 -- ---- 19 and 1D, whose only fault can be their size
 
@@ -86,12 +59,23 @@ numbered vs p ps e =
     let t : two_at p 2 ≡ total_in p = ap (λ l. get_or l 2 0) (sym v) ∙ ap (λ (r : Read). get_or r.row.values 2 0) e in
     v ∙ ap (λ n. 0x1D ∷ n ∷ two_at p 2 ∷ []) i ∙ ap (λ n. 0x1D ∷ index_in p ∷ n ∷ []) t
 
--- the values of a message, one by one
-pub second_same : {c d x y : ℕ} {r s : List ℕ} → c ∷ x ∷ r ≡ d ∷ y ∷ s → x ≡ y
-second_same e = ap (λ l. get_or l 1 0) e
+-- ---- what the code reads of them
 
-pub third_same : {c d x y z w : ℕ} {r s : List ℕ} → c ∷ x ∷ z ∷ r ≡ d ∷ y ∷ w ∷ s → z ≡ w
-third_same e = ap (λ l. get_or l 2 0) e
+-- a value, where a test is false
+read_by : {A : Type 0} (b : Bool) → false ≡ b → (x y : A) → x ≡ y → Some x ≡ cond b None (Some y)
+read_by b f x y q = subst (λ (c : Bool). Some x ≡ cond c None (Some y)) f (ap Some q)
+
+pub announced_as : (vs p : List ℕ) (ps : Parts) → got vs ps ≡ decode_of 0x19 p
+    → ◌≡◌ {A = Option Announcement} (Some (record { size = size_in p; code = ps.code })) (announcement_of p)
+announced_as vs p ps e =
+    read_by (faulty 0x19 p) (was_read vs p ps 0x19 e) _ _
+    (ap (λ (r : Read). record { size = size_in p; code = r.parts.code }) e)
+
+pub numbered_as : (vs p : List ℕ) (ps : Parts) → got vs ps ≡ decode_of 0x1D p
+    → ◌≡◌ {A = Option Piece} (Some (record { index = index_in p; total = total_in p; bytes = ps.piece })) (piece_of p)
+numbered_as vs p ps e =
+    read_by (faulty 0x1D p) (was_read vs p ps 0x1D e) _ _
+    (ap (λ (r : Read). record { index = index_in p; total = total_in p; bytes = r.parts.piece }) e)
 
 -- ---- a payload without fault, byte by byte
 

@@ -7,6 +7,7 @@ use mathlib.Core.List.{List, [], ◌∷◌}
 use borrow.Author.Tests.{ne_eqb, eqb-true}
 use lib.Dec.{eqb, ltb}
 use lib.ListN.{length}
+use Rattle.std.specs.Prelude.{Option, Some, None}
 use Rattle.base.specs.Keys.{among}
 use Rattle.base.specs.Rows.{Row, row}
 use Rattle.base.specs.Outcomes.{Output, output, onto, placed, rowed}
@@ -22,8 +23,9 @@ use Rattle.transfer.specs.Checks.{cancel_tests}
 use Rattle.transfer.specs.Writing.{acknowledged, rejection_of, refused_of, pair_of}
 use Rattle.transfer.specs.Calls.{Left, left, settled, Both, both, held, put_in, cancel_of}
 use Rattle.transfer.specs.Refusals.{silent, twelve, Kept, RefusedAlways}
+use Rattle.transfer.specs.declared.state.Open.{Open}
 use Rattle.transfer.specs.declared.state.Transfer.{Transfer}
-use Rattle.transfer.specs.declared.state.Transfer.TheVariants.{Absent, Open}
+use Rattle.transfer.specs.Transfers.{open_of, absent, opened}
 use Rattle.transfer.proofs.WriteLaws.{by_pair}
 use Rattle.transfer.proofs.Outcomes.{Others, other_refusal}
 
@@ -127,10 +129,10 @@ module _ {S : Type 0} (before next : S) (number : ℕ) (out : List ℕ) where
 -- ---- the calls
 
 pub piece_others : (k : ℕ) → eqb 62 k ≡ false → eqb 63 k ≡ false → eqb 64 k ≡ false → eqb 65 k ≡ false
-    → eqb 66 k ≡ false → (t : Transfer) (flags index total : ℕ) (bytes buffer : List ℕ)
-    → Others k (piece_tests t flags index total bytes buffer)
-piece_others k a b c d e Absent flags index total bytes buffer = (c, (d, tt))
-piece_others k a b c d e (Open size piece stored) flags index total bytes buffer = (a, (c, (b, (d, (e, tt)))))
+    → eqb 66 k ≡ false → (o : Option Open) (flags index total : ℕ) (bytes buffer : List ℕ)
+    → Others k (piece_tests o flags index total bytes buffer)
+piece_others k a b c d e None flags index total bytes buffer = (c, (d, tt))
+piece_others k a b c d e (Some o) flags index total bytes buffer = (a, (c, (b, (d, (e, tt)))))
 
 -- a cancel is STATE, BUSY or ROOM
 module _ (limit first max : ℕ) (t : Transfer) (l : Link) (clock : ℕ) (out : List ℕ) where
@@ -156,7 +158,7 @@ pub refused_kept : RefusedAlways
 refused_kept limit first max t l clock number payload out =
     record {
       begins = λ piece room.
-          call_kept (both t l) (both (Open (size_in payload) piece 0) (offer_of first max l 0x1B clock).state) number
+          call_kept (both t l) (both (opened (size_in payload) piece 0) (offer_of first max l 0x1B clock).state) number
           out limit
           (begin_tests first max t l (eqb (offer_of first max l 0x1B clock).row.number 41) (faulty 0x19 payload)
           (size_in payload) piece room) (pair_of limit number l.next piece (code_in payload) out)
@@ -167,14 +169,14 @@ refused_kept limit first max t l clock number payload out =
           call_kept (held t buffer) (put_in t (index_in payload) (bytes_in payload) buffer) number out limit
           (store_tests t flags (faulty 0x1D payload) (index_in payload) (total_in payload) (bytes_in payload) buffer)
           (acknowledged limit 0x1E number out)
-          (refl, (refl, piece_others 21 refl refl refl refl refl t flags _ _ _ buffer))
-          (refl, (refl, piece_others 22 refl refl refl refl refl t flags _ _ _ buffer))
+          (refl, (refl, piece_others 21 refl refl refl refl refl (open_of t) flags _ _ _ buffer))
+          (refl, (refl, piece_others 22 refl refl refl refl refl (open_of t) flags _ _ _ buffer))
           (acknowledged_plain limit 0x1E number out);
       stops =
-          call_kept t Absent number out limit (stop_tests t (faulty 0x1F payload)) (acknowledged limit 0x20 number out)
+          call_kept t absent number out limit (stop_tests t (faulty 0x1F payload)) (acknowledged limit 0x20 number out)
           (refl, (refl, tt)) (refl, (refl, tt)) (acknowledged_plain limit 0x20 number out);
       cancels =
-          call_kept (both t l) (both Absent (offer_of first max l 0x27 clock).state) 0 out limit
+          call_kept (both t l) (both absent (offer_of first max l 0x27 clock).state) 0 out limit
           (cancel_tests first max t l (eqb (offer_of first max l 0x27 clock).row.number 41))
           (acknowledged limit 0x27 l.next out) (refl, (refl, (refl, tt))) (refl, (refl, (refl, tt)))
           (acknowledged_plain limit 0x27 l.next out);

@@ -10,18 +10,18 @@ use Rattle.base.specs.Stores.{PutAt, fitting}
 use Rattle.base.proofs.Stores.{put_fitting}
 use Rattle.transfer.specs.Pieces.{start_of}
 use Rattle.transfer.specs.Calls.{held, put_in}
-use Rattle.transfer.specs.declared.state.Transfer.TheVariants.{Open}
+use Rattle.transfer.specs.Transfers.{opened}
 
 module _ (size piece stored index : ℕ) (bytes buffer : List ℕ) where
   -- the one just stored is there already
-  pub put_again : index ≡ stored → held (Open size piece stored) buffer ≡ put_in (Open size piece stored) index bytes
-      buffer
+  pub put_again : index ≡ stored → held (opened size piece stored) buffer
+      ≡ put_in (opened size piece stored) index bytes buffer
   put_again e = rw (eq-eqb index stored e)
 
   -- the next one goes after those that are stored
   pub put_next : index ≢ stored → start_of piece stored + length bytes ≤ length buffer → (at next : ℕ) (after : List ℕ)
       → at ≡ start_of piece stored → PutAt buffer at (fitting buffer at bytes) next after
-      → held (Open size piece index) after ≡ put_in (Open size piece stored) index bytes buffer
+      → held (opened size piece index) after ≡ put_in (opened size piece stored) index bytes buffer
   put_next h f at next after e put =
       let fits : at + length bytes ≤ length buffer = rw e f in
       let whole = put_fitting buffer at bytes fits put in

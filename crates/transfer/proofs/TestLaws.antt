@@ -1,27 +1,19 @@
 -- The tests of the calls, in numbers. Assumes nothing.
-use Prim.Native.Nat.{ℕ, zero, suc, ◌+◌, ◌-◌, ◌≤◌, ◌<◌, min}
+use Prim.Native.Nat.{ℕ, zero, suc, ◌+◌, ◌-◌, ◌≤◌, ◌<◌}
 use mathlib.Core.Path.{◌≡◌, refl, sym, ◌∙◌}
 use mathlib.Core.Bool.{Bool, true, false, cond, not, ◌&&◌, ◌||◌, true≢false}
 use mathlib.Core.Logic.{◌≢◌}
 use mathlib.Core.List.{List}
 use native.Mathlib.Omega.{arith, min_cases}
-use borrow.Author.Tests.{eq-eqb, ne_eqb, eqb-true, le-ltb, ltb-true, ltb-false, leb-true}
+use borrow.Author.Tests.{eq-eqb, ne_eqb, eqb-true, ltb-true, ltb-false, leb-true}
 use lib.Dec.{eqb, leb}
-use lib.ListN.{length, take, drop}
-use Rattle.base.specs.Same.{same_bytes}
-use Rattle.base.proofs.Lists.{drop_min}
+use lib.ListN.{length}
 use Rattle.base.proofs.Tests.{both}
-use Rattle.transfer.specs.Pieces.{max_pieces, pieces_of, start_of, piece_size}
-use Rattle.transfer.specs.Checks.{first_refusal, in_range_of, size_tests, in_turn, right_bytes}
+use Rattle.transfer.specs.Pieces.{pieces_of, start_of, piece_size}
+use Rattle.transfer.specs.Checks.{first_refusal, in_range_of, in_turn, right_bytes}
 use Rattle.transfer.specs.Checks.{hex_lines, open_tests}
 use Rattle.transfer.proofs.PieceLaws.{below_end}
-use Rattle.transfer.specs.declared.state.Transfer.TheVariants.{Open}
-
--- no test of the sizes refuses
-pub sizes_right : (size piece room : ℕ) → size ≢ 0 → piece ≢ 0 → size ≤ room → pieces_of size piece ≤ max_pieces
-    → 0 ≡ first_refusal (size_tests size piece room)
-sizes_right size piece room s p r t =
-    rw (ne_eqb size 0 s, ne_eqb piece 0 p, le-ltb room size r, le-ltb max_pieces (pieces_of size piece) t)
+use Rattle.transfer.specs.Transfers.{opened}
 
 -- ---- the bytes of a piece
 
@@ -30,12 +22,6 @@ module _ (size piece stored index : ℕ) (bytes buffer : List ℕ) where
   pub next_right : index ≢ stored → (count : ℕ) → count ≡ piece_size size piece stored
       → eqb (length bytes) count ≡ right_bytes size piece stored index bytes buffer
   next_right h count e = rw (e, ne_eqb index stored h)
-
-  -- of the one just stored, by the part of the buffer that the code compares
-  pub again_right : index ≡ stored → (start count : ℕ) (part : List ℕ) → start ≡ start_of piece (stored - 1)
-      → count ≡ piece_size size piece (stored - 1) → part ≡ take count (drop (min start (length buffer)) buffer)
-      → same_bytes bytes part ≡ right_bytes size piece stored index bytes buffer
-  again_right h start count part s n p = rw (p, drop_min start buffer, s, n, eq-eqb index stored h)
 
 -- the number just stored is in turn only where one is stored
 pub stored_one : (index total stored : ℕ) → in_turn index total stored ≡ true → index ≡ stored → 1 ≤ stored
@@ -50,7 +36,7 @@ or_true true = refl
 or_true false = refl
 
 -- an open transfer in range has bytes, and pieces of some
-pub open_sizes : (size piece stored : ℕ) → in_range_of (Open size piece stored) ≡ true → (1 ≤ size) × (1 ≤ piece)
+pub open_sizes : (size piece stored : ℕ) → in_range_of (opened size piece stored) ≡ true → (1 ≤ size) × (1 ≤ piece)
 open_sizes size piece stored h = (
   positive size (λ e. true≢false (sym h ∙ simp (eq-eqb size 0 e))),
   positive piece (λ e. true≢false (sym h ∙ simp (eq-eqb piece 0 e, or_true))),

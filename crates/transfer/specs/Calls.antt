@@ -1,6 +1,7 @@
 -- Model: what each call answers and leaves, held to the rules by calls_exact, transfer_ranges and transfer_history.
 -- `limit` bounds the length of a frame; `first` and `max` are the link's. PROTOCOL 15.6 to 15.11, 15.14.
-use Rattle.std.specs.Prelude.{ℕ, ◌+◌, ◌≤◌, ◌≢◌, cond, List, [], ◌∷◌, ◌++◌, eqb, length, take, drop}
+use Rattle.std.specs.Prelude.{ℕ, ◌+◌, ◌≤◌, ◌≢◌, cond, List, [], ◌∷◌, ◌++◌, eqb, length, take, drop, Option, Some, None}
+use Rattle.std.specs.Prelude.{Result}
 use Rattle.base.specs.Rows.{Row, row}
 use Rattle.base.specs.Outcomes.{Outcome, Output, output}
 use Rattle.link.specs.Calls.{offer_of}
@@ -11,10 +12,10 @@ use Rattle.transfer.specs.Table.{state_row, arrive_row_of, cancel_row_of}
 use Rattle.transfer.specs.Checks.{first_refusal, in_range_of, begin_tests, store_tests, stop_tests, cancel_tests}
 use Rattle.transfer.specs.Writing.{acknowledged, refused_of, pair_of}
 use Rattle.transfer.specs.declared.state.Transfer.{Transfer}
-use Rattle.transfer.specs.declared.state.Transfer.TheVariants.{Absent, Open}
-use Rattle.transfer.specs.declared.answers.Arrived.{Arrived}
-use Rattle.transfer.specs.declared.begins.Begun.{Begun}
-use Rattle.transfer.specs.declared.cancels.Cancelled.{Cancelled}
+use Rattle.transfer.specs.Transfers.{open_of, absent, opened}
+use Rattle.transfer.specs.declared.answers.Arrival.{Arrival}
+use Rattle.transfer.specs.declared.answers.ArriveError.{ArriveError}
+use Rattle.transfer.specs.declared.state.Open.{Open}
 
 -- ---- what a call leaves
 
@@ -52,23 +53,23 @@ pub record Held : Type 0 where
 abbrev pub held : Transfer → List ℕ → Held
 held t buffer = record { transfer = t; buffer = buffer }
 
--- ---- what the code returns
+-- ---- what the code returns, and what the caller holds then
 
 -- of a 19
-abbrev pub begun_of : Begun → List ℕ → Left Both
-begun_of b out = left (output (arrive_row_of b.answer) out) (both b.transfer b.link)
+abbrev pub begun_of : Result Arrival ArriveError → Transfer → Link → List ℕ → Left Both
+begun_of r t l out = left (output (arrive_row_of r) out) (both t l)
 
 -- of a 1D
-abbrev pub stored_of : Arrived → List ℕ → List ℕ → Left Held
-stored_of a buffer out = left (output (arrive_row_of a.answer) out) (held a.transfer buffer)
+abbrev pub stored_of : Result Arrival ArriveError → Transfer → List ℕ → List ℕ → Left Held
+stored_of r t buffer out = left (output (arrive_row_of r) out) (held t buffer)
 
 -- of a 1F
-abbrev pub arrived_of : Arrived → List ℕ → Left Transfer
-arrived_of a out = left (output (arrive_row_of a.answer) out) a.transfer
+abbrev pub arrived_of : Result Arrival ArriveError → Transfer → List ℕ → Left Transfer
+arrived_of r t out = left (output (arrive_row_of r) out) t
 
 -- of a cancel
-abbrev pub cancelled_of : Cancelled → List ℕ → Left Both
-cancelled_of c out = left (output (cancel_row_of c.answer) out) (both c.transfer c.link)
+abbrev pub cancelled_of : Result ℕ ArriveError → Transfer → Link → List ℕ → Left Both
+cancelled_of r t l out = left (output (cancel_row_of r) out) (both t l)
 
 -- ---- a 19: PROTOCOL 15.6
 
@@ -77,7 +78,7 @@ abbrev pub begin_by : ℕ → ℕ → Transfer → Link → Link → ℕ → Lis
 begin_by limit refusal t l next number payload piece out =
     cond (eqb refusal 0)
     (settled (pair_of limit number l.next piece (code_in payload) out) (both t l)
-    (both (Open (size_in payload) piece 0) next))
+    (both (opened (size_in payload) piece 0) next))
     (left (refused_of limit refusal number out) (both t l))
 
 -- by what the link says of the 1B
@@ -99,17 +100,21 @@ begin_of limit first max t l clock number payload piece room out =
 abbrev pub put_at : ℕ → List ℕ → List ℕ → List ℕ
 put_at at bytes buffer = take at buffer ++ (bytes ++ drop (at + length bytes) buffer)
 
--- an accepted piece: after those that are stored, or there already
+-- an accepted piece of what is open: after those that are stored, or there already
+abbrev pub put_open : Option Open → ℕ → List ℕ → List ℕ → Held
+put_open None index bytes buffer = held absent buffer
+put_open (Some o) index bytes buffer =
+    cond (eqb index o.stored) (held (opened o.size o.piece o.stored) buffer)
+    (held (opened o.size o.piece index) (put_at (start_of o.piece o.stored) bytes buffer))
+
+-- the same of a transfer
 abbrev pub put_in : Transfer → ℕ → List ℕ → List ℕ → Held
-put_in Absent index bytes buffer = held Absent buffer
-put_in (Open size piece stored) index bytes buffer =
-    cond (eqb index stored) (held (Open size piece stored) buffer)
-    (held (Open size piece index) (put_at (start_of piece stored) bytes buffer))
+put_in t index bytes buffer = put_open (open_of t) index bytes buffer
 
 -- a piece that is not there already has room in the buffer
-abbrev pub Fits : Transfer → ℕ → List ℕ → List ℕ → Type 0
-Fits Absent index bytes buffer = Unit {0}
-Fits (Open size piece stored) index bytes buffer = index ≢ stored → start_of piece stored + length bytes ≤ length buffer
+abbrev pub Fits : Option Open → ℕ → List ℕ → List ℕ → Type 0
+Fits None index bytes buffer = Unit {0}
+Fits (Some o) index bytes buffer = index ≢ o.stored → start_of o.piece o.stored + length bytes ≤ length buffer
 
 -- by the number of the first refusal
 abbrev pub store_by : ℕ → ℕ → Transfer → ℕ → List ℕ → List ℕ → List ℕ → Left Held
@@ -132,7 +137,7 @@ store_of limit t number flags payload buffer out =
 -- by the number of the first refusal
 abbrev pub stop_by : ℕ → ℕ → Transfer → ℕ → List ℕ → Left Transfer
 stop_by limit refusal t number out =
-    cond (eqb refusal 0) (settled (acknowledged limit 0x20 number out) t Absent)
+    cond (eqb refusal 0) (settled (acknowledged limit 0x20 number out) t absent)
     (left (refused_of limit refusal number out) t)
 
 -- a 1F received under a number, with a payload
@@ -145,7 +150,7 @@ stop_of limit t number payload out =
 -- by the number of the first refusal, and what the link would be after the 27
 abbrev pub cancel_by : ℕ → ℕ → Transfer → Link → Link → List ℕ → Left Both
 cancel_by limit refusal t l next out =
-    cond (eqb refusal 0) (settled (acknowledged limit 0x27 l.next out) (both t l) (both Absent next))
+    cond (eqb refusal 0) (settled (acknowledged limit 0x27 l.next out) (both t l) (both absent next))
     (left (refused_of limit refusal 0 out) (both t l))
 
 -- by what the link says of the 27
@@ -159,11 +164,11 @@ cancel_of limit first max t l clock out = cancel_with limit first max t l (offer
 
 -- ---- the progress: PROTOCOL 15.12
 
--- of a transfer in range
-abbrev pub progress_in : Transfer → Row
-progress_in Absent = row 0 []
-progress_in (Open size piece stored) = row 0 (bytes_of size piece stored ∷ size ∷ [])
+-- of a transfer in range, by what is open
+abbrev pub progress_in : Option Open → Row
+progress_in None = row 0 []
+progress_in (Some o) = row 0 (bytes_of o.size o.piece o.stored ∷ o.size ∷ [])
 
 -- of any transfer
 abbrev pub progress_of : Transfer → Row
-progress_of t = cond (in_range_of t) (progress_in t) state_row
+progress_of t = cond (in_range_of t) (progress_in (open_of t)) state_row

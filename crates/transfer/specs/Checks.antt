@@ -1,12 +1,13 @@
 -- Model: the tests of each call, in their order (PROTOCOL 15.10), held to the rules by calls_exact and worked_refusals.
 use Rattle.std.specs.Prelude.{ℕ, ◌+◌, ◌-◌, ◌%◌, Bool, true, cond, not, ◌&&◌, ◌||◌, List, [], ◌∷◌, eqb, ltb, leb, length}
-use Rattle.std.specs.Prelude.{take, drop}
+use Rattle.std.specs.Prelude.{take, drop, Option, Some, None}
 use Rattle.base.specs.Same.{same_bytes}
 use Rattle.link.specs.Calls.{in_range}
 use Rattle.link.specs.declared.state.Link.{Link}
 use Rattle.transfer.specs.Pieces.{max_pieces, pieces_of, start_of, piece_size}
+use Rattle.transfer.specs.Transfers.{open_of}
+use Rattle.transfer.specs.declared.state.Open.{Open}
 use Rattle.transfer.specs.declared.state.Transfer.{Transfer}
-use Rattle.transfer.specs.declared.state.Transfer.TheVariants.{Absent, Open}
 
 -- ---- tests in order
 
@@ -26,11 +27,16 @@ first_refusal (t ∷ ts) = cond t.refuses t.number (first_refusal ts)
 
 -- ---- ranges
 
+-- by what is open
+abbrev pub open_in_range : Option Open → Bool
+open_in_range None = true
+open_in_range (Some o) =
+    not (eqb o.size 0 || eqb o.piece 0)
+    && (leb (pieces_of o.size o.piece) max_pieces && leb o.stored (pieces_of o.size o.piece))
+
 -- the ranges of a transfer: PROTOCOL 15.14
 abbrev pub in_range_of : Transfer → Bool
-in_range_of Absent = true
-in_range_of (Open size piece stored) =
-    not (eqb size 0 || eqb piece 0) && (leb (pieces_of size piece) max_pieces && leb stored (pieces_of size piece))
+in_range_of t = open_in_range (open_of t)
 
 -- ---- a 19
 
@@ -83,16 +89,16 @@ open_tests size piece stored flags index total bytes buffer =
 abbrev pub absent_tests : ℕ → List Test
 absent_tests flags = test (hex_lines flags) 64 ∷ test true 65 ∷ []
 
--- by the transfer
-abbrev pub piece_tests : Transfer → ℕ → ℕ → ℕ → List ℕ → List ℕ → List Test
-piece_tests Absent flags index total bytes buffer = absent_tests flags
-piece_tests (Open size piece stored) flags index total bytes buffer =
-    open_tests size piece stored flags index total bytes buffer
+-- by what is open
+abbrev pub piece_tests : Option Open → ℕ → ℕ → ℕ → List ℕ → List ℕ → List Test
+piece_tests None flags index total bytes buffer = absent_tests flags
+piece_tests (Some o) flags index total bytes buffer =
+    open_tests o.size o.piece o.stored flags index total bytes buffer
 
 -- all of them
 abbrev pub store_tests : Transfer → ℕ → Bool → ℕ → ℕ → List ℕ → List ℕ → List Test
 store_tests t flags misread index total bytes buffer =
-    test (not (in_range_of t)) 17 ∷ test misread 32 ∷ piece_tests t flags index total bytes buffer
+    test (not (in_range_of t)) 17 ∷ test misread 32 ∷ piece_tests (open_of t) flags index total bytes buffer
 
 -- ---- a 1F, and a 27 of ours
 

@@ -8,7 +8,7 @@ use Rattle.transfer.specs.Calls.{progress_of}
 use Rattle.transfer.specs.Logs.{Call, beginning, storing, stopping, cancelling, Entry, transfer_after, buffer_after}
 use Rattle.transfer.specs.Logs.{Piece, number_of, Account, none, since, account_after, pieces_in, summed, joined}
 use Rattle.transfer.specs.Logs.{count_from}
-use Rattle.transfer.specs.declared.state.Transfer.TheVariants.{Absent}
+use Rattle.transfer.specs.Transfers.{absent}
 
 -- what the progress answers: nothing, or the bytes stored and the bytes announced
 abbrev pub progress_row : Account → Row
@@ -39,8 +39,8 @@ LinkOut first max (cancelling l clock out) = in_range first max l ≡ false
 pub record History (first max : ℕ) (buffer : List ℕ) (log : List Entry) : Type 0 where
   -- the bytes stored, as the progress answers them, are the lengths of the accepted pieces of distinct numbers since
   -- the last accepted 19, added up; without a transfer there are none
-  pub progress : progress_of (transfer_after Absent log) ≡ progress_row (account_after none log)
-  pub bytes : get_or (progress_of (transfer_after Absent log)).values 0 0 ≡ summed (pieces_in (account_after none log))
+  pub progress : progress_of (transfer_after absent log) ≡ progress_row (account_after none log)
+  pub bytes : get_or (progress_of (transfer_after absent log)).values 0 0 ≡ summed (pieces_in (account_after none log))
   -- and where they are
   pub stored : (size piece : ℕ) (start : List ℕ) (ps : List Piece)
       → account_after none log ≡ since size piece start ps → Receiving size piece start ps (buffer_after buffer log)

@@ -3,6 +3,7 @@
 -- Statements: what must be believed
 pub mod Pieces
 pub mod Payloads
+pub mod Transfers
 pub mod Table
 pub mod Logs
 pub mod History

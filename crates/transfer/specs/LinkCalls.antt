@@ -13,7 +13,7 @@ use Rattle.transfer.specs.Payloads.{code_in}
 use Rattle.transfer.specs.Writing.{ready_payload}
 use Rattle.transfer.specs.Calls.{Left, Both, Held, begin_of, store_of, stop_of, cancel_of}
 use Rattle.transfer.specs.declared.state.Transfer.{Transfer}
-use Rattle.transfer.specs.declared.state.Transfer.TheVariants.{Absent}
+use Rattle.transfer.specs.Transfers.{absent}
 
 -- ---- calls of a link and of a transfer, in any order
 
@@ -161,7 +161,7 @@ pub record LinkFollows (first max : ℕ) (log : List BothEntry) : Type 0 where
 abbrev pub LinksFollow : Type 0
 LinksFollow =
     (limit first max : ℕ) → first ≤ 255 → (buffer : List ℕ) (calls : List BothCall)
-    → LinkFollows first max (both_log limit first max (box Absent (fresh_of first) buffer) calls)
+    → LinkFollows first max (both_log limit first max (box absent (fresh_of first) buffer) calls)
 
 -- ---- both_log_exact: the log has all calls, in order, each of the box that the previous one left
 

@@ -1,9 +1,11 @@
 -- Statement: what a received 19, 1D or 1F says, as `message` reads it. PROTOCOL 7.15, 7.16.
 -- A payload that is faulty has no values, so its numbers are 0, and no parts.
-use Rattle.std.specs.Prelude.{ℕ, Bool, not, List, eqb, get_or}
+use Rattle.std.specs.Prelude.{ℕ, Bool, not, cond, List, eqb, get_or, Option, Some, None}
 use Rattle.message.specs.Parts.{bytes_of}
 use Rattle.message.specs.Reading.{read_of, parts_of}
 use Rattle.message.specs.declared.parts.Place.{Place}
+use Rattle.transfer.specs.declared.announcements.Announcement.{Announcement}
+use Rattle.transfer.specs.declared.announcements.Piece.{Piece}
 
 -- whether `message` refuses the payload of a command: COMMAND, SIZE or FIELD, which for these three is always SIZE
 abbrev pub faulty : ℕ → List ℕ → Bool
@@ -36,3 +38,16 @@ bytes_at payload = (parts_of 0x1D payload).piece
 -- 1D: the bytes
 abbrev pub bytes_in : List ℕ → List ℕ
 bytes_in payload = bytes_of (bytes_at payload) payload
+
+-- ---- what the code reads of them
+
+-- 19
+abbrev pub announcement_of : List ℕ → Option Announcement
+announcement_of payload =
+    cond (faulty 0x19 payload) None (Some (record { size = size_in payload; code = code_at payload }))
+
+-- 1D
+abbrev pub piece_of : List ℕ → Option Piece
+piece_of payload =
+    cond (faulty 0x1D payload) None
+    (Some (record { index = index_in payload; total = total_in payload; bytes = bytes_at payload }))

@@ -7,7 +7,7 @@ use Rattle.transfer.specs.Calls.{progress_of}
 use Rattle.transfer.specs.Logs.{Call, beginning, storing, stopping, cancelling}
 use Rattle.transfer.specs.LogsComputed.{call_of}
 use Rattle.transfer.specs.declared.state.Transfer.{Transfer}
-use Rattle.transfer.specs.declared.state.Transfer.TheVariants.{Absent, Open}
+use Rattle.transfer.specs.Transfers.{absent, opened}
 
 -- ---- transfer_ranges: STATE exactly outside the ranges, of every call and of the progress
 
@@ -34,16 +34,16 @@ pub record InRange (t : Transfer) : Type 0 where
 
 -- t is at most 65,535 where 65,535 pieces reach the end; `stored` is at most t where one piece less does not
 pub record TransferRanges : Type 0 where
-  pub absent_in : InRange Absent
+  pub absent_in : InRange absent
   pub open_in : (size piece stored : ℕ) → 1 ≤ size → 1 ≤ piece → size ≤ 65535 * piece → stored * piece < size + piece
-      → InRange (Open size piece stored)
-  pub size_out : (piece stored : ℕ) → OutOfRange (Open 0 piece stored)
-  pub piece_out : (size stored : ℕ) → OutOfRange (Open size 0 stored)
-  pub many_out : (size piece stored : ℕ) → 65535 * piece < size → OutOfRange (Open size piece stored)
-  pub stored_out : (size piece stored : ℕ) → size + piece ≤ stored * piece → OutOfRange (Open size piece stored)
+      → InRange (opened size piece stored)
+  pub size_out : (piece stored : ℕ) → OutOfRange (opened 0 piece stored)
+  pub piece_out : (size stored : ℕ) → OutOfRange (opened size 0 stored)
+  pub many_out : (size piece stored : ℕ) → 65535 * piece < size → OutOfRange (opened size piece stored)
+  pub stored_out : (size piece stored : ℕ) → size + piece ≤ stored * piece → OutOfRange (opened size piece stored)
 
 -- ---- progress_exact: the progress of every transfer in range, in numbers
 pub record ProgressExact : Type 0 where
-  pub absent : progress_of Absent ≡ row 0 []
-  pub opened : (size piece stored : ℕ) → in_range_of (Open size piece stored) ≡ true
-      → progress_of (Open size piece stored) ≡ row 0 (min (stored * piece) size ∷ size ∷ [])
+  pub absent : progress_of absent ≡ row 0 []
+  pub opened : (size piece stored : ℕ) → in_range_of (opened size piece stored) ≡ true
+      → progress_of (opened size piece stored) ≡ row 0 (min (stored * piece) size ∷ size ∷ [])

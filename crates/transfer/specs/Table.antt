@@ -1,19 +1,19 @@
 -- Statement: the number and the values of each answer. PROTOCOL 15.6 to 15.12.
-use Rattle.std.specs.Prelude.{ℕ, [], ◌∷◌}
+use Rattle.std.specs.Prelude.{ℕ, [], ◌∷◌, Option, Some, None, Result, Ok, Err}
 use Rattle.base.specs.Rows.{Row, row}
 use Rattle.base.specs.Writes.{unwritten_row_of}
+use Rattle.base.specs.declared.writes.WriteError.{WriteError}
 use Rattle.transfer.specs.declared.answers.Refusal.{Refusal}
 use Rattle.transfer.specs.declared.answers.Refusal.TheVariants as refusal
-use Rattle.transfer.specs.declared.answers.ArriveResult.{ArriveResult}
-use Rattle.transfer.specs.declared.answers.ArriveResult.TheVariants as arrived
-use Rattle.transfer.specs.declared.answers.Check.{Check}
-use Rattle.transfer.specs.declared.answers.Check.TheVariants as check
-use Rattle.transfer.specs.declared.cancels.CancelResult.{CancelResult}
-use Rattle.transfer.specs.declared.cancels.CancelResult.TheVariants as cancelled
-use Rattle.transfer.specs.declared.state.ProgressResult.{ProgressResult}
-use Rattle.transfer.specs.declared.state.ProgressResult.TheVariants as progress
-use Rattle.transfer.specs.declared.writes.PairResult.{PairResult}
-use Rattle.transfer.specs.declared.writes.PairResult.TheVariants as pair
+use Rattle.transfer.specs.declared.answers.Arrival.{Arrival}
+use Rattle.transfer.specs.declared.answers.Arrival.TheVariants as arrived
+use Rattle.transfer.specs.declared.answers.ArriveError.{ArriveError}
+use Rattle.transfer.specs.declared.answers.ArriveError.TheVariants as refused
+use Rattle.transfer.specs.declared.answers.Denial.{Denial}
+use Rattle.transfer.specs.declared.answers.Denial.TheVariants as denied
+use Rattle.base.specs.declared.writes.StateError.{StateError}
+use Rattle.transfer.specs.declared.state.Progress.{Progress}
+use Rattle.transfer.specs.declared.writes.Pair.{Pair}
 
 -- ---- the rows: what is not a refusal stands under 0, which here is not MORE
 
@@ -49,39 +49,45 @@ refusal_number refusal.Pieces = 63
 refusal_number refusal.Turn = 65
 refusal_number refusal.Piece = 66
 
+-- the number of what the tests of a call refuse
+abbrev pub denial_number : Denial → ℕ
+denial_number (denied.Refused why) = refusal_number why
+denial_number denied.State = 17
+denial_number denied.Busy = 41
+
 -- the number of what the tests of a call decide; 0 where they refuse nothing
-abbrev pub check_number : Check → ℕ
-check_number check.Accepted = 0
-check_number (check.Refused why) = refusal_number why
-check_number check.State = 17
-check_number check.Busy = 41
+abbrev pub check_number : {A : Type 0} → Result A Denial → ℕ
+check_number (Ok found) = 0
+check_number (Err why) = denial_number why
 
 -- ---- the code's answers
 
+-- where neither the call's answer nor a 12 was written
+abbrev pub error_row_of : ArriveError → Row
+error_row_of refused.State = state_row
+error_row_of refused.Busy = busy_row
+error_row_of (refused.Unwritten why) = unwritten_row_of why
+
 -- to a received 19, 1D or 1F; a refusal has the size of the 12 beside its number
-abbrev pub arrive_row_of : ArriveResult → Row
-arrive_row_of (arrived.Began count ready) = began_row count ready
-arrive_row_of (arrived.Stored count) = wrote_row 0x1E count
-arrive_row_of (arrived.Stopped count) = wrote_row 0x20 count
-arrive_row_of (arrived.Refused count why) = row (refusal_number why) (count ∷ [])
-arrive_row_of arrived.State = state_row
-arrive_row_of arrived.Busy = busy_row
-arrive_row_of (arrived.Unwritten why) = unwritten_row_of why
+abbrev pub arrive_row_of : Result Arrival ArriveError → Row
+arrive_row_of (Ok (arrived.Began count ready)) = began_row count ready
+arrive_row_of (Ok (arrived.Stored count)) = wrote_row 0x1E count
+arrive_row_of (Ok (arrived.Stopped count)) = wrote_row 0x20 count
+arrive_row_of (Ok (arrived.Refused count why)) = row (refusal_number why) (count ∷ [])
+arrive_row_of (Err why) = error_row_of why
 
 -- to a cancel
-abbrev pub cancel_row_of : CancelResult → Row
-cancel_row_of (cancelled.Sent count) = wrote_row 0x27 count
-cancel_row_of cancelled.State = state_row
-cancel_row_of cancelled.Busy = busy_row
-cancel_row_of (cancelled.Unwritten why) = unwritten_row_of why
+abbrev pub cancel_row_of : Result ℕ ArriveError → Row
+cancel_row_of (Ok count) = wrote_row 0x27 count
+cancel_row_of (Err why) = error_row_of why
 
 -- to a question for the progress: the bytes stored, and the bytes announced
-abbrev pub progress_row_of : ProgressResult → Row
-progress_row_of progress.Absent = row 0 []
-progress_row_of (progress.Open stored size) = row 0 (stored ∷ size ∷ [])
-progress_row_of progress.State = state_row
+abbrev pub progress_row_of : Result (Option Progress) StateError → Row
+progress_row_of (Ok None) = row 0 []
+progress_row_of (Ok (Some p)) = row 0 (p.stored ∷ p.size ∷ [])
+progress_row_of (Err e) = state_row
 
 -- of the inner call that writes a pair
-abbrev pub pair_row_of : PairResult → Row
-pair_row_of (pair.Wrote count ready) = began_row count ready
-pair_row_of (pair.Unwritten why) = unwritten_row_of why
+abbrev pub pair_row_of : Result Pair WriteError → Row
+pair_row_of (Ok p) = began_row p.count p.ready
+pair_row_of (Err why) = unwritten_row_of why

@@ -3,11 +3,11 @@ use Rattle.std.specs.Prelude.{ℕ, ◌≡◌, Bool, true, false, cond, List, [],
 use Rattle.base.specs.Rows.{Row}
 use Rattle.link.specs.Calls.{link_of}
 use Rattle.link.specs.declared.state.Link.{Link}
-use Rattle.link.specs.declared.state.Wait.TheVariants.{Waiting}
+use Rattle.link.specs.Sending.{waits_for}
 use Rattle.transfer.specs.Calls.{begin_of, store_of, stop_of, cancel_of}
 use Rattle.transfer.specs.WorkedTransfers.{idle, busy}
 use Rattle.transfer.specs.declared.state.Transfer.{Transfer}
-use Rattle.transfer.specs.declared.state.Transfer.TheVariants.{Absent, Open}
+use Rattle.transfer.specs.Transfers.{absent, opened}
 
 -- ---- all cases of some faults, the first fault varying slowest, with it before without it
 
@@ -31,11 +31,11 @@ number_in r = r.number
 
 -- a transfer that is out of range, or not
 abbrev pub any_transfer : Bool → Transfer
-any_transfer out = cond out (Open 10 4 4) (Open 10 4 1)
+any_transfer out = cond out (opened 10 4 4) (opened 10 4 1)
 
 -- a link that is out of range; a link that waits; an idle one
 abbrev pub any_link : Bool → Bool → Link
-any_link out waits = cond out (link_of 3 (Waiting 0x06 2 0 0)) (cond waits busy idle)
+any_link out waits = cond out (link_of 3 (waits_for 0x06 2 0 0)) (cond waits busy idle)
 
 -- ---- a 19: 70,000 bytes in pieces of one byte are too many pieces; 10 bytes are not
 
@@ -54,19 +54,19 @@ begin_case out misread waits empty short many =
 -- the link's STATE and ROOM instead
 abbrev pub begin_room : Bool → Bool → Bool → Bool → ℕ
 begin_room link_out misread waits empty =
-    number_in (begin_of 1024 0 2 Absent (any_link link_out waits) 0 5 (announcing misread false) (cond empty 0 1) 12
+    number_in (begin_of 1024 0 2 absent (any_link link_out waits) 0 5 (announcing misread false) (cond empty 0 1) 12
     (replicate 9 9)).row
 
 -- an announced size of 0: BUSY before EMPTY, EMPTY before all that is about pieces
 abbrev pub begin_nothing : Bool → Bool → Bool → Bool → ℕ
 begin_nothing waits nothing empty narrow =
-    number_in (begin_of 1024 0 2 Absent (any_link false waits) 0 5
+    number_in (begin_of 1024 0 2 absent (any_link false waits) 0 5
     (0 ∷ 0 ∷ 0 ∷ cond nothing 0 10 ∷ 0 ∷ 0 ∷ []) (cond empty 0 1) 12 (replicate (cond narrow 9 30) 9)).row
 
 -- a check code whose 1B has 1,019 bytes of payload or one more, into an output with room or without
 abbrev pub begin_long : Bool → Bool → ℕ
 begin_long long narrow =
-    number_in (begin_of 1024 0 2 Absent idle 0 5
+    number_in (begin_of 1024 0 2 absent idle 0 5
     (0 ∷ 0 ∷ 0 ∷ 10 ∷ 3 ∷ cond long (0xF8 ∷ replicate 1016 1) (0xF7 ∷ replicate 1015 1)) 4 12
     (replicate (cond narrow 20 1100) 9)).row
 
@@ -85,7 +85,8 @@ store_case out short hex total turn bytes =
 -- SIZE before TOOBIG, and no room for the 12 or the 1E
 abbrev pub store_room : Bool → Bool → Bool → Bool → ℕ
 store_room misread short hex narrow =
-    number_in (store_of 1024 (Open 10 4 1) 6 (cond hex 1 0) (cond misread (0 ∷ 2 ∷ 0 ∷ []) (piece_of false false false))
+    number_in
+    (store_of 1024 (opened 10 4 1) 6 (cond hex 1 0) (cond misread (0 ∷ 2 ∷ 0 ∷ []) (piece_of false false false))
     (replicate (cond short 9 12) 7) (replicate (cond narrow 8 30) 9)).row
 
 -- the piece just stored with other bytes or without, of another total and with hex lines or without, into a buffer
@@ -93,21 +94,22 @@ store_room misread short hex narrow =
 abbrev pub store_again : Bool → Bool → Bool → Bool → ℕ
 store_again short hex total bytes =
     number_in
-    (store_of 1024 (Open 10 4 1) 6 (cond hex 3 2) (0 ∷ 1 ∷ 0 ∷ cond total 2 3 ∷ 7 ∷ 7 ∷ 7 ∷ cond bytes 8 7 ∷ [])
+    (store_of 1024 (opened 10 4 1) 6 (cond hex 3 2) (0 ∷ 1 ∷ 0 ∷ cond total 2 3 ∷ 7 ∷ 7 ∷ 7 ∷ cond bytes 8 7 ∷ [])
     (replicate (cond short 9 12) 7) (replicate 30 9)).row
 
 -- without a transfer: SIZE, HEXLINES, TURN, ROOM
 abbrev pub store_none : Bool → Bool → Bool → Bool → ℕ
 store_none misread hex short narrow =
-    number_in (store_of 1024 Absent 6 (cond hex 1 0) (cond misread (0 ∷ 2 ∷ 0 ∷ []) (piece_of false false false))
+    number_in (store_of 1024 absent 6 (cond hex 1 0) (cond misread (0 ∷ 2 ∷ 0 ∷ []) (piece_of false false false))
     (replicate (cond short 0 12) 7) (replicate (cond narrow 9 30) 9)).row
 
 -- ---- a 1F and a 27
 
 -- STATE, SIZE, with a transfer or without, ROOM
 abbrev pub stop_case : Bool → Bool → Bool → Bool → ℕ
-stop_case out misread absent narrow =
-    number_in (stop_of 1024 (cond absent (cond out (Open 0 4 0) Absent) (any_transfer out)) 6 (cond misread (1 ∷ []) [])
+stop_case out misread without narrow =
+    number_in
+    (stop_of 1024 (cond without (cond out (opened 0 4 0) absent) (any_transfer out)) 6 (cond misread (1 ∷ []) [])
     (replicate (cond narrow 8 30) 9)).row
 
 -- STATE of either, BUSY, ROOM

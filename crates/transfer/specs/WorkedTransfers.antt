@@ -1,26 +1,26 @@
 -- Claims: worked transfers, by computation. PROTOCOL 15.1 to 15.13.
-use Rattle.std.specs.Prelude.{ℕ, ◌≡◌, List, [], ◌∷◌, replicate}
+use Rattle.std.specs.Prelude.{ℕ, ◌≡◌, None, List, [], ◌∷◌, replicate}
 use Rattle.base.specs.Rows.{Row, row}
 use Rattle.base.specs.Outcomes.{output}
 use Rattle.link.specs.Calls.{link_of}
 use Rattle.link.specs.declared.state.Link.{Link}
-use Rattle.link.specs.declared.state.Wait.TheVariants.{Idle, Waiting}
+use Rattle.link.specs.Sending.{waits_for}
 use Rattle.transfer.specs.Calls.{left, both, held, begin_of, store_of, stop_of, cancel_of, progress_of}
 use Rattle.transfer.specs.Logs.{Call, beginning, storing, stopping, cancelling, Entry, transfer_after, buffer_after}
 use Rattle.transfer.specs.Logs.{Piece, none, since, account_after, summed, joined, count_from}
 use Rattle.transfer.specs.LogsComputed.{log_of}
 use Rattle.transfer.specs.declared.state.Transfer.{Transfer}
-use Rattle.transfer.specs.declared.state.Transfer.TheVariants.{Absent, Open}
+use Rattle.transfer.specs.Transfers.{absent, opened}
 
 -- ---- what the calls are given
 
 -- nothing waits, and the next number is 3
 abbrev pub idle : Link
-idle = link_of 3 Idle
+idle = link_of 3 None
 
 -- a report waits under 2
 abbrev pub busy : Link
-busy = link_of 3 (Waiting 0x05 2 0 0)
+busy = link_of 3 (waits_for 0x05 2 0 0)
 
 -- a buffer of twelve bytes
 abbrev pub buffer : List ℕ
@@ -49,7 +49,7 @@ rows_of (e ∷ es) = e.row ∷ rows_of es
 
 -- the calls of a fresh transfer and that buffer
 abbrev pub logged : List Call → List Entry
-logged calls = log_of 1024 0 2 Absent buffer calls
+logged calls = log_of 1024 0 2 absent buffer calls
 
 -- a 1E of nine bytes
 abbrev pub stored : Row
@@ -66,8 +66,8 @@ refused n = row n (10 ∷ [])
 -- ---- worked_transfers: what a log answers and leaves
 pub record Leaves (calls : List Call) (rows : List Row) (progress : Row) (t : Transfer) (after : List ℕ) : Type 0 where
   pub rows_are : rows_of (logged calls) ≡ rows
-  pub progress_is : progress_of (transfer_after Absent (logged calls)) ≡ progress
-  pub transfer_is : transfer_after Absent (logged calls) ≡ t
+  pub progress_is : progress_of (transfer_after absent (logged calls)) ≡ progress
+  pub transfer_is : transfer_after absent (logged calls) ≡ t
   pub buffer_is : buffer_after buffer (logged calls) ≡ after
 
 -- three pieces with a short last one; the second is repeated, and the last one is answered again
@@ -116,54 +116,54 @@ pub record WorkedTransfers : Type 0 where
       account_after none (logged again_calls)
       ≡ since 10 4 (1 ∷ 2 ∷ 3 ∷ 4 ∷ 5 ∷ 6 ∷ 7 ∷ 8 ∷ 7 ∷ 7 ∷ 7 ∷ 7 ∷ []) (numbered 1 (11 ∷ 12 ∷ 13 ∷ 14 ∷ []) ∷ [])
   pub none_told : account_after none (logged cancel_calls) ≡ none
-  pub begun_told : progress_of (transfer_after Absent (logged (announced idle ∷ []))) ≡ row 0 (0 ∷ 10 ∷ [])
+  pub begun_told : progress_of (transfer_after absent (logged (announced idle ∷ []))) ≡ row 0 (0 ∷ 10 ∷ [])
   pub sums : summed (numbered 1 (1 ∷ 2 ∷ []) ∷ numbered 2 (3 ∷ []) ∷ []) ≡ 3
   pub joins : joined (numbered 1 (1 ∷ 2 ∷ []) ∷ numbered 2 (3 ∷ []) ∷ []) ≡ 1 ∷ 2 ∷ 3 ∷ []
   pub counts : count_from 1 3 ≡ 1 ∷ 2 ∷ 3 ∷ []
   pub whole :
-      Leaves whole_calls (began ∷ replicate 5 stored) (row 0 (10 ∷ 10 ∷ [])) (Open 10 4 3)
+      Leaves whole_calls (began ∷ replicate 5 stored) (row 0 (10 ∷ 10 ∷ [])) (opened 10 4 3)
       (1 ∷ 2 ∷ 3 ∷ 4 ∷ 5 ∷ 6 ∷ 7 ∷ 8 ∷ 9 ∷ 10 ∷ 7 ∷ 7 ∷ [])
   pub faulty :
       Leaves faulty_calls
       (refused 65 ∷ began ∷ refused 65 ∷ refused 65 ∷ refused 66 ∷ refused 66 ∷ refused 63 ∷ refused 64 ∷ stored
       ∷ refused 66 ∷ refused 66 ∷ stored ∷ refused 65 ∷ refused 66 ∷ stored ∷ refused 65 ∷ [])
-      (row 0 (10 ∷ 10 ∷ [])) (Open 10 4 3) (1 ∷ 2 ∷ 3 ∷ 4 ∷ 5 ∷ 6 ∷ 7 ∷ 8 ∷ 9 ∷ 10 ∷ 7 ∷ 7 ∷ [])
+      (row 0 (10 ∷ 10 ∷ [])) (opened 10 4 3) (1 ∷ 2 ∷ 3 ∷ 4 ∷ 5 ∷ 6 ∷ 7 ∷ 8 ∷ 9 ∷ 10 ∷ 7 ∷ 7 ∷ [])
   pub again :
       Leaves again_calls
       (began ∷ stored ∷ row 41 [] ∷ refused 61 ∷ row 22 (24 ∷ []) ∷ stored ∷ began ∷ refused 65 ∷ stored ∷ [])
-      (row 0 (4 ∷ 10 ∷ [])) (Open 10 4 1) (11 ∷ 12 ∷ 13 ∷ 14 ∷ 5 ∷ 6 ∷ 7 ∷ 8 ∷ 7 ∷ 7 ∷ 7 ∷ 7 ∷ [])
+      (row 0 (4 ∷ 10 ∷ [])) (opened 10 4 1) (11 ∷ 12 ∷ 13 ∷ 14 ∷ 5 ∷ 6 ∷ 7 ∷ 8 ∷ 7 ∷ 7 ∷ 7 ∷ 7 ∷ [])
   pub cancelled :
       Leaves cancel_calls
       (began ∷ stored ∷ row 41 [] ∷ row 22 (9 ∷ []) ∷ row 0 (9 ∷ 39 ∷ []) ∷ refused 65 ∷ began ∷ refused 32
       ∷ row 22 (9 ∷ []) ∷ row 0 (9 ∷ 32 ∷ []) ∷ row 0 (9 ∷ 32 ∷ []) ∷ row 0 (9 ∷ 39 ∷ []) ∷ [])
-      (row 0 []) Absent (1 ∷ 2 ∷ 3 ∷ 4 ∷ 7 ∷ 7 ∷ 7 ∷ 7 ∷ 7 ∷ 7 ∷ 7 ∷ 7 ∷ [])
+      (row 0 []) absent (1 ∷ 2 ∷ 3 ∷ 4 ∷ 7 ∷ 7 ∷ 7 ∷ 7 ∷ 7 ∷ 7 ∷ 7 ∷ 7 ∷ [])
   -- 1A under 5, and 1B under 3 with the code and the piece size; the link waits for the 1B
   pub pair :
-      begin_of 1024 0 2 Absent idle 1000 5 ten_bytes 4 12 output30
+      begin_of 1024 0 2 absent idle 1000 5 ten_bytes 4 12 output30
       ≡ left (output began (0xFF ∷ 0xFF ∷ 0 ∷ 5 ∷ 0x1A ∷ 5 ∷ 0 ∷ 0 ∷ 0x24
       ∷ 0xFF ∷ 0xFF ∷ 0 ∷ 11 ∷ 0x1B ∷ 3 ∷ 0 ∷ 0 ∷ 0 ∷ 2 ∷ 0xAB ∷ 0xCD ∷ 0 ∷ 4 ∷ 0xA7 ∷ replicate 6 9))
-      (both (Open 10 4 0) (link_of 4 (Waiting 0x1B 3 1000 0)))
+      (both (opened 10 4 0) (link_of 4 (waits_for 0x1B 3 1000 0)))
   -- one byte short of both, or of a 12, ROOM has the size, and all is as it was; no room at all, under numbers FF
   pub pair_short :
-      begin_of 1024 0 2 Absent idle 1000 5 ten_bytes 4 12 (replicate 23 9)
-      ≡ left (output (row 22 (24 ∷ [])) (replicate 23 9)) (both Absent idle)
+      begin_of 1024 0 2 absent idle 1000 5 ten_bytes 4 12 (replicate 23 9)
+      ≡ left (output (row 22 (24 ∷ [])) (replicate 23 9)) (both absent idle)
   pub rejection_short :
-      stop_of 1024 Absent 4 (1 ∷ []) (replicate 9 9) ≡ left (output (row 22 (10 ∷ [])) (replicate 9 9)) Absent
-  pub pair_asked : (begin_of 1024 0 2 Absent (link_of 255 Idle) 1000 255 ten_bytes 4 12 []).row ≡ row 22 (26 ∷ [])
+      stop_of 1024 absent 4 (1 ∷ []) (replicate 9 9) ≡ left (output (row 22 (10 ∷ [])) (replicate 9 9)) absent
+  pub pair_asked : (begin_of 1024 0 2 absent (link_of 255 None) 1000 255 ten_bytes 4 12 []).row ≡ row 22 (26 ∷ [])
   pub one_piece :
-      store_of 1024 (Open 10 4 1) 6 0 (0 ∷ 2 ∷ 0 ∷ 3 ∷ 5 ∷ 6 ∷ 7 ∷ 8 ∷ []) buffer output30
+      store_of 1024 (opened 10 4 1) 6 0 (0 ∷ 2 ∷ 0 ∷ 3 ∷ 5 ∷ 6 ∷ 7 ∷ 8 ∷ []) buffer output30
       ≡ left (output stored (0xFF ∷ 0xFF ∷ 0 ∷ 5 ∷ 0x1E ∷ 6 ∷ 0 ∷ 0 ∷ 0x29 ∷ replicate 21 9))
-      (held (Open 10 4 2) (7 ∷ 7 ∷ 7 ∷ 7 ∷ 5 ∷ 6 ∷ 7 ∷ 8 ∷ 7 ∷ 7 ∷ 7 ∷ 7 ∷ []))
+      (held (opened 10 4 2) (7 ∷ 7 ∷ 7 ∷ 7 ∷ 5 ∷ 6 ∷ 7 ∷ 8 ∷ 7 ∷ 7 ∷ 7 ∷ 7 ∷ []))
   pub a_rejection :
-      store_of 1024 Absent 6 0 (0 ∷ 2 ∷ 0 ∷ 3 ∷ 5 ∷ 6 ∷ 7 ∷ 8 ∷ []) buffer output30
+      store_of 1024 absent 6 0 (0 ∷ 2 ∷ 0 ∷ 3 ∷ 5 ∷ 6 ∷ 7 ∷ 8 ∷ []) buffer output30
       ≡ left (output (refused 65) (0xFF ∷ 0xFF ∷ 0 ∷ 6 ∷ 0x12 ∷ 6 ∷ 0 ∷ 0 ∷ 3 ∷ 0x21 ∷ replicate 20 9))
-      (held Absent buffer)
+      (held absent buffer)
   pub a_stop :
-      stop_of 1024 (Open 10 4 1) 6 [] output30
-      ≡ left (output (row 0 (9 ∷ 32 ∷ [])) (0xFF ∷ 0xFF ∷ 0 ∷ 5 ∷ 0x20 ∷ 6 ∷ 0 ∷ 0 ∷ 0x2B ∷ replicate 21 9)) Absent
+      stop_of 1024 (opened 10 4 1) 6 [] output30
+      ≡ left (output (row 0 (9 ∷ 32 ∷ [])) (0xFF ∷ 0xFF ∷ 0 ∷ 5 ∷ 0x20 ∷ 6 ∷ 0 ∷ 0 ∷ 0x2B ∷ replicate 21 9)) absent
   pub a_cancel :
-      cancel_of 1024 0 2 (Open 10 4 1) idle 1000 output30
+      cancel_of 1024 0 2 (opened 10 4 1) idle 1000 output30
       ≡ left (output (row 0 (9 ∷ 39 ∷ [])) (0xFF ∷ 0xFF ∷ 0 ∷ 5 ∷ 0x27 ∷ 3 ∷ 0 ∷ 0 ∷ 0x2F ∷ replicate 21 9))
-      (both Absent (link_of 4 (Waiting 0x27 3 1000 0)))
-  pub a_busy : begin_of 1024 0 2 (Open 10 4 1) busy 1000 5 ten_bytes 4 12 output30
-      ≡ left (output (row 41 []) output30) (both (Open 10 4 1) busy)
+      (both absent (link_of 4 (waits_for 0x27 3 1000 0)))
+  pub a_busy : begin_of 1024 0 2 (opened 10 4 1) busy 1000 5 ten_bytes 4 12 output30
+      ≡ left (output (row 41 []) output30) (both (opened 10 4 1) busy)

@@ -1,4 +1,4 @@
-// A transfer: a counting table that the module sends piece by piece, into the caller's buffer. PROTOCOL 15.
+//! A transfer: a counting table that the module sends piece by piece, into the caller's buffer. PROTOCOL 15.
 #![tactic(auto)]
 
 mod announcements;
@@ -11,12 +11,8 @@ mod stops;
 mod stores;
 mod writes;
 
-// The pieces that a transfer has at most: PROTOCOL 15.4.
+/// The pieces that a transfer has at most: PROTOCOL 15.4.
 pub const MAX_PIECES: u32 = 65535;
 
-pub use answers::{ArriveResult, Arrived, Refusal, refusal_number};
-pub use begins::{Begun, begin};
-pub use cancels::{CancelResult, Cancelled, cancel};
-pub use state::{ProgressResult, Transfer, in_range, progress};
-pub use stops::stop;
-pub use stores::store;
+pub use answers::{Arrival, ArriveError, Refusal};
+pub use state::{Open, Progress, Transfer};

@@ -1,61 +1,33 @@
-// A 1F was received: the module cancels. PROTOCOL 15.8.
+//! A 1F was received: the module cancels. PROTOCOL 15.8.
 ghost use Rattle.std.specs.Prelude.{◌≡◌};
 ghost use Rattle.frame.specs.Wire.{frame_limit};
-ghost use Rattle.transfer.specs.Table.{check_number};
-ghost use Rattle.transfer.specs.Checks.{first_refusal, stop_tests};
-ghost use Rattle.transfer.specs.Writing.{acknowledged};
-ghost use Rattle.transfer.specs.Calls.{arrived_of, settled, stop_of};
-ghost use Rattle.transfer.specs.declared.state.Transfer.TheVariants.{Absent};
+ghost use Rattle.transfer.specs.Calls.{arrived_of, stop_of};
 
-use super::announcements::stop_faulty;
-use super::answers::{ArriveResult, Arrived, Check, Refusal, refuses};
-use super::state::{Transfer, in_range};
-use super::writes::{refuse, write_empty};
-use base::WriteResult;
+use super::answers::{Arrival, ArriveError, Refusal};
+use super::state::Transfer;
+use super::writes::{reject, write_empty};
 
-// All tests, in the order of PROTOCOL 15.10.
-fn check(transfer: Transfer, faulty: bool) -> Check
-    ensures { check_number result ≡ first_refusal (stop_tests transfer faulty) }
-{
-    if !in_range(transfer) {
-        return Check::State;
-    }
-    if faulty {
-        return refuses(Refusal::Size);
-    }
-    Check::Accepted
-}
-
-// Writes the 20, and drops the transfer where that could be written.
-fn accept(transfer: Transfer, number: u8, out: &mut [u8]) -> Arrived
-    ensures { arrived_of result out.new
-        ≡ settled (acknowledged frame_limit 0x20 number out.old) transfer Absent }
-{
-    let written = write_empty(0x20, number, out);
-    match written {
-        WriteResult::Wrote { count } => Arrived {
-            answer: ArriveResult::Stopped { count },
-            transfer: Transfer::Absent,
-        },
-        WriteResult::Unwritten { why } => Arrived {
-            answer: ArriveResult::Unwritten { why },
-            transfer,
-        },
-    }
-}
-
-// A 1F was received, under a number, with a payload: where it is accepted, there is no transfer any more, and 20 is at
-// the front of the output.
-pub fn stop(transfer: Transfer, number: u8, payload: &[u8], out: &mut [u8]) -> Arrived
-    ensures { arrived_of result out.new
-        ≡ stop_of frame_limit transfer number payload.now out.old }
-{
-    let checked = check(transfer, stop_faulty(payload));
-    match checked {
-        Check::Accepted => accept(transfer, number, out),
-        _ => Arrived {
-            answer: refuse(checked, number, out),
-            transfer,
-        },
+impl Transfer {
+    /// A 1F was received, under a number, with a payload: where it is accepted, there is no transfer any more, and 20
+    /// is at the front of the output.
+    pub fn stop(
+        &mut self,
+        number: u8,
+        payload: &[u8],
+        out: &mut [u8],
+    ) -> Result<Arrival, ArriveError>
+        ensures { arrived_of result self.new out.new
+            ≡ stop_of frame_limit self.old number payload.now out.old }
+    {
+        if !self.is_in_range() {
+            return Err(ArriveError::State);
+        }
+        // The only fault of a 1F is a payload.
+        if message::read(0x1F, payload).is_err() {
+            return reject(Refusal::Size, number, out);
+        }
+        let count = write_empty(0x20, number, out)?;
+        self.open = None;
+        Ok(Arrival::Stopped { count })
     }
 }

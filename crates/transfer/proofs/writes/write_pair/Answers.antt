@@ -9,18 +9,18 @@ with_first-requires c =
     let args = c.args in
     rw c.accept_size-ready.ensures
     (pair_needed frame_limit args.number args.next args.piece args.code.now args.out.now (omega arith)
-    c.in-Unwritten.why _
+    c.in-Err.why _
     (at_from frame_limit args.number args.next args.piece args.code.now args.out.now (omega arith) _ _
     c.accept_size-ready.ensures c.min-from.ensures _
-    (simp c.in-Unwritten.is at c.write_ready-written.ensures)))
+    c.in-Err.ensures))
 
-pub returns-in-Wrote : goal.returns-in-Wrote
-returns-in-Wrote c =
+pub returns-in-Ok : goal.returns-in-Ok
+returns-in-Ok c =
     let args = c.args in
     rw c.accept_size-ready.ensures
     (pair_wrote frame_limit args.number args.next args.piece args.code.now args.out.now (omega arith)
     (omega arith) _ _
     (at_from frame_limit args.number args.next args.piece args.code.now args.out.now (omega arith) _ _
     c.accept_size-ready.ensures c.min-from.ensures _
-    (simp c.in-Wrote.is at c.write_ready-written.ensures))
+    c.in-Ok.ensures)
     _ _ c.write_empty.ensures)
