@@ -3,10 +3,11 @@ use Prim.Native.Nat.{ℕ}
 use mathlib.Core.Path.{◌≡◌, refl, ap}
 use mathlib.Core.Bool.{cond}
 use mathlib.Core.List.{List, [], ◌∷◌}
+use Rattle.std.specs.Prelude.{Option, None, Some, Result, Ok, Err}
 use lib.Dec.{eqb}
 use lib.ListN.{get_or}
 use Rattle.base.specs.Rows.{Row}
-use Rattle.base.specs.declared.writes.Unwritten.TheVariants as unwritten
+use Rattle.base.specs.declared.writes.WriteError.TheVariants as unwritten
 use Rattle.base.proofs.Rows.{injective_by, under, value}
 use Rattle.message.specs.Layouts.{code_number}
 use Rattle.message.specs.Table.{cause_number}
@@ -19,10 +20,11 @@ use Rattle.transfer.specs.declared.answers.Refusal.TheVariants as refusal
 use Rattle.device.specs.Table.{handle_row_of, ended_row_of}
 use Rattle.device.specs.Handling.{After}
 use Rattle.device.specs.AnswerRows.{RowsInjective, RowsNamed, ContractsComplete}
-use Rattle.device.specs.declared.answers.Ended.{Ended}
-use Rattle.device.specs.declared.answers.Ended.TheVariants as ended
-use Rattle.device.specs.declared.answers.HandleResult.{HandleResult}
-use Rattle.device.specs.declared.answers.HandleResult.TheVariants as answer
+use Rattle.device.specs.declared.answers.Handled.{Handled}
+use Rattle.device.specs.declared.answers.Handled.TheVariants as done
+use Rattle.device.specs.declared.answers.HandleError.{HandleError}
+use Rattle.device.specs.declared.answers.HandleError.TheVariants as error
+use Rattle.link.specs.declared.receives.Replied.{Replied}
 
 -- ---- numbers
 
@@ -59,26 +61,26 @@ refusal_from n =
 -- ---- the answers
 
 -- under 0: nothing, a count, a count and a command, or these and more
-abbrev done_from : List ℕ → HandleResult
-done_from [] = answer.Nothing
-done_from (count ∷ []) = answer.Acknowledged count
-done_from (count ∷ command ∷ []) = at command 0x1E (answer.Stored count) (answer.Stopped count)
+abbrev done_from : List ℕ → Handled
+done_from [] = done.Nothing
+done_from (count ∷ []) = done.Acknowledged count
+done_from (count ∷ command ∷ []) = at command 0x1E (done.Stored count) (done.Stopped count)
 done_from (count ∷ command ∷ v ∷ l) =
-    at command 0x02 (answer.InformationWanted v)
-    (at command 0x04 (answer.StatusWanted v)
-    (at command 0x1A (answer.Began count v) (answer.Rejected count (code_from v) (cause_from (get_or l 0 0)))))
+    at command 0x02 (done.InformationWanted v)
+    (at command 0x04 (done.StatusWanted v)
+    (at command 0x1A (done.Began count v) (done.Rejected count (code_from v) (cause_from (get_or l 0 0)))))
 
-abbrev answer_from : Row → HandleResult
+abbrev answer_from : Row → Result Handled HandleError
 answer_from r =
-    under r 0 (done_from r.values)
-    (under r 17 answer.State
-    (under r 41 answer.Busy
-    (under r 21 (answer.Unwritten unwritten.Payload)
-    (under r 22 (answer.Unwritten (unwritten.Room (value r 0)))
-    (answer.Refused (value r 0) (refusal_from r.number))))))
+    under r 0 (Ok (done_from r.values))
+    (under r 17 (Err error.State)
+    (under r 41 (Err error.Busy)
+    (under r 21 (Err (error.Unwritten unwritten.Payload))
+    (under r 22 (Err (error.Unwritten (unwritten.Room (value r 0))))
+    (Ok (done.Refused (value r 0) (refusal_from r.number)))))))
 
 refused_back : (count : ℕ) (why : Refusal)
-    → answer_from (handle_row_of (answer.Refused count why)) ≡ answer.Refused count why
+    → answer_from (handle_row_of (Ok (done.Refused count why))) ≡ Ok (done.Refused count why)
 refused_back count refusal.Size = refl
 refused_back count refusal.Empty = refl
 refused_back count refusal.TooBig = refl
@@ -87,33 +89,33 @@ refused_back count refusal.Pieces = refl
 refused_back count refusal.Turn = refl
 refused_back count refusal.Piece = refl
 
-answer_back : (a : HandleResult) → answer_from (handle_row_of a) ≡ a
-answer_back answer.Nothing = refl
-answer_back (answer.InformationWanted number) = refl
-answer_back (answer.StatusWanted number) = refl
-answer_back (answer.Acknowledged count) = refl
-answer_back (answer.Rejected count code cause) = simp (code_back code, cause_back cause)
-answer_back (answer.Began count ready) = refl
-answer_back (answer.Stored count) = refl
-answer_back (answer.Stopped count) = refl
-answer_back (answer.Refused count why) = refused_back count why
-answer_back answer.State = refl
-answer_back answer.Busy = refl
-answer_back (answer.Unwritten unwritten.Payload) = refl
-answer_back (answer.Unwritten (unwritten.Room needed)) = refl
+answer_back : (a : Result Handled HandleError) → answer_from (handle_row_of a) ≡ a
+answer_back (Ok done.Nothing) = refl
+answer_back (Ok (done.InformationWanted number)) = refl
+answer_back (Ok (done.StatusWanted number)) = refl
+answer_back (Ok (done.Acknowledged count)) = refl
+answer_back (Ok (done.Rejected count code cause)) = simp (code_back code, cause_back cause)
+answer_back (Ok (done.Began count ready)) = refl
+answer_back (Ok (done.Stored count)) = refl
+answer_back (Ok (done.Stopped count)) = refl
+answer_back (Ok (done.Refused count why)) = refused_back count why
+answer_back (Err error.State) = refl
+answer_back (Err error.Busy) = refl
+answer_back (Err (error.Unwritten unwritten.Payload)) = refl
+answer_back (Err (error.Unwritten (unwritten.Room needed))) = refl
 
 -- ---- the waits
 
-abbrev wait_from : List ℕ → Ended
-wait_from [] = ended.Nothing
-wait_from (command ∷ l) = ended.Wait command (get_or l 0 0)
+abbrev wait_from : List ℕ → Option Replied
+wait_from [] = None
+wait_from (command ∷ l) = Some (record { command = command; number = get_or l 0 0 })
 
-abbrev ended_from : Row → Ended
+abbrev ended_from : Row → Option Replied
 ended_from r = wait_from r.values
 
-ended_back : (a : Ended) → ended_from (ended_row_of a) ≡ a
-ended_back ended.Nothing = refl
-ended_back (ended.Wait command number) = refl
+ended_back : (a : Option Replied) → ended_from (ended_row_of a) ≡ a
+ended_back None = refl
+ended_back (Some wait) = refl
 
 -- ---- the claims
 
@@ -128,7 +130,7 @@ pub named_rows : RowsNamed
 named_rows n m = record { replies = refl; rejected = refl; refused = refl; waits = refl }
 
 pub contracts_complete : ContractsComplete
-contracts_complete h buffer out y e =
+contracts_complete answer ended d buffer out y e =
     record {
       answer_is = ap (λ (z : After). z.row) e;
       ended_is = ap (λ (z : After). z.ended) e;

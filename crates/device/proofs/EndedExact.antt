@@ -1,4 +1,5 @@
 -- Which wait a frame ends, and the link after each answer of the reader. Assumes nothing.
+use Rattle.std.specs.Prelude.{None}
 use Prim.Native.Nat.{ℕ, ◌+◌, ◌≤◌}
 use mathlib.Core.Path.{◌≡◌, refl, sym, ap, subst, ◌∙◌}
 use mathlib.Core.Logic.{◌≢◌}
@@ -19,7 +20,7 @@ use Rattle.link.specs.Calls.{link_of, offer_of, receive_of}
 use Rattle.link.specs.EachCall.{number_after}
 use Rattle.link.specs.Ranges.{waiters}
 use Rattle.link.specs.declared.state.Link.{Link}
-use Rattle.link.specs.declared.state.Wait.TheVariants.{Idle, Waiting}
+use Rattle.link.specs.Sending.{waits_for}
 use Rattle.link.proofs.EachCall.{calls_exact}
 use Rattle.transfer.specs.Checks.{in_range_of}
 use Rattle.transfer.specs.Calls.{Both}
@@ -75,10 +76,10 @@ module _ (g : Given) (body : List ℕ) where
 module _ (given : Given) (t : in_range_of given.transfer ≡ true) where
   module _ (next : ℕ) where
     abbrev idle : Given
-    idle = holding given given.transfer (link_of next Idle)
+    idle = holding given given.transfer (link_of next None)
 
     -- nothing fits
-    idle_stray : (body : List ℕ) → Said idle body ≡ outcome (row 43 []) (link_of next Idle)
+    idle_stray : (body : List ℕ) → Said idle body ≡ outcome (row 43 []) (link_of next None)
     idle_stray body = (calls_exact.idle next).stray (command_of body) (number_of body)
 
     idle_exact : IdleExact given next
@@ -87,15 +88,15 @@ module _ (given : Given) (t : in_range_of given.transfer ≡ true) where
         record {
           accepted = λ v body is done.
               let e = begin frame_limit first_number max_repeats idle body (idle_in next, t) v is in
-              subst (Ends (row 0 []) (link_of (number_after next) (Waiting 0x1B next given.clock 0))) (sym e)
+              subst (Ends (row 0 []) (link_of (number_after next) (waits_for 0x1B next given.clock 0))) (sym e)
               (record {
-                ended_is = ended_as idle body (row 43 []) (link_of next Idle) (idle_stray body);
+                ended_is = ended_as idle body (row 43 []) (link_of next None) (idle_stray body);
                 link_is = begin_waits frame_limit first_number max_repeats given.transfer
                     (link_after first_number max_repeats idle body) given.clock (number_of body) (payload_of body)
                     given.piece (length given.buffer) given.out
                     (sym (ap (λ (y : After). y.row.number) e) ∙ done)
                     ∙ ap (λ (l : Link). (offer_of first_number max_repeats l 0x1B given.clock).state)
-                    (link_as idle body (row 43 []) (link_of next Idle) (idle_stray body))
+                    (link_as idle body (row 43 []) (link_of next None) (idle_stray body))
                     ∙ ap (λ (y : Outcome Link). y.state) ((calls_exact.idle next).accepts 0x1B given.clock refl);
               });
           stays = λ answer body p.
@@ -112,7 +113,7 @@ module _ (given : Given) (t : in_range_of given.transfer ≡ true) where
 
   module _ (next command number sent repeats : ℕ) (m : repeats ≤ 2) (w : among command waiters ≡ true) where
     abbrev wait : Link
-    wait = link_of next (Waiting command number sent repeats)
+    wait = link_of next (waits_for command number sent repeats)
 
     abbrev waiting : Given
     waiting = holding given given.transfer wait
@@ -127,7 +128,7 @@ module _ (given : Given) (t : in_range_of given.transfer ≡ true) where
 
     module _ (body : List ℕ) where
       fits : command_of body ≡ command + 1 → number_of body ≡ number
-          → Said waiting body ≡ outcome (row 0 (command ∷ number ∷ [])) (link_of next Idle)
+          → Said waiting body ≡ outcome (row 0 (command ∷ number ∷ [])) (link_of next None)
       fits c n =
           ap (λ (k : ℕ). receive_of first_number max_repeats wait k (number_of body)) c
           ∙ ap (λ (k : ℕ). receive_of first_number max_repeats wait (command + 1) k) n
@@ -148,8 +149,8 @@ module _ (given : Given) (t : in_range_of given.transfer ≡ true) where
           fits = λ v body c n.
               let e = other frame_limit first_number max_repeats waiting body ranged v
               (ap (λ (k : ℕ). among k handed_commands) c ∙ unhanded) in
-              subst (Ends (row 0 (command ∷ number ∷ [])) (link_of next Idle)) (sym e)
-              (ends waiting body (row 0 (command ∷ number ∷ [])) (link_of next Idle) (fits body c n) _ refl refl);
+              subst (Ends (row 0 (command ∷ number ∷ [])) (link_of next None)) (sym e)
+              (ends waiting body (row 0 (command ∷ number ∷ [])) (link_of next None) (fits body c n) _ refl refl);
           stays = λ answer body h.
               stays_by waiting body ranged answer (λ f. stray body (h f)) (λ (_ : After). Unit {0})
               (λ f is _. (begin_busy frame_limit first_number max_repeats given.transfer

@@ -1,29 +1,26 @@
 -- What a call leaves, by what the calls inside it returned. Assumes nothing.
+use Rattle.std.specs.Prelude.{None, Some}
 use Prim.Native.Nat.{ℕ}
 use mathlib.Core.Path.{◌≡◌, refl, sym, ap, ◌∙◌}
 use mathlib.Core.Bool.{true, false, cond, true≢false}
 use mathlib.Core.List.{List, [], ◌∷◌}
 use lib.Dec.{eqb, leb}
 use lib.ListN.{length}
-use Rattle.base.specs.Writes.{unwritten_row_of}
-use Rattle.base.specs.declared.writes.Unwritten.{Unwritten}
-use Rattle.base.specs.declared.writes.Unwritten.TheVariants as unwritten
 use Rattle.base.specs.Rows.{Row, row}
 use Rattle.base.specs.Outcomes.{Outcome, outcome, Output, output}
 use Rattle.base.specs.Keys.{among}
 use Rattle.base.proofs.Tests as tests
 use Rattle.base.proofs.Tests.{by_test, either_way}
-use Rattle.frame.specs.Wire.{command_of, number_of, flags_of, payload_of}
+use Rattle.frame.specs.Wire.{flags_of, payload_of}
 use Rattle.message.specs.Replies.{reply_of}
 use Rattle.link.specs.Sending.{fits_of}
 use Rattle.link.specs.Calls.{in_range, idle_of, receive_in, receive_of}
 use Rattle.link.specs.declared.state.Link.{Link}
-use Rattle.link.specs.declared.state.Wait.{Wait}
-use Rattle.link.specs.declared.state.Wait.TheVariants.{Idle, Waiting}
+use Rattle.link.specs.Sending.{Wait}
 use Rattle.transfer.specs.Checks.{in_range_of}
-use Rattle.transfer.specs.Calls.{Left, left, Both, both, Held, held, begin_of, store_of, stop_of}
+use Rattle.transfer.specs.Calls.{begin_of, store_of, stop_of}
 use Rattle.transfer.specs.declared.state.Transfer.{Transfer}
-use Rattle.device.specs.Handling.{After, after, ended_in, heard_of, begun_after, stored_after, stopped_after}
+use Rattle.device.specs.Handling.{After, after, heard_of, begun_after, stored_after, stopped_after}
 use Rattle.device.specs.Handling.{is_frame, wanted_in, answer_of, handle_of}
 
 -- ---- the link
@@ -33,32 +30,20 @@ module _ (first max : ℕ) (answer : Row) (body : List ℕ) (l : Link) where
   pub unheard : is_frame answer ≡ false → outcome (row 0 []) l ≡ heard_of first max answer body l
   unheard e = simp e
 
-  -- one that is: `command` and `number` are what the code read of the body, `r` and `next` what the link said of them,
-  -- and `x` is the row of the wait that ended
-  pub heard : is_frame answer ≡ true → (command number : ℕ) → command ≡ command_of body → number ≡ number_of body
-      → (r : Row) (next : Link) → outcome r next ≡ receive_of first max l command number
-      → (x : Row) → x ≡ ended_in r → outcome x next ≡ heard_of first max answer body l
-  heard e command number p q r next received x ended =
-      ap (λ (v : Row). outcome v next) ended
-      ∙ ap (λ (y : Outcome Link). outcome (ended_in y.row) y.state)
-      (received ∙ ap (λ (c : ℕ). receive_of first max l c number) p
-      ∙ ap (λ (n : ℕ). receive_of first max l (command_of body) n) q)
-      ∙ simp e
-
 -- a link in range stays in range
 pub received_ranged : (first max : ℕ) (l : Link) (command number : ℕ) → in_range first max l ≡ true
     → in_range first max (receive_of first max l command number).state ≡ true
 received_ranged first max l command number ranged =
-    by_test (λ (y : Outcome Link). in_range first max y.state ≡ true) (in_range first max l) (λ _. by_wait l.wait)
+    by_test (λ (y : Outcome Link). in_range first max y.state ≡ true) (in_range first max l) (λ _. by_wait l.waiting)
     λ _. ranged
   where
     idle : in_range first max (idle_of l) ≡ true
     idle = rw (tests.both (leb first l.next) ranged).0
 
     by_wait : (w : Wait) → in_range first max (receive_in w l command number).state ≡ true
-    by_wait Idle = ranged
-    by_wait (Waiting waiting under sent repeats) =
-        by_test (λ (y : Outcome Link). in_range first max y.state ≡ true) (fits_of command number waiting under)
+    by_wait None = ranged
+    by_wait (Some w) =
+        by_test (λ (y : Outcome Link). in_range first max y.state ≡ true) (fits_of command number w.command w.number)
         (λ _. idle) λ _. ranged
 
 -- a frame that it received is a stray one the second time
@@ -66,9 +51,9 @@ pub received_again : (first max : ℕ) (l : Link) (command number : ℕ) → in_
     → receive_of first max (receive_of first max l command number).state command number
     ≡ outcome (row 43 []) (receive_of first max l command number).state
 received_again first max l command number ranged =
-    ap (λ t. cond t (receive_in next.wait next command number) (outcome (row 17 (0 ∷ [])) next))
+    ap (λ t. cond t (receive_in next.waiting next command number) (outcome (row 17 (0 ∷ [])) next))
     (received_ranged first max l command number ranged)
-    ∙ by_test Stray (in_range first max l) (λ _. by_wait l.wait refl)
+    ∙ by_test Stray (in_range first max l) (λ _. by_wait l.waiting refl)
     λ e. absurd (true≢false (sym ranged ∙ e))
   where
     next : Link
@@ -76,29 +61,13 @@ received_again first max l command number ranged =
 
     -- after this, the frame is a stray one
     Stray : Outcome Link → Type 0
-    Stray y = receive_in y.state.wait y.state command number ≡ outcome (row 43 []) y.state
+    Stray y = receive_in y.state.waiting y.state command number ≡ outcome (row 43 []) y.state
 
-    by_wait : (w : Wait) → l.wait ≡ w → Stray (receive_in w l command number)
-    by_wait Idle is = ap (λ (v : Wait). receive_in v l command number) is
-    by_wait (Waiting waiting under sent repeats) is =
-        by_test Stray (fits_of command number waiting under) (λ _. refl)
+    by_wait : (w : Wait) → l.waiting ≡ w → Stray (receive_in w l command number)
+    by_wait None is = ap (λ (v : Wait). receive_in v l command number) is
+    by_wait (Some w) is =
+        by_test Stray (fits_of command number w.command w.number) (λ _. refl)
         λ e. ap (λ (v : Wait). receive_in v l command number) is ∙ rw e
-
--- ---- the transfer: `a` is the row that the code answers, and `b` the row of the transfer's answer
-
-module _ (heard : Outcome Link) (a b : Row) (same : a ≡ b) (o : List ℕ) where
-  pub begun : (t : Transfer) (l : Link) (buffer : List ℕ) (y : Left Both) → left (output b o) (both t l) ≡ y
-      → after (output a o) (outcome heard.row l) t buffer ≡ begun_after heard buffer y
-  begun t l buffer y e =
-      ap (λ (r : Row). after (output r o) (outcome heard.row l) t buffer) same ∙ ap (begun_after heard buffer) e
-
-  pub stored : (t : Transfer) (buffer : List ℕ) (y : Left Held) → left (output b o) (held t buffer) ≡ y
-      → after (output a o) heard t buffer ≡ stored_after heard y
-  stored t buffer y e = ap (λ (r : Row). after (output r o) heard t buffer) same ∙ ap (stored_after heard) e
-
-  pub stopped : (t : Transfer) (buffer : List ℕ) (y : Left Transfer) → left (output b o) t ≡ y
-      → after (output a o) heard t buffer ≡ stopped_after heard buffer y
-  stopped t buffer y e = ap (λ (r : Row). after (output r o) heard t buffer) same ∙ ap (stopped_after heard buffer) e
 
 -- ---- by the reply of `message`
 
@@ -138,12 +107,6 @@ module _ (limit first max : ℕ) (out : List ℕ) (heard : Outcome Link) (body :
       (λ d. absurd (true≢false (rw (e, d) at h)))
       (λ d. by_test (λ (x : After). after (output r out) heard t buffer ≡ x) (eqb (wanted_in r) 0x20)
       (λ b. absurd (true≢false (rw (e, d, b) at h))) (λ _. refl)))
-
--- a refusal to write hands nothing over
-pub unwanted : (why : Unwritten) → among (wanted_in (unwritten_row_of why)) (0x1A ∷ 0x1E ∷ 0x20 ∷ []) ≡ false
-unfolding among
-unwanted unwritten.Payload = refl
-unwanted (unwritten.Room needed) = refl
 
 -- ---- the call
 

@@ -1,4 +1,5 @@
 -- STATE is answered exactly where a field is out of range. Assumes nothing.
+use Rattle.std.specs.Prelude.{Option, None, Some}
 use Prim.Native.Nat.{ℕ, ◌≤◌}
 use mathlib.Core.Path.{◌≡◌, refl, sym, ap}
 use mathlib.Core.Logic.{◌≢◌}
@@ -16,20 +17,21 @@ use Rattle.link.specs.Calls.{in_range, link_of}
 use Rattle.link.specs.Logs.{ticking}
 use Rattle.link.specs.Ranges.{OutOfRange, InRange, waiters}
 use Rattle.link.specs.declared.state.Link.{Link}
-use Rattle.link.specs.declared.state.Wait.{Wait}
-use Rattle.link.specs.declared.state.Wait.TheVariants.{Idle, Waiting}
+use Rattle.link.specs.Sending.{Wait}
+use Rattle.link.specs.Sending.{waits_for}
 use Rattle.link.proofs.Refusals.{refused_unchanged}
 use Rattle.link.proofs.Ranges.{link_ranges}
-use Rattle.transfer.specs.Checks.{in_range_of}
+use Rattle.transfer.specs.Checks.{in_range_of, open_in_range}
 use Rattle.transfer.specs.Logs.{Call, beginning, storing, stopping}
 use Rattle.transfer.specs.LogsComputed.{call_of}
 use Rattle.transfer.specs.Ranges.{LinkIn}
 use Rattle.transfer.specs.declared.state.Transfer.{Transfer}
-use Rattle.transfer.specs.declared.state.Transfer.TheVariants.{Absent, Open}
+use Rattle.transfer.specs.declared.state.Open.{Open}
+use Rattle.transfer.specs.Transfers.{open_of, opened}
 use Rattle.transfer.proofs.Ranges.{transfer_ranges}
 use Rattle.device.specs.Handling.{After}
 use Rattle.device.specs.HandlingExact.{Given, holding, leaves, Ranged, link_after}
-use Rattle.device.specs.StateFirst.{StateExact, FieldsExact, WaitIn, TransferIn, StateFirst}
+use Rattle.device.specs.StateFirst.{StateExact, FieldsExact, WaitIn, OpenIn, TransferIn, StateFirst}
 use Rattle.device.proofs.HandleLaws.{received_ranged, link_out_lem, transfer_out}
 use Rattle.device.proofs.ReplyLaws.{plain, plain_reject}
 use Rattle.device.proofs.TransferLaws.{is_in_range}
@@ -77,26 +79,27 @@ in_by l h =
     λ e. absurd
     (h (ap (λ (r : Row). r.number) ((refused_unchanged first_number max_repeats l (ticking 0)).out_state e)))
 
-pub idle_in : (next : ℕ) → in_range first_number max_repeats (link_of next Idle) ≡ true
-idle_in next = in_by (link_of next Idle) ((link_ranges.each (ticking 0)).idle_in next)
+pub idle_in : (next : ℕ) → in_range first_number max_repeats (link_of next None) ≡ true
+idle_in next = in_by (link_of next None) ((link_ranges.each (ticking 0)).idle_in next)
 
 pub waiting_in : (next command number sent repeats : ℕ) → repeats ≤ 2 → among command waiters ≡ true
-    → in_range first_number max_repeats (link_of next (Waiting command number sent repeats)) ≡ true
+    → in_range first_number max_repeats (link_of next (waits_for command number sent repeats)) ≡ true
 waiting_in next command number sent repeats m w =
-    in_by (link_of next (Waiting command number sent repeats))
+    in_by (link_of next (waits_for command number sent repeats))
     ((link_ranges.each (ticking 0)).waiting_in next command number sent repeats m w)
 
 link_in : (next : ℕ) (w : Wait) → WaitIn w → in_range first_number max_repeats (link_of next w) ≡ true
-link_in next Idle h = idle_in next
-link_in next (Waiting command number sent repeats) h =
-    waiting_in next command number sent repeats h.0 h.1
+link_in next None h = idle_in next
+link_in next (Some w) h = waiting_in next w.command w.number w.sent w.repeats h.0 h.1
 
 -- ---- the fields of a transfer
 
 transfer_in : (t : Transfer) → TransferIn t → in_range_of t ≡ true
-transfer_in Absent h = transfer_ranges.absent_in.test
-transfer_in (Open size piece stored) h =
-    (transfer_ranges.open_in size piece stored h.0 h.1 h.2 h.3).test
+transfer_in t = by_open (open_of t)
+  where
+    by_open : (o : Option Open) → OpenIn o → open_in_range o ≡ true
+    by_open None h = transfer_ranges.absent_in.test
+    by_open (Some o) h = (transfer_ranges.open_in o.size o.piece o.stored h.0 h.1 h.2 h.3).test
 
 -- ---- the claim
 
@@ -104,19 +107,19 @@ fields : (g : Given) (answer : Row) (body : List ℕ) → FieldsExact g answer b
 fields g answer body =
     record {
       repeats = λ t next command number sent repeats h.
-          (state t (link_of next (Waiting command number sent repeats))).link_out_lem
+          (state t (link_of next (waits_for command number sent repeats))).link_out_lem
           (out_by _ ((link_ranges.each (ticking 0)).repeats_out next command number sent repeats h));
       command = λ t next command number sent repeats h.
-          (state t (link_of next (Waiting command number sent repeats))).link_out_lem
+          (state t (link_of next (waits_for command number sent repeats))).link_out_lem
           (out_by _ ((link_ranges.each (ticking 0)).command_out next command number sent repeats h));
       size = λ l piece stored.
-          (state (Open 0 piece stored) l).transfer_out (transfer_ranges.size_out piece stored).test;
+          (state (opened 0 piece stored) l).transfer_out (transfer_ranges.size_out piece stored).test;
       piece = λ l size stored.
-          (state (Open size 0 stored) l).transfer_out (transfer_ranges.piece_out size stored).test;
+          (state (opened size 0 stored) l).transfer_out (transfer_ranges.piece_out size stored).test;
       pieces = λ l size piece stored h.
-          (state (Open size piece stored) l).transfer_out (transfer_ranges.many_out size piece stored h).test;
+          (state (opened size piece stored) l).transfer_out (transfer_ranges.many_out size piece stored h).test;
       stored = λ l size piece stored h.
-          (state (Open size piece stored) l).transfer_out (transfer_ranges.stored_out size piece stored h).test;
+          (state (opened size piece stored) l).transfer_out (transfer_ranges.stored_out size piece stored h).test;
     }
   where
     state : (t : Transfer) (l : Link) → StateExact frame_limit first_number max_repeats (holding g t l) answer body
@@ -129,5 +132,5 @@ state_first =
       fields = fields;
       is_in_range = λ g answer body l t.
           only frame_limit first_number max_repeats g answer body
-          (link_in g.link.next g.link.wait l, transfer_in g.transfer t);
+          (link_in g.link.next g.link.waiting l, transfer_in g.transfer t);
     }

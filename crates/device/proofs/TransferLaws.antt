@@ -1,4 +1,5 @@
 -- A 19 that is accepted or refused, at any clock, and the ranges of a transfer that passes its test. Assumes nothing.
+use Rattle.std.specs.Prelude.{Option, None, Some}
 use Prim.Native.Nat.{ℕ, ◌+◌, ◌*◌}
 use mathlib.Core.Path.{◌≡◌, refl, sym, ap, ◌∙◌}
 use mathlib.Core.Logic.{◌≢◌}
@@ -13,15 +14,15 @@ use Rattle.base.proofs.Tests.{by_test, either_way}
 use Rattle.link.specs.Sending.{may_wait}
 use Rattle.link.specs.Calls.{in_range, offer_in, offer_of}
 use Rattle.link.specs.declared.state.Link.{Link}
-use Rattle.link.specs.declared.state.Wait.{Wait}
-use Rattle.link.specs.declared.state.Wait.TheVariants.{Idle, Waiting}
+use Rattle.link.specs.Sending.{Wait}
 use Rattle.transfer.specs.Payloads.{faulty, size_in}
 use Rattle.transfer.specs.Checks.{Test, first_refusal, in_range_of, begin_tests}
 use Rattle.transfer.specs.Writing.{refused_of}
 use Rattle.transfer.specs.Calls.{Left, Both, begin_by, begin_of}
 use Rattle.transfer.specs.Ranges.{InRange}
 use Rattle.transfer.specs.declared.state.Transfer.{Transfer}
-use Rattle.transfer.specs.declared.state.Transfer.TheVariants.{Absent, Open}
+use Rattle.transfer.specs.declared.state.Open.{Open}
+use Rattle.transfer.specs.Transfers.{open_of, opened}
 use Rattle.transfer.proofs.Ranges.{transfer_ranges}
 use Rattle.device.proofs.ReplyLaws.{by_write}
 
@@ -92,25 +93,24 @@ module _ (limit first max : ℕ) (t : Transfer) (l : Link) (clock number : ℕ) 
           cond a (cond b (offer_in w first l 0x1B at) (outcome (row 42 []) l)) (outcome (row 17 (0 ∷ [])) l)
 
       same_row : (a b : Bool) (w : Wait) → (offer_by clock a b w).row ≡ (offer_by later a b w).row
-      same_row true true Idle = refl
-      same_row true true (Waiting waiting under sent repeats) = refl
+      same_row true true None = refl
+      same_row true true (Some w) = refl
       same_row true false w = refl
       same_row false b w = refl
 
       same_offer : offered.row ≡ (offer_of first max l 0x1B later).row
-      same_offer = same_row (in_range first max l) (may_wait 0x1B) l.wait
+      same_offer = same_row (in_range first max l) (may_wait 0x1B) l.waiting
 
 -- ---- ranges
 
--- where the test says so, each field is in its range
-pub is_in_range : (t : Transfer) → in_range_of t ≡ true → InRange t
-is_in_range Absent e = transfer_ranges.absent_in
-is_in_range (Open size piece stored) e =
+-- of an open one, where the test says so, each field is in its range
+opened_in : (size piece stored : ℕ) → in_range_of (opened size piece stored) ≡ true → InRange (opened size piece stored)
+opened_in size piece stored e =
     either_way (eqb size 0)
-    (λ z. out (ap (λ k. in_range_of (Open k piece stored)) (eqb-true size 0 z)
+    (λ z. out (ap (λ k. in_range_of (opened k piece stored)) (eqb-true size 0 z)
     ∙ (transfer_ranges.size_out piece stored).test))
     λ s. either_way (eqb piece 0)
-    (λ z. out (ap (λ k. in_range_of (Open size k stored)) (eqb-true piece 0 z)
+    (λ z. out (ap (λ k. in_range_of (opened size k stored)) (eqb-true piece 0 z)
     ∙ (transfer_ranges.piece_out size stored).test))
     λ p. either_way (leb size (65535 * piece))
     (λ m. either_way (ltb (stored * piece) (size + piece))
@@ -120,5 +120,13 @@ is_in_range (Open size piece stored) e =
     λ n. out (transfer_ranges.stored_out size piece stored (ltb-false (stored * piece) (size + piece) n)).test)
     λ m. out (transfer_ranges.many_out size piece stored (leb-false size (65535 * piece) m)).test
   where
-    out : in_range_of (Open size piece stored) ≡ false → InRange (Open size piece stored)
+    out : in_range_of (opened size piece stored) ≡ false → InRange (opened size piece stored)
     out f = absurd (true≢false (sym e ∙ f))
+
+-- of every one
+pub is_in_range : (t : Transfer) → in_range_of t ≡ true → InRange t
+is_in_range t = by_open (open_of t)
+  where
+    by_open : (o : Option Open) → in_range_of (record { «open» = o }) ≡ true → InRange (record { «open» = o })
+    by_open None e = transfer_ranges.absent_in
+    by_open (Some o) e = opened_in o.size o.piece o.stored e

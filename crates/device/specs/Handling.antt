@@ -2,6 +2,7 @@
 -- and held to the rules by handle_exact, ended_exact, state_first, refused-kept and worked_frames. `limit` bounds the
 -- length of a frame; `first` and `max` are the link's. PROTOCOL 16.
 use Rattle.std.specs.Prelude.{ℕ, Bool, cond, ◌&&◌, List, [], ◌∷◌, eqb, length, get_or}
+use Rattle.std.specs.Prelude.{Option, Result}
 use Rattle.base.specs.Rows.{Row, row}
 use Rattle.base.specs.Outcomes.{Outcome, outcome, Output, output}
 use Rattle.frame.specs.Wire.{command_of, number_of, flags_of, payload_of}
@@ -12,10 +13,10 @@ use Rattle.transfer.specs.Checks.{in_range_of}
 use Rattle.transfer.specs.Calls.{Left, Both, Held, begin_of, store_of, stop_of}
 use Rattle.transfer.specs.declared.state.Transfer.{Transfer}
 use Rattle.device.specs.Table.{handle_row_of, ended_row_of}
-use Rattle.device.specs.declared.answers.Ended.{Ended}
-use Rattle.device.specs.declared.answers.HandleResult.{HandleResult}
 use Rattle.device.specs.declared.answers.Handled.{Handled}
-use Rattle.device.specs.declared.hears.Heard.{Heard}
+use Rattle.device.specs.declared.answers.HandleError.{HandleError}
+use Rattle.device.specs.declared.state.Device.{Device}
+use Rattle.link.specs.declared.receives.Replied.{Replied}
 
 -- ---- what a call leaves
 
@@ -33,20 +34,10 @@ abbrev pub after : Output → Outcome Link → Transfer → List ℕ → After
 after w heard t buffer =
     record { row = w.row; ended = heard.row; transfer = t; link = heard.state; buffer = buffer; out = w.out }
 
--- ---- what the code returns
-
--- from its parts
-abbrev pub handled_as : HandleResult → Ended → Transfer → Link → Handled
-handled_as answer ended t l = record { answer = answer; ended = ended; transfer = t; link = l }
-
--- with the caller's buffer and output afterwards
-abbrev pub handled_of : Handled → List ℕ → List ℕ → After
-handled_of h buffer out =
-    after (output (handle_row_of h.answer) out) (outcome (ended_row_of h.ended) h.link) h.transfer buffer
-
--- of the inner call that gives a frame to the link
-abbrev pub heard_by : Heard → Outcome Link
-heard_by h = outcome (ended_row_of h.ended) h.link
+-- ---- what the code returns, the wait that ended, and what the caller holds and lends afterwards
+abbrev pub handled_of : Result Handled HandleError → Option Replied → Device → List ℕ → List ℕ → After
+handled_of answer ended d buffer out =
+    after (output (handle_row_of answer) out) (outcome (ended_row_of ended) d.link) d.transfer buffer
 
 -- ---- the link: PROTOCOL 16.2
 

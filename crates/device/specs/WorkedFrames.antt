@@ -1,13 +1,14 @@
 -- Claims: worked frames, by computation. PROTOCOL 16.1 to 16.6.
+use Rattle.std.specs.Prelude.{None}
 use Rattle.std.specs.Prelude.{ℕ, ◌-◌, ◌≡◌, List, [], ◌∷◌, ◌++◌, length, replicate}
 use Rattle.base.specs.Rows.{Row, row}
 use Rattle.frame.specs.Wire.{frame_limit}
 use Rattle.link.specs.Sending.{first_number, max_repeats}
 use Rattle.link.specs.Calls.{link_of, fresh_of}
 use Rattle.link.specs.declared.state.Link.{Link}
-use Rattle.link.specs.declared.state.Wait.TheVariants.{Idle, Waiting}
+use Rattle.link.specs.Sending.{waits_for}
 use Rattle.transfer.specs.declared.state.Transfer.{Transfer}
-use Rattle.transfer.specs.declared.state.Transfer.TheVariants.{Absent, Open}
+use Rattle.transfer.specs.Transfers.{absent, opened}
 use Rattle.device.specs.Handling.{After}
 use Rattle.device.specs.HandlingExact.{Given, leaves}
 
@@ -91,28 +92,28 @@ three_pieces = 0x61 ∷ 0x62 ∷ 0x63 ∷ 0x64 ∷ 0x65 ∷ 7 ∷ []
 -- what they leave: 08; 1A and 1B; BUSY, and nothing written; the wait of the 1B ends; 1E; HEXLINES and a 12; 1E; 1E; 20
 abbrev pub table_left : List After
 table_left =
-    shows (row 0 (9 ∷ [])) (row 0 []) Absent (link_of 0 Idle) no_piece (empty_frame 0x08 9 0x16)
-    ∷ shows (row 0 (24 ∷ 26 ∷ 9 ∷ [])) (row 0 []) (Open 5 2 0) (link_of 1 (Waiting 0x1B 0 200 0)) no_piece
+    shows (row 0 (9 ∷ [])) (row 0 []) absent (link_of 0 None) no_piece (empty_frame 0x08 9 0x16)
+    ∷ shows (row 0 (24 ∷ 26 ∷ 9 ∷ [])) (row 0 []) (opened 5 2 0) (link_of 1 (waits_for 0x1B 0 200 0)) no_piece
     (0xFF ∷ 0xFF ∷ 0 ∷ 5 ∷ 0x1A ∷ 10 ∷ 0 ∷ 0 ∷ 0x29
     ∷ 0xFF ∷ 0xFF ∷ 0 ∷ 11 ∷ 0x1B ∷ 0 ∷ 0 ∷ 0 ∷ 0 ∷ 2 ∷ 0x41 ∷ 0x42 ∷ 0 ∷ 2 ∷ 0xAD ∷ [])
-    ∷ shows (row 41 []) (row 0 []) (Open 5 2 0) (link_of 1 (Waiting 0x1B 0 200 0)) no_piece (written [])
-    ∷ shows (row 0 []) (row 0 (0x1B ∷ 0 ∷ [])) (Open 5 2 0) (link_of 1 Idle) no_piece (written [])
-    ∷ shows (row 0 (9 ∷ 30 ∷ [])) (row 0 []) (Open 5 2 1) (link_of 1 Idle) one_piece (empty_frame 0x1E 11 0x2E)
-    ∷ shows (row 64 (10 ∷ [])) (row 0 []) (Open 5 2 1) (link_of 1 Idle) one_piece (rejection 12 3 0x27)
-    ∷ shows (row 0 (9 ∷ 30 ∷ [])) (row 0 []) (Open 5 2 2) (link_of 1 Idle) two_pieces (empty_frame 0x1E 13 0x30)
-    ∷ shows (row 0 (9 ∷ 30 ∷ [])) (row 0 []) (Open 5 2 3) (link_of 1 Idle) three_pieces (empty_frame 0x1E 14 0x31)
-    ∷ shows (row 0 (9 ∷ 32 ∷ [])) (row 0 []) Absent (link_of 1 Idle) three_pieces (empty_frame 0x20 15 0x34)
+    ∷ shows (row 41 []) (row 0 []) (opened 5 2 0) (link_of 1 (waits_for 0x1B 0 200 0)) no_piece (written [])
+    ∷ shows (row 0 []) (row 0 (0x1B ∷ 0 ∷ [])) (opened 5 2 0) (link_of 1 None) no_piece (written [])
+    ∷ shows (row 0 (9 ∷ 30 ∷ [])) (row 0 []) (opened 5 2 1) (link_of 1 None) one_piece (empty_frame 0x1E 11 0x2E)
+    ∷ shows (row 64 (10 ∷ [])) (row 0 []) (opened 5 2 1) (link_of 1 None) one_piece (rejection 12 3 0x27)
+    ∷ shows (row 0 (9 ∷ 30 ∷ [])) (row 0 []) (opened 5 2 2) (link_of 1 None) two_pieces (empty_frame 0x1E 13 0x30)
+    ∷ shows (row 0 (9 ∷ 30 ∷ [])) (row 0 []) (opened 5 2 3) (link_of 1 None) three_pieces (empty_frame 0x1E 14 0x31)
+    ∷ shows (row 0 (9 ∷ 32 ∷ [])) (row 0 []) absent (link_of 1 None) three_pieces (empty_frame 0x20 15 0x34)
     ∷ []
 
 -- a report waits, under 7
 abbrev pub reporting : Link
-reporting = link_of 8 (Waiting 0x05 7 100 1)
+reporting = link_of 8 (waits_for 0x05 7 100 1)
 
 -- what a call with this link leaves, into an output of this many bytes
 abbrev pub leaves_into : ℕ → Link → Row → List ℕ → After
 leaves_into room l answer body =
     leaves frame_limit first_number max_repeats
-    (record { transfer = Absent; link = l; clock = 150; piece = 2; buffer = no_piece; out = replicate room 7 })
+    (record { transfer = absent; link = l; clock = 150; piece = 2; buffer = no_piece; out = replicate room 7 })
     answer body
 
 -- a 06 with a number, without its sum, which nothing here reads
@@ -129,46 +130,46 @@ announced = 0 ∷ 13 ∷ 0x19 ∷ 10 ∷ 0 ∷ 0 ∷ 0 ∷ 0 ∷ 0 ∷ 5 ∷ 0 �
 
 -- whatever the values of the reader's answer are
 pub record WorkedFrames (v : List ℕ) : Type 0 where
-  pub whole_table : play Absent (fresh_of first_number) no_piece table ≡ table_left
+  pub whole_table : play absent (fresh_of first_number) no_piece table ≡ table_left
   -- the reply ends the wait
   pub replied :
       leaves_into 24 reporting (row 1 v) (reply06 7)
-      ≡ shows (row 0 []) (row 0 (0x05 ∷ 7 ∷ [])) Absent (link_of 8 Idle) no_piece (written [])
+      ≡ shows (row 0 []) (row 0 (0x05 ∷ 7 ∷ [])) absent (link_of 8 None) no_piece (written [])
   -- a faulty one too, and gets its 12 with code 3
   pub faulty :
       leaves_into 24 reporting (row 1 v) faulty06
-      ≡ shows (row 0 (10 ∷ 18 ∷ 3 ∷ 32 ∷ [])) (row 0 (0x05 ∷ 7 ∷ [])) Absent (link_of 8 Idle) no_piece
+      ≡ shows (row 0 (10 ∷ 18 ∷ 3 ∷ 32 ∷ [])) (row 0 (0x05 ∷ 7 ∷ [])) absent (link_of 8 None) no_piece
       (rejection 7 3 0x22)
   -- also where the output has no room for the 12
   pub no_room :
       leaves_into 9 reporting (row 1 v) faulty06
-      ≡ shows (row 22 (10 ∷ [])) (row 0 (0x05 ∷ 7 ∷ [])) Absent (link_of 8 Idle) no_piece (replicate 9 7)
+      ≡ shows (row 22 (10 ∷ [])) (row 0 (0x05 ∷ 7 ∷ [])) absent (link_of 8 None) no_piece (replicate 9 7)
   -- the same frame again, with more room: no wait ends, and it gets its 12
   pub again :
-      leaves_into 24 (link_of 8 Idle) (row 1 v) faulty06
-      ≡ shows (row 0 (10 ∷ 18 ∷ 3 ∷ 32 ∷ [])) (row 0 []) Absent (link_of 8 Idle) no_piece (rejection 7 3 0x22)
+      leaves_into 24 (link_of 8 None) (row 1 v) faulty06
+      ≡ shows (row 0 (10 ∷ 18 ∷ 3 ∷ 32 ∷ [])) (row 0 []) absent (link_of 8 None) no_piece (rejection 7 3 0x22)
   -- one byte short of 1A and 1B, ROOM has the size of both, and nothing begins; that room is enough
   pub pair_short :
-      leaves_into 23 (link_of 0 Idle) (row 1 v) announced
-      ≡ shows (row 22 (24 ∷ [])) (row 0 []) Absent (link_of 0 Idle) no_piece (replicate 23 7)
+      leaves_into 23 (link_of 0 None) (row 1 v) announced
+      ≡ shows (row 22 (24 ∷ [])) (row 0 []) absent (link_of 0 None) no_piece (replicate 23 7)
   pub pair_fits :
-      (leaves_into 24 (link_of 0 Idle) (row 1 v) announced).row ≡ row 0 (24 ∷ 26 ∷ 9 ∷ [])
+      (leaves_into 24 (link_of 0 None) (row 1 v) announced).row ≡ row 0 (24 ∷ 26 ∷ 9 ∷ [])
   -- a 06 under another number is stray: the report waits on
   pub stray :
       leaves_into 24 reporting (row 1 v) (reply06 6)
-      ≡ shows (row 0 []) (row 0 []) Absent reporting no_piece (written [])
+      ≡ shows (row 0 []) (row 0 []) absent reporting no_piece (written [])
   -- SUM: a 12 with code 1, and the report waits on
   pub wrong_sum_lem :
       leaves_into 24 reporting (row 15 v) (reply06 7)
-      ≡ shows (row 0 (10 ∷ 18 ∷ 1 ∷ 15 ∷ [])) (row 0 []) Absent reporting no_piece (rejection 7 1 0x20)
+      ≡ shows (row 0 (10 ∷ 18 ∷ 1 ∷ 15 ∷ [])) (row 0 []) absent reporting no_piece (rejection 7 1 0x20)
   -- SHORT, and every other answer: nothing
   pub short :
       leaves_into 24 reporting (row 11 v) (reply06 7)
-      ≡ shows (row 0 []) (row 0 []) Absent reporting no_piece (written [])
+      ≡ shows (row 0 []) (row 0 []) absent reporting no_piece (written [])
   -- three repeats are out of range: STATE, for SUM too
   pub state :
-      leaves_into 24 (link_of 8 (Waiting 0x05 7 100 3)) (row 15 v) (reply06 7)
-      ≡ shows (row 17 (0 ∷ [])) (row 0 []) Absent (link_of 8 (Waiting 0x05 7 100 3)) no_piece (written [])
+      leaves_into 24 (link_of 8 (waits_for 0x05 7 100 3)) (row 15 v) (reply06 7)
+      ≡ shows (row 17 (0 ∷ [])) (row 0 []) absent (link_of 8 (waits_for 0x05 7 100 3)) no_piece (written [])
 
 -- for all of them
 abbrev pub FramesWorked : Type 0

@@ -1,185 +1,111 @@
-// What the box does with an answer of the reader. PROTOCOL 16.1 to 16.5.
-ghost use Rattle.std.specs.Prelude.{◌≡◌, List, ℕ, length};
-ghost use Rattle.base.specs.Outcomes.{output};
+//! What the box does with an answer of the reader. PROTOCOL 16.1 to 16.5.
+ghost use Rattle.std.specs.Prelude.{◌≡◌};
+ghost use Rattle.base.specs.Rows.{Row};
+ghost use Rattle.base.specs.Outcomes.{outcome, output};
 ghost use Rattle.frame.specs.Table.{row_of};
-ghost use Rattle.frame.specs.Wire.{frame_limit, flags_of, payload_of};
+ghost use Rattle.frame.specs.Wire.{frame_limit};
 ghost use Rattle.link.specs.Sending.{first_number, max_repeats};
 ghost use Rattle.message.specs.Table.{reply_row_of};
-ghost use Rattle.transfer.specs.Calls.{begin_of, store_of, stop_of};
-ghost use Rattle.device.specs.Handling.{heard_by, handled_as, handled_of, begun_after, stored_after, stopped_after};
-ghost use Rattle.device.specs.Handling.{answer_of, handle_of};
+ghost use Rattle.device.specs.Table.{handle_row_of, ended_row_of};
+ghost use Rattle.device.specs.Handling.{is_frame, heard_of, after, handled_of, answer_of, handle_of};
 
-use super::answers::{Ended, HandleResult, Handled, from_arrived};
-use super::hears::{Heard, hear};
-use frame::FeedResult;
-use link::Link;
-use message::ReplyResult;
-use transfer::Transfer;
+use crate::answers::{HandleError, Handled};
+use crate::state::Device;
+use base::WriteError;
+use frame::{Decision, Fed, FeedError, Verdict};
+use link::Replied;
+use message::Reply;
 
-// An answer that leaves the link as it was after the frame.
-fn as_heard(answer: HandleResult, transfer: Transfer, heard: Heard) -> Handled
-    ensures { result ≡ handled_as answer heard.ended transfer heard.link }
+// Whether an answer of the reader is given to the link: FRAME, and no other.
+fn is_frame(answer: Result<Fed, FeedError>) -> bool
+    ensures { result ≡ is_frame (row_of answer) }
 {
-    let ended = heard.ended;
-    let link = heard.link;
-    Handled {
+    matches!(
         answer,
-        ended,
-        transfer,
-        link,
-    }
+        Ok(Fed {
+            decision: Some(Decision {
+                verdict: Verdict::Frame,
+                ..
+            }),
+            ..
+        })
+    )
 }
 
-// A 19 goes to the transfer, with the link after the frame: PROTOCOL 16.3.
-fn begin(
-    number: u8,
-    body: &[u8],
-    transfer: Transfer,
-    heard: Heard,
-    clock: u32,
-    piece: u16,
-    buffer: &[u8],
-    out: &mut [u8],
-) -> Handled
-    ensures { handled_of result buffer.now out.new
-        ≡ begun_after (heard_by heard) buffer.now
-        (begin_of frame_limit first_number max_repeats transfer heard.link clock number
-        (payload_of body.now) piece (length buffer.now) out.old) }
-{
-    let payload = frame::payload(body);
-    let begun = transfer::begin(
-        transfer, heard.link, clock, number, payload, piece, buffer, out,
-    );
-    let answer = begun.answer;
-    let ended = heard.ended;
-    let opened = begun.transfer;
-    let link = begun.link;
-    Handled {
-        answer: from_arrived(answer),
-        ended,
-        transfer: opened,
-        link,
+impl Device {
+    // Gives a frame to the link; every other answer of the reader is not given to it. PROTOCOL 16.2.
+    fn hear(&mut self, answer: Result<Fed, FeedError>, body: &[u8]) -> Option<Replied>
+        ensures link { outcome (ended_row_of result) self.new.link
+            ≡ heard_of first_number max_repeats (row_of answer) body.now self.old.link }
+        ensures transfer { self.new.transfer ≡ self.old.transfer }
+    {
+        if !is_frame(answer) {
+            return None;
+        }
+        self.link
+            .receive(frame::command(body), frame::number(body))
+            .ok()
     }
-}
 
-// A 1D goes to the transfer, with the flags.
-fn store(
-    number: u8,
-    body: &[u8],
-    transfer: Transfer,
-    heard: Heard,
-    buffer: &mut [u8],
-    out: &mut [u8],
-) -> Handled
-    ensures { handled_of result buffer.new out.new
-        ≡ stored_after (heard_by heard)
-        (store_of frame_limit transfer number (flags_of body.now) (payload_of body.now)
-        buffer.old out.old) }
-{
-    let flags = frame::flags(body);
-    let payload = frame::payload(body);
-    let stored = transfer::store(transfer, number, flags, payload, buffer, out);
-    let answer = stored.answer;
-    let filled = stored.transfer;
-    as_heard(from_arrived(answer), filled, heard)
-}
-
-// A 1F goes to the transfer; whatever the buffer is, it stays.
-fn stop(number: u8, body: &[u8], transfer: Transfer, heard: Heard, out: &mut [u8]) -> Handled
-    ensures { (buffer : List ℕ) → handled_of result buffer out.new
-        ≡ stopped_after (heard_by heard) buffer
-        (stop_of frame_limit transfer number (payload_of body.now) out.old) }
-{
-    let payload = frame::payload(body);
-    let stopped = transfer::stop(transfer, number, payload, out);
-    let answer = stopped.answer;
-    let dropped = stopped.transfer;
-    as_heard(from_arrived(answer), dropped, heard)
-}
-
-// The reply of `message` stands, or a 19, 1D or 1F that it hands over goes to the transfer.
-fn answer_by(
-    reply: ReplyResult,
-    body: &[u8],
-    transfer: Transfer,
-    heard: Heard,
-    clock: u32,
-    piece: u16,
-    buffer: &mut [u8],
-    out: &mut [u8],
-) -> Handled
-    ensures { handled_of result buffer.new out.new
-        ≡ answer_of frame_limit first_number max_repeats (output (reply_row_of reply) out.old) (heard_by heard)
-        body.now transfer clock piece buffer.old }
-{
-    match reply {
-        ReplyResult::BeginWanted { number } => begin(
-            number, body, transfer, heard, clock, piece, buffer, out,
-        ),
-        ReplyResult::StoreWanted { number } => store(number, body, transfer, heard, buffer, out),
-        ReplyResult::StopWanted { number } => stop(number, body, transfer, heard, out),
-        ReplyResult::Nothing => as_heard(HandleResult::Nothing, transfer, heard),
-        ReplyResult::InformationWanted { number } => as_heard(
-            HandleResult::InformationWanted { number },
-            transfer,
-            heard,
-        ),
-        ReplyResult::StatusWanted { number } => as_heard(
-            HandleResult::StatusWanted { number },
-            transfer,
-            heard,
-        ),
-        ReplyResult::Acknowledged { count } => as_heard(
-            HandleResult::Acknowledged { count },
-            transfer,
-            heard,
-        ),
-        ReplyResult::Rejected { count, code, cause } => as_heard(
-            HandleResult::Rejected { count, code, cause },
-            transfer,
-            heard,
-        ),
-        ReplyResult::Unwritten { why } => as_heard(
-            HandleResult::Unwritten { why },
-            transfer,
-            heard,
-        ),
+    // The reply of `message` stands, or a 19, 1D or 1F that it hands over goes to the transfer. PROTOCOL 16.3, 16.4.
+    #[tactic(auto, unfolding(crate::specs::Handling::answer_of))]
+    fn answer(
+        &mut self,
+        reply: Result<Reply, WriteError>,
+        body: &[u8],
+        clock: u32,
+        piece: u16,
+        buffer: &mut [u8],
+        out: &mut [u8],
+    ) -> Result<Handled, HandleError>
+        ensures { (ended : Row) → after (output (handle_row_of result) out.new) (outcome ended self.new.link)
+            self.new.transfer buffer.new
+            ≡ answer_of frame_limit first_number max_repeats (output (reply_row_of reply) out.old)
+            (outcome ended self.old.link) body.now self.old.transfer clock piece buffer.old }
+    {
+        let payload = frame::payload(body);
+        Ok(match reply? {
+            Reply::BeginWanted { number } => Handled::from(
+                self.transfer
+                    .begin(&mut self.link, clock, number, payload, piece, buffer, out)?,
+            ),
+            Reply::StoreWanted { number } => {
+                let flags = frame::flags(body);
+                Handled::from(self.transfer.store(number, flags, payload, buffer, out)?)
+            }
+            Reply::StopWanted { number } => Handled::from(
+                self.transfer.stop(number, payload, out)?,
+            ),
+            Reply::Nothing => Handled::Nothing,
+            Reply::InformationWanted { number } => Handled::InformationWanted { number },
+            Reply::StatusWanted { number } => Handled::StatusWanted { number },
+            Reply::Acknowledged { count } => Handled::Acknowledged { count },
+            Reply::Rejected { count, code, cause } => Handled::Rejected { count, code, cause },
+        })
     }
-}
 
-// An answer of the reader, by the body that the reader then holds: the link receives a frame, and the reply, also that
-// of `transfer`, is at the front of the output. A reply without room does not undo what the link received.
-pub fn handle(
-    answer: FeedResult,
-    body: &[u8],
-    transfer: Transfer,
-    link: Link,
-    clock: u32,
-    piece: u16,
-    buffer: &mut [u8],
-    out: &mut [u8],
-) -> Handled
-    ensures { handled_of result buffer.new out.new
-        ≡ handle_of frame_limit first_number max_repeats (row_of answer) body.now transfer link clock piece
-        buffer.old out.old }
-{
-    if !link::in_range(link) {
-        return Handled {
-            answer: HandleResult::State,
-            ended: Ended::Nothing,
-            transfer,
-            link,
-        };
+    /// An answer of the reader, by the body that the reader then holds: the link receives a frame, and the reply, also
+    /// that of `transfer`, is at the front of the output. Beside the answer stands the wait that the frame ended: a
+    /// reply without room does not undo what the link received.
+    #[tactic(auto, unfolding(crate::specs::Handling::handle_of))]
+    pub fn handle(
+        &mut self,
+        answer: Result<Fed, FeedError>,
+        body: &[u8],
+        clock: u32,
+        piece: u16,
+        buffer: &mut [u8],
+        out: &mut [u8],
+    ) -> (Result<Handled, HandleError>, Option<Replied>)
+        ensures { handled_of result.0 result.1 self.new buffer.new out.new
+            ≡ handle_of frame_limit first_number max_repeats (row_of answer) body.now self.old.transfer
+            self.old.link clock piece buffer.old out.old }
+    {
+        if !self.link.is_in_range() || !self.transfer.is_in_range() {
+            return (Err(HandleError::State), None);
+        }
+        let ended = self.hear(answer, body);
+        let reply = message::reply(answer, body, out);
+        (self.answer(reply, body, clock, piece, buffer, out), ended)
     }
-    if !transfer::in_range(transfer) {
-        return Handled {
-            answer: HandleResult::State,
-            ended: Ended::Nothing,
-            transfer,
-            link,
-        };
-    }
-    let heard = hear(answer, body, link);
-    let reply = message::reply(answer, body, out);
-    answer_by(reply, body, transfer, heard, clock, piece, buffer, out)
 }
