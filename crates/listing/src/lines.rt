@@ -114,8 +114,10 @@ pub fn last(
     prefix: &[u8],
     out: &mut [u8],
 ) -> Result<usize, WriteError>
-    ensures { Writes result out.new (placed
+    ensures writes { Writes result out.new (placed
         (last_of prefix.now (finish_row_of answer)) out.old) }
+    ensures in_bounds { length (last_of prefix.now (finish_row_of answer))
+        ≤ length prefix.now + line_room }
 {
     let (word, place) = match answer {
         Ok(Finish::Clean { consumed }) => (b"clean".as_slice(), consumed),
