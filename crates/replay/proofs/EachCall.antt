@@ -9,10 +9,11 @@ use borrow.Author.Tests.{ne_eqb, eqb-false, le-ltb, lt-ltb, ltb-false}
 use lib.ListN.{length, take, drop_of_length-le, length-take, length-drop}
 use lib.Seq.{get_or-take, get_or-drop, length-take-le, take_all}
 use lib.Dec.{eqb, ltb}
+use Rattle.std.specs.Prelude.{Result, Ok, Err}
 use Rattle.base.specs.Keys.{among}
 use Rattle.base.specs.Outcomes.{Outcome, Output, output, rowed}
 use Rattle.base.specs.Rows.{Row, row}
-use Rattle.base.specs.declared.writes.Unwritten.TheVariants as unwritten
+use Rattle.base.specs.declared.writes.WriteError.TheVariants as unwritten
 use Rattle.base.proofs.Asking.{asks_never, asks_either, asks_by}
 use Rattle.base.proofs.Rows.{injective_by, under, value}
 use Rattle.base.proofs.Tests.{by_test, either_way}
@@ -31,8 +32,10 @@ use Rattle.replay.specs.EachCall.{StatesInjective, RowsInjective, StopNumbers, L
 use Rattle.replay.specs.EachCall.{ReplayRanges, PlayStops, PlayStopsAlways}
 use Rattle.replay.specs.EachCall.{ClosesExactlyAlways, KeepsExactlyAlways, AllNamedStates, AllAnswerRows}
 use Rattle.replay.specs.EachCall.{ClosingWhole, FinishAsked, NoPayload}
-use Rattle.replay.specs.declared.closing.ClosingResult.{ClosingResult}
-use Rattle.replay.specs.declared.closing.ClosingResult.TheVariants as closing
+use Rattle.replay.specs.declared.closing.CloseError.{CloseError}
+use Rattle.replay.specs.declared.closing.CloseError.TheVariants as error
+use Rattle.replay.specs.declared.closing.Closing.{Closing}
+use Rattle.replay.specs.declared.closing.Closing.TheVariants as closing
 use Rattle.replay.specs.declared.state.Replay.{Replay}
 use Rattle.replay.proofs.NextAnswers.{next_cases, replay_outside, replay_inside, each_inside}
 use Rattle.replay.proofs.StopLaws.{loop_stops}
@@ -97,23 +100,24 @@ abbrev refusal_from : Row → Refusal
 refusal_from r =
     under r 51 refusal.Mark (under r 52 refusal.Version (under r 53 refusal.Direction refusal.Ended))
 
-abbrev closing_from : Row → ClosingResult
+abbrev closing_from : Row → Result Closing CloseError
 closing_from r =
-    under r 0 closing.More (under r 2 (closing.Whole (value r 0)) (under r 17 closing.State (under r 18 closing.Used
-    (cond (ltb 50 r.number) (closing.Refused (value r 0) (refusal_from r) (value r 1))
-    (closing.Unwritten (unwritten_from r))))))
+    under r 0 (Ok closing.More) (under r 2 (Ok (closing.Whole (value r 0))) (under r 17 (Err error.State)
+    (under r 18 (Err error.Used)
+    (cond (ltb 50 r.number) (Ok (closing.Refused (value r 0) (refusal_from r) (value r 1)))
+    (Err (error.Unwritten (unwritten_from r)))))))
 
-closing_back : (a : ClosingResult) → closing_from (closing_row_of a) ≡ a
-closing_back closing.More = refl
-closing_back (closing.Whole count) = refl
-closing_back (closing.Refused count refusal.Mark place) = refl
-closing_back (closing.Refused count refusal.Version place) = refl
-closing_back (closing.Refused count refusal.Direction place) = refl
-closing_back (closing.Refused count refusal.Ended place) = refl
-closing_back (closing.Unwritten unwritten.Payload) = refl
-closing_back (closing.Unwritten (unwritten.Room needed)) = refl
-closing_back closing.State = refl
-closing_back closing.Used = refl
+closing_back : (a : Result Closing CloseError) → closing_from (closing_row_of a) ≡ a
+closing_back (Ok closing.More) = refl
+closing_back (Ok (closing.Whole count)) = refl
+closing_back (Ok (closing.Refused count refusal.Mark place)) = refl
+closing_back (Ok (closing.Refused count refusal.Version place)) = refl
+closing_back (Ok (closing.Refused count refusal.Direction place)) = refl
+closing_back (Ok (closing.Refused count refusal.Ended place)) = refl
+closing_back (Err (error.Unwritten unwritten.Payload)) = refl
+closing_back (Err (error.Unwritten (unwritten.Room needed))) = refl
+closing_back (Err error.State) = refl
+closing_back (Err error.Used) = refl
 
 pub rows_injective : RowsInjective
 rows_injective = injective_by closing_row_of closing_from closing_back

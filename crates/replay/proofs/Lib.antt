@@ -1,11 +1,9 @@
 -- The laws; each file of claims in specs/ has its theorems in the file of its name here.
 
 -- the contracts
-pub mod StateLaws
 pub mod StepLaws
 pub mod PlayLaws
 pub mod ClosingLaws
-pub mod KeepLaws
 -- one call
 pub mod NextAnswers
 pub mod StopLaws

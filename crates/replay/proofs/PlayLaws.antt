@@ -1,7 +1,6 @@
 -- Laws of the loop over records: what a step uses, and the loop's invariant. Assumes nothing.
 use Prim.Native.Nat.{ℕ, zero, suc, ◌+◌, ◌-◌, ◌≤◌, ◌<◌}
 use mathlib.Core.Path.{◌≡◌, refl, sym, ap, ◌∙◌}
-use mathlib.Core.Bool.{true, false, cond}
 use mathlib.Core.Logic.{◌≢◌}
 use mathlib.Core.List.{List, ◌++◌, append-nil}
 use native.Mathlib.Nat.{add-zero, sub-zero}
@@ -20,12 +19,11 @@ use Rattle.capture.specs.Reading.{next_of}
 use Rattle.capture.proofs.EachCall.{count_within}
 use Rattle.capture.proofs.NextSays.{next_says}
 use Rattle.capture.specs.declared.reading.Refusal.TheVariants as refusal
-use Rattle.capture.specs.declared.record.Direction.TheVariants as direction
-use Rattle.frame.specs.State.{state_of as reader_state_of}
-use Rattle.frame.specs.declared.reader.Reader.{Reader as CodeReader}
-use Rattle.replay.specs.State.{State}
+use Rattle.std.specs.Prelude.{Some, None}
+use Rattle.replay.specs.State.{State, state_of}
 use Rattle.replay.specs.Table.{stop_of}
-use Rattle.replay.specs.Playing.{goes_on, record_run, step_of, play_in, loop_of, step_state, step_left}
+use Rattle.replay.specs.Playing.{goes_on, record_run, step_of, play_in, loop_of, step_stop, step_left}
+use Rattle.replay.specs.declared.state.Replay.{Replay}
 use Rattle.replay.specs.declared.steps.Step.{Step}
 use Rattle.replay.specs.declared.steps.Stop.{Stop}
 use Rattle.replay.specs.declared.steps.Stop.TheVariants as stop
@@ -167,30 +165,29 @@ left_from at l = take (length l - at) (drop at l)
 abbrev pub joined_at : ℕ → List ℕ → List ℕ → List ℕ
 joined_at at l after = take at l ++ (after ++ drop (length l - at) (drop at l))
 
--- after a step the loop stops, or goes on: `joined` is the buffer then
-pub record Stepped (limit : ℕ) (bytes out₀ : List ℕ) (s₀ : State) (out : List ℕ) (s : State) (used written : ℕ)
-    (l : Step) (joined : List ℕ) : Type 0 where
+-- after a step the loop stops, or goes on: r is the replay then, and `joined` the buffer
+pub record Stepped (limit : ℕ) (bytes out₀ : List ℕ) (s₀ : State) (out : List ℕ) (used written : ℕ)
+    (l : Step) (r : Replay) (joined : List ℕ) : Type 0 where
   pub used_within : used + l.used ≤ length bytes
   pub written_within : written + l.written ≤ length out
   -- it was the last: what the loop leaves is what the whole run leaves
-  pub last : l.is_last ≡ true
+  pub last : (why : Stop) → l.stop ≡ Some why
       → record {
-        state = step_state s l;
+        state = state_of r;
         used = used + l.used;
         written = written + l.written;
-        stop = stop_of l.stop;
+        stop = stop_of why;
         out = joined;
       } ≡ left_by (loop_of limit s₀ bytes (length out₀)) out₀
   -- otherwise it used a byte, and the invariant holds after it
-  pub some : l.is_last ≡ false → 1 ≤ l.used
-  pub again : l.is_last ≡ false
-      → At limit bytes out₀ s₀ joined (step_state s l) (used + l.used) (written + l.written)
+  pub some : l.stop ≡ None → 1 ≤ l.used
+  pub again : l.stop ≡ None → At limit bytes out₀ s₀ joined (state_of r) (used + l.used) (written + l.written)
 
 -- a step over what is left of both: `after` is the part of the buffer after it
 module _ {limit : ℕ} {bytes out₀ out : List ℕ} {s₀ s : State} {used written : ℕ}
-    (at : At limit bytes out₀ s₀ out s used written) (l : Step) (after : List ℕ) (y : Run State)
+    (at : At limit bytes out₀ s₀ out s used written) (l : Step) (r : Replay) (after : List ℕ) (y : Run State)
     (is : y ≡ step_of limit s (left_from used bytes) (length (left_from written out)))
-    (left : step_left s l after ≡ left_by y (left_from written out))
+    (left : step_left (l, r) after ≡ left_by y (left_from written out))
     (kept : length after ≡ length (left_from written out)) where
   -- the whole buffer after it
   abbrev joined : List ℕ
@@ -206,7 +203,7 @@ module _ {limit : ℕ} {bytes out₀ out : List ℕ} {s₀ s : State} {used writ
   step_is = rw (part_left bytes used, room_left) at is
 
   -- what the code returns
-  state_is : step_state s l ≡ y.state
+  state_is : state_of r ≡ y.state
   state_is = ap (λ (w : Left State). w.state) left
 
   used_is : l.used ≡ y.used
@@ -215,7 +212,7 @@ module _ {limit : ℕ} {bytes out₀ out : List ℕ} {s₀ s : State} {used writ
   written_is : l.written ≡ length y.text
   written_is = ap (λ (w : Left State). w.written) left
 
-  stop_is : cond l.is_last (stop_of l.stop) goes_on ≡ y.stop
+  stop_is : step_stop l.stop ≡ y.stop
   stop_is = ap (λ (w : Left State). w.stop) left
 
   -- the text has room, and is put after the others
@@ -240,19 +237,18 @@ module _ {limit : ℕ} {bytes out₀ out : List ℕ} {s₀ s : State} {used writ
   written_within = omega (arith, written_is, fits)
 
   -- it is the last: what the loop leaves is what the whole run leaves
-  at_last : l.is_last ≡ true
+  at_last : (why : Stop) → l.stop ≡ Some why
       → record {
-        state = step_state s l;
+        state = state_of r;
         used = used + l.used;
         written = written + l.written;
-        stop = stop_of l.stop;
+        stop = stop_of why;
         out = joined;
       } ≡ left_by (loop_of limit s₀ bytes (length out₀)) out₀
-  at_last t =
-      let number : stop_of l.stop ≡ y.stop = rw t at stop_is in
+  at_last why t =
+      let number : stop_of why ≡ y.stop = rw t at stop_is in
       let stops : loop_of limit s (drop used bytes) (length out - written) ≡ y =
-      loop_stops limit s (drop used bytes) (length out - written) y step_is
-      (λ g. stop_last l.stop (number ∙ g)) in
+      loop_stops limit s (drop used bytes) (length out - written) y step_is (λ g. stop_last why (number ∙ g)) in
       let one : y ≡ onward y.used y.text (stopped y.state y.stop) = rw (add-zero, append-nil) in
       let rest : Rest State (loop_of limit s₀ bytes (length out₀)) (stopped y.state y.stop) (used + y.used)
       (written + length y.text) out₀ (sets out written y.text) =
@@ -261,14 +257,14 @@ module _ {limit : ℕ} {bytes out₀ out : List ℕ} {s₀ s : State} {used writ
       (rest_stopped y.state y.stop rest (omega (arith, fits, at.same_length)))
 
   -- the loop goes on: the step used a byte, and the invariant holds after it
-  module _ (f : l.is_last ≡ false) where
+  module _ (f : l.stop ≡ None) where
     goes : y.stop ≡ goes_on
     goes = sym (rw f at stop_is)
 
     used_some : 1 ≤ l.used
     used_some = omega (arith, used_is, uses.1 goes)
 
-    at_again : At limit bytes out₀ s₀ joined (step_state s l) (used + l.used) (written + l.written)
+    at_again : At limit bytes out₀ s₀ joined (state_of r) (used + l.used) (written + l.written)
     at_again =
         let long : length joined ≡ length out = ap length put ∙ length-sets out written y.text in
         let room : length out - written - length y.text ≡ length joined - (written + l.written) =
@@ -285,7 +281,7 @@ module _ {limit : ℕ} {bytes out₀ out : List ℕ} {s₀ s : State} {used writ
           rest = rw (drop-drop, room, ← put, ← state_is, ← used_is, ← written_is) at rest;
         }
 
-  pub at_step : Stepped limit bytes out₀ s₀ out s used written l joined
+  pub at_step : Stepped limit bytes out₀ s₀ out used written l r joined
   at_step =
       record {
         used_within = used_within;
@@ -294,23 +290,3 @@ module _ {limit : ℕ} {bytes out₀ out : List ℕ} {s₀ s : State} {used writ
         some = used_some;
         again = at_again;
       }
-
--- ---- the readers after a step, one of which is another one
-
-module _ (s : State) (l : Step) (first second : CodeReader) where
-  abbrev readers : State
-  readers =
-      record {
-        place = l.cursor.place;
-        fed = l.fed;
-        reader0 = reader_state_of first;
-        reader1 = reader_state_of second;
-      }
-
-  pub met_module : l.direction ≡ direction.FromModule → first ≡ l.reader → reader_state_of second ≡ s.reader1
-      → readers ≡ step_state s l
-  met_module told new old = rw (told, new, old)
-
-  pub met_box : l.direction ≡ direction.FromBox → reader_state_of first ≡ s.reader0 → second ≡ l.reader
-      → readers ≡ step_state s l
-  met_box told old new = rw (told, new, old)

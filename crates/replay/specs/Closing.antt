@@ -1,6 +1,6 @@
 -- Model: the end of a replay's text, held to `IsReplay` by turns_replay, and to the buffer by closes_exactly.
 -- PROTOCOL 14.3, 14.5, 14.6.
-use Rattle.std.specs.Prelude.{ℕ, cond, ◌≡◌, List, [], ◌∷◌, ◌++◌, get_or, eqb, ltb}
+use Rattle.std.specs.Prelude.{ℕ, cond, ◌≡◌, List, [], ◌∷◌, ◌++◌, Result, get_or, eqb, ltb}
 use Rattle.base.specs.Rows.{Row, row}
 use Rattle.base.specs.Outcomes.{Output, output, placed, rowed}
 use Rattle.frame.specs.Calls.{finish_of}
@@ -10,7 +10,8 @@ use Rattle.capture.specs.Reading.{end_of}
 use Rattle.replay.specs.Lines.{prefix_of}
 use Rattle.replay.specs.State.{State, in_range_of}
 use Rattle.replay.specs.Table.{closing_row_of}
-use Rattle.replay.specs.declared.closing.ClosingResult.{ClosingResult}
+use Rattle.replay.specs.declared.closing.CloseError.{CloseError}
+use Rattle.replay.specs.declared.closing.Closing.{Closing}
 
 -- the end line of a direction
 abbrev pub end_line : ℕ → ℕ → Reader → List ℕ
@@ -43,5 +44,5 @@ close_of limit s b out =
     (output (row 17 (0 ∷ [])) out)
 
 -- what the code's `finish` returns, and the buffer after it, is this output
-abbrev pub Closes : ClosingResult → List ℕ → Output → Type 0
+abbrev pub Closes : Result Closing CloseError → List ℕ → Output → Type 0
 Closes r after w = output (closing_row_of r) after ≡ w

@@ -1,11 +1,12 @@
 -- Claims: what each call answers and leaves, and exactly when. PROTOCOL 14.4 to 14.7, 6.12.
-use Rattle.std.specs.Prelude.{ℕ, ◌+◌, ◌≤◌, ◌<◌, ◌≡◌, ◌≢◌, ◌⊎◌, true, List, [], ◌∷◌, ◌++◌, length, get_or, drop}
+use Rattle.std.specs.Prelude.{ℕ, ◌+◌, ◌≤◌, ◌<◌, ◌≡◌, ◌≢◌, ◌⊎◌, true, List, [], ◌∷◌, ◌++◌, Result, Ok, Err, length}
+use Rattle.std.specs.Prelude.{get_or, drop}
 use Rattle.base.specs.Asking.{AsksOnce}
 use Rattle.base.specs.Keys.{among}
 use Rattle.base.specs.Rows.{row}
 use Rattle.base.specs.Outcomes.{Output, output}
 use Rattle.base.specs.Runs.{Run}
-use Rattle.base.specs.declared.writes.Unwritten.TheVariants as unwritten
+use Rattle.base.specs.declared.writes.WriteError.TheVariants as unwritten
 use Rattle.frame.specs.Wire.{frame_limit}
 use Rattle.frame.specs.Ranges.{OutOfRange as ReaderOut}
 use Rattle.frame.specs.State.{State as Reader, state_of as reader_state_of}
@@ -18,8 +19,10 @@ use Rattle.replay.specs.Table.{stop_of, closing_row_of}
 use Rattle.replay.specs.Playing.{play_of, left_of}
 use Rattle.replay.specs.Closing.{end_lines, close_of, Closes}
 use Rattle.replay.specs.Window.{kept_of}
-use Rattle.replay.specs.declared.closing.ClosingResult.{ClosingResult}
-use Rattle.replay.specs.declared.closing.ClosingResult.TheVariants as closing
+use Rattle.replay.specs.declared.closing.CloseError.{CloseError}
+use Rattle.replay.specs.declared.closing.CloseError.TheVariants as error
+use Rattle.replay.specs.declared.closing.Closing.{Closing}
+use Rattle.replay.specs.declared.closing.Closing.TheVariants as closing
 use Rattle.replay.specs.declared.playing.Played.{Played}
 use Rattle.replay.specs.declared.state.Replay.{Replay}
 use Rattle.replay.specs.declared.steps.Stop.TheVariants as stop
@@ -53,16 +56,16 @@ AllNamedStates = (r : Replay) (s : State) (q : Reader) (place fed : ℕ) → Nam
 
 -- ---- answer_rows: the number and the values of each answer of finish: PROTOCOL 14.5
 pub record AnswerRows (count place : ℕ) : Type 0 where
-  pub more : closing_row_of closing.More ≡ row 0 (0 ∷ [])
-  pub whole : closing_row_of (closing.Whole count) ≡ row 2 (count ∷ [])
-  pub mark : closing_row_of (closing.Refused count refusal.Mark place) ≡ row 51 (count ∷ place ∷ [])
-  pub version : closing_row_of (closing.Refused count refusal.Version place) ≡ row 52 (count ∷ place ∷ [])
-  pub direction : closing_row_of (closing.Refused count refusal.Direction place) ≡ row 53 (count ∷ place ∷ [])
-  pub ended : closing_row_of (closing.Refused count refusal.Ended place) ≡ row 54 (count ∷ place ∷ [])
-  pub payload : closing_row_of (closing.Unwritten unwritten.Payload) ≡ row 21 (0 ∷ [])
-  pub room : closing_row_of (closing.Unwritten (unwritten.Room count)) ≡ row 22 (count ∷ [])
-  pub state : closing_row_of closing.State ≡ row 17 (0 ∷ [])
-  pub used : closing_row_of closing.Used ≡ row 18 (0 ∷ [])
+  pub more : closing_row_of (Ok closing.More) ≡ row 0 (0 ∷ [])
+  pub whole : closing_row_of (Ok (closing.Whole count)) ≡ row 2 (count ∷ [])
+  pub mark : closing_row_of (Ok (closing.Refused count refusal.Mark place)) ≡ row 51 (count ∷ place ∷ [])
+  pub version : closing_row_of (Ok (closing.Refused count refusal.Version place)) ≡ row 52 (count ∷ place ∷ [])
+  pub direction : closing_row_of (Ok (closing.Refused count refusal.Direction place)) ≡ row 53 (count ∷ place ∷ [])
+  pub ended : closing_row_of (Ok (closing.Refused count refusal.Ended place)) ≡ row 54 (count ∷ place ∷ [])
+  pub payload : closing_row_of (Err (error.Unwritten unwritten.Payload)) ≡ row 21 (0 ∷ [])
+  pub room : closing_row_of (Err (error.Unwritten (unwritten.Room count))) ≡ row 22 (count ∷ [])
+  pub state : closing_row_of (Err error.State) ≡ row 17 (0 ∷ [])
+  pub used : closing_row_of (Err error.Used) ≡ row 18 (0 ∷ [])
 
 -- of all values
 abbrev pub AllAnswerRows : Type 0
@@ -70,7 +73,7 @@ AllAnswerRows = (count place : ℕ) → AnswerRows count place
 
 -- ---- rows_injective: two answers of finish never have the same number and values
 abbrev pub RowsInjective : Type 0
-RowsInjective = (a b : ClosingResult) → closing_row_of a ≡ closing_row_of b → a ≡ b
+RowsInjective = (a b : Result Closing CloseError) → closing_row_of a ≡ closing_row_of b → a ≡ b
 
 -- ---- stop_numbers_lem: the number of each stop: PROTOCOL 14.4
 pub record StopNumbers : Type 0 where
@@ -83,17 +86,17 @@ pub record StopNumbers : Type 0 where
   pub direction : stop_of (stop.Refused refusal.Direction) ≡ 53
   pub ended : stop_of (stop.Refused refusal.Ended) ≡ 54
 
--- ---- left_fields: what the contract's equation says of each field that the code returns
-pub record LeftFields (l : Played) (after : List ℕ) : Type 0 where
-  pub state : (left_of l after).state ≡ state_of l.replay
-  pub used : (left_of l after).used ≡ l.used
-  pub written : (left_of l after).written ≡ l.written
-  pub stop : (left_of l after).stop ≡ stop_of l.stop
+-- ---- left_fields: what the contract's equation says of each field that the code returns, and of what it leaves
+pub record LeftFields (l : Played × Replay) (after : List ℕ) : Type 0 where
+  pub state : (left_of l after).state ≡ state_of l.1
+  pub used : (left_of l after).used ≡ l.0.used
+  pub written : (left_of l after).written ≡ l.0.written
+  pub stop : (left_of l after).stop ≡ stop_of l.0.stop
   pub out : (left_of l after).out ≡ after
 
 -- of everything that it may return
 abbrev pub LeftFieldsAlways : Type 0
-LeftFieldsAlways = (l : Played) (after : List ℕ) → LeftFields l after
+LeftFieldsAlways = (l : Played × Replay) (after : List ℕ) → LeftFields l after
 
 -- ---- replay_ranges: STATE exactly when the cursor or a reader is out of range, before all others, and nothing changes
 abbrev pub OutOfRange : State → Type 0
@@ -168,7 +171,7 @@ NoPayload = (limit : ℕ) (s : State) (b out : List ℕ) → (close_of limit s b
 -- ---- closing_whole: what the contract of `finish` fixes: the answer's row, and the whole buffer
 abbrev pub ClosingWhole : Type 0
 ClosingWhole =
-    (r : ClosingResult) (after : List ℕ) (w : Output) → Closes r after w
+    (r : Result Closing CloseError) (after : List ℕ) (w : Output) → Closes r after w
     → (closing_row_of r ≡ w.row) × (after ≡ w.out)
 
 -- ---- keeps_exactly: the bytes kept, one by one: PROTOCOL 14.7

@@ -1,18 +1,22 @@
 -- Model: the loop over the records of a window, held to `IsReplay` by turns_replay. PROTOCOL 14.2 to 14.4, 14.6.
 -- A record that the listing's loop does not finish for lack of room is continued in the next call.
-use Rattle.std.specs.Prelude.{ℕ, zero, suc, ◌+◌, ◌-◌, cond, List, [], length, get_or, drop, eqb}
+use Rattle.std.specs.Prelude.{ℕ, zero, suc, ◌+◌, ◌-◌, cond, List, [], Option, Some, None, length, get_or, drop}
+use Rattle.std.specs.Prelude.{eqb}
 use Rattle.base.specs.Outcomes.{Outcome}
 use Rattle.base.specs.Runs.{Run, stopped, onward, Left}
-use Rattle.frame.specs.State.{State as Reader, state_of as reader_state_of}
+use Rattle.frame.specs.State.{State as Reader}
 use Rattle.listing.specs.Feeding.{list_of}
+use Rattle.listing.specs.Table.{stop_of as list_stop_of}
+use Rattle.listing.specs.declared.feeding.Listed.{Listed}
 use Rattle.capture.specs.Format.{payload_of}
 use Rattle.capture.specs.Reading.{next_of}
-use Rattle.capture.specs.Table.{direction_number}
 use Rattle.replay.specs.Lines.{prefix_of}
 use Rattle.replay.specs.State.{State, state_of, in_range_of, reader_of, with_reader}
 use Rattle.replay.specs.Table.{stop_of}
 use Rattle.replay.specs.declared.playing.Played.{Played}
+use Rattle.replay.specs.declared.state.Replay.{Replay}
 use Rattle.replay.specs.declared.steps.Step.{Step}
+use Rattle.replay.specs.declared.steps.Stop.{Stop}
 
 -- the stop of a step that is not the last
 abbrev pub goes_on : ℕ
@@ -86,28 +90,40 @@ loop_of limit s b room = play_in limit (suc (length b)) s b room
 abbrev pub play_of : ℕ → State → List ℕ → ℕ → Run State
 play_of limit s b room = cond (in_range_of limit s) (loop_of limit s b room) (stopped s 17)
 
--- the state after the code's step: the reader of its direction is another one
-abbrev pub step_state : State → Step → State
-step_state s l = with_reader (direction_number l.direction) (reader_state_of l.reader) l.cursor.place l.fed s
-
--- what the code's step returns, and the buffer after it
-abbrev pub step_left : State → Step → List ℕ → Left State
-step_left s l after =
+-- what the listing's loop returns over bytes of a direction, its reader, and the buffer after it
+abbrev pub part_left : ℕ → Listed → State → List ℕ → Left Reader
+part_left direction l s after =
     record {
-      state = step_state s l;
+      state = reader_of direction s;
       used = l.used;
       written = l.written;
-      stop = cond l.is_last (stop_of l.stop) goes_on;
+      stop = list_stop_of l.stop;
+      out = after;
+    }
+
+-- the stop of the code's step
+abbrev pub step_stop : Option Stop → ℕ
+step_stop None = goes_on
+step_stop (Some why) = stop_of why
+
+-- what the code's step returns, the replay that it leaves, and the buffer after it
+abbrev pub step_left : Step × Replay → List ℕ → Left State
+step_left l after =
+    record {
+      state = state_of l.1;
+      used = l.0.used;
+      written = l.0.written;
+      stop = step_stop l.0.stop;
       out = after;
     }
 
 -- the same of the code's play
-abbrev pub left_of : Played → List ℕ → Left State
+abbrev pub left_of : Played × Replay → List ℕ → Left State
 left_of l after =
     record {
-      state = state_of l.replay;
-      used = l.used;
-      written = l.written;
-      stop = stop_of l.stop;
+      state = state_of l.1;
+      used = l.0.used;
+      written = l.0.written;
+      stop = stop_of l.0.stop;
       out = after;
     }
