@@ -1,5 +1,7 @@
 //! The heading, the line of each answer, and the last line: PROTOCOL 10.1 to 10.6.
 //! The caller's `prefix` precedes the word of each (PROTOCOL 10.8); an answer without a line puts nothing.
+//! Prefix, body and buffer stay parameters: the public calls take them one by one, and a struct of them would be made
+//! for each call and taken apart in it.
 ghost use Rattle.std.specs.Prelude.{◌≡◌, ◌++◌, ◌+◌, ◌≤◌, length};
 ghost use Rattle.base.specs.Outcomes.{placed};
 ghost use Rattle.base.specs.Writes.{Writes};

@@ -8,7 +8,7 @@ ghost use Rattle.listing.specs.Lines.{columns_of, text_of};
 use super::decimal::{put_decimal, width};
 use base::{WriteError, put_bytes};
 
-// A line, whose parts but for the prefix are short.
+// A line, whose parts but for the prefix are short. It is named part by part where it is made.
 #[derive(Clone, Copy)]
 pub(crate) struct Line<'a> {
     pub(crate) prefix: &'a [u8],

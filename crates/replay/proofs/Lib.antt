@@ -3,7 +3,6 @@
 -- the contracts
 pub mod StepLaws
 pub mod PlayLaws
-pub mod ClosingLaws
 -- one call
 pub mod NextAnswers
 pub mod StopLaws

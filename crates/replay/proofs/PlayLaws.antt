@@ -19,7 +19,7 @@ use Rattle.capture.specs.Reading.{next_of}
 use Rattle.capture.proofs.EachCall.{count_within}
 use Rattle.capture.proofs.NextSays.{next_says}
 use Rattle.capture.specs.declared.reading.Refusal.TheVariants as refusal
-use Rattle.std.specs.Prelude.{Some, None}
+use Rattle.std.specs.Prelude.{Option, Some, None}
 use Rattle.replay.specs.State.{State, state_of}
 use Rattle.replay.specs.Table.{stop_of}
 use Rattle.replay.specs.Playing.{goes_on, record_run, step_of, play_in, loop_of, step_stop, step_left}
@@ -164,6 +164,11 @@ left_from at l = take (length l - at) (drop at l)
 -- a buffer whose part from a place on is then `after`
 abbrev pub joined_at : ℕ → List ℕ → List ℕ → List ℕ
 joined_at at l after = take at l ++ (after ++ drop (length l - at) (drop at l))
+
+-- a step that names no stop
+pub not_some : (o : Option Stop) → ((why : Stop) → o ≡ Some why → ⊥) → o ≡ None
+not_some None h = refl
+not_some (Some why) h = absurd (h why refl)
 
 -- after a step the loop stops, or goes on: r is the replay then, and `joined` the buffer
 pub record Stepped (limit : ℕ) (bytes out₀ : List ℕ) (s₀ : State) (out : List ℕ) (used written : ℕ)

@@ -52,27 +52,27 @@ impl From<WriteError> for CloseError {
     }
 }
 
-// The end line of a direction, at the front of a buffer that has room for it; returns how many bytes it has.
-fn put_end(reader: &Reader, prefix: &[u8], out: &mut [u8]) -> usize
-    requires { (length prefix.now ≤ 2) × (160 ≤ length out.old) }
-    ensures { take result out.new
-        ≡ last_of prefix.now (finish_of frame_limit (reader_state_of reader.now)).row }
+// The end line of a direction, in a buffer that has room for it.
+fn end_line<'a>(reader: &Reader, prefix: &[u8], line: &'a mut [u8; 160]) -> &'a [u8]
+    requires { length prefix.now ≤ 2 }
+    ensures { result.now ≡ last_of prefix.now
+        (finish_of frame_limit (reader_state_of reader.now)).row }
 {
-    base::count(listing::last(reader.finish(), prefix, out))
+    let count = base::count(listing::last(reader.finish(), prefix, line));
+    &line[..count]
 }
 
 impl Replay {
     // The end lines, of the module's bytes and then of the box's.
     fn put_ends(&self, out: &mut [u8]) -> Result<usize, WriteError>
-        ensures { Writes result out.new (placed (end_lines frame_limit (state_of self.now)) out.old) }
+        ensures { Writes result out.new
+            (placed (end_lines frame_limit (state_of self.now)) out.old) }
     {
         let mut line0 = [0; 160];
         let mut line1 = [0; 160];
-        let count0 = put_end(&self.from_module, b"0 ", &mut line0);
-        let count1 = put_end(&self.from_box, b"1 ", &mut line1);
         base::write_both(
-            base::part(&line0, 0, count0),
-            base::part(&line1, 0, count1),
+            end_line(&self.from_module, b"0 ", &mut line0),
+            end_line(&self.from_box, b"1 ", &mut line1),
             out,
         )
     }

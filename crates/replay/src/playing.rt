@@ -12,7 +12,8 @@ use super::state::Replay;
 use super::steps::Stop;
 use base::WriteError;
 
-/// What a play did: the bytes used, the bytes of text at the front of the buffer, and why it stopped.
+/// What a play did: the bytes used, the bytes of text at the front of the buffer, and why it stopped. It is no `Listed`
+/// of the listing, whose stops are others: a type for both, generic over the stop, would be no plainer.
 #[derive(Clone, Copy, Debug, PartialEq, Eq)]
 pub struct Played {
     pub used: usize,
@@ -28,10 +29,11 @@ pub fn heading(out: &mut [u8]) -> Result<usize, WriteError>
 }
 
 impl Replay {
-    // Step after step, until one is the last.
+    // Step after step, until one is the last. How many steps there are is not known before, so the loop is left by
+    // `break`.
     fn play_all(&mut self, bytes: &[u8], out: &mut [u8]) -> Played
-        ensures { left_of (result, self.new) out.new ≡ left_by (loop_of frame_limit (state_of self.old)
-            bytes.now (length out.old)) out.old }
+        ensures { left_of (result, self.new) out.new ≡ left_by (loop_of frame_limit
+            (state_of self.old) bytes.now (length out.old)) out.old }
     {
         let mut used = 0;
         let mut written = 0;
@@ -39,9 +41,8 @@ impl Replay {
             let step = self.play_one(&bytes[used..], &mut out[written..]);
             used += step.used;
             written += step.written;
-            match step.stop {
-                Some(stop) => break stop,
-                None => {}
+            if let Some(stop) = step.stop {
+                break stop;
             }
         };
         Played {

@@ -130,8 +130,8 @@ impl Replay {
 
     // One step, by what is at the front.
     pub(crate) fn play_one(&mut self, bytes: &[u8], out: &mut [u8]) -> Step
-        ensures { step_left (result, self.new) out.new ≡ left_by (step_of frame_limit (state_of self.old)
-            bytes.now (length out.old)) out.old }
+        ensures { step_left (result, self.new) out.new ≡ left_by (step_of frame_limit
+            (state_of self.old) bytes.now (length out.old)) out.old }
     {
         let mut next = self.cursor;
         match next.next(bytes) {
