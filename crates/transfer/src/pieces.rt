@@ -2,7 +2,7 @@
 //! 15.7.
 //!
 //! A product of two numbers below 2^16 is below 2^32, so none of them wraps.
-ghost use Rattle.std.specs.Prelude.{◌≡◌, ◌*◌, ◌≤◌};
+ghost use Rattle.std.specs.Prelude.{◌≡◌, ◌≤◌};
 ghost use Rattle.transfer.specs.Pieces.{pieces_of, start_of, piece_size, bytes_of};
 ghost use Rattle.transfer.specs.Checks.{in_turn, right_bytes};
 
