@@ -2,7 +2,8 @@
 ghost use Rattle.std.specs.Prelude.{◌≡◌, ◌^◌, ◌<◌, ◌≤◌};
 ghost use Rattle.message.specs.Numbers.{num, bit, eight_at};
 
-// Eight bytes at a place, big-endian. A byte that is missing reads as 0.
+// Eight bytes at a place, big-endian. A byte that is missing reads as 0. No width is a parameter: the three definitions
+// of `eight_at` and of base's `two_at` and `four_at` state one width each, and one caller has eight bytes.
 pub(crate) fn eight_at(bytes: &[u8], at: usize) -> u64
     requires { at ≤ 2 ^ 20 }
     ensures { result ≡ eight_at bytes.now at }

@@ -80,7 +80,8 @@ impl From<Code> for u8 {
     }
 }
 
-/// What device information has in addition to texts, key and timeout: 66, 74 or 106 bytes. PROTOCOL 7.10.
+/// What device information has in addition to texts, key and timeout: 66, 74 or 106 bytes. PROTOCOL 7.10. Three
+/// layouts, so an enum: an `Option` would need a flag for the secret beside it.
 #[derive(Clone, Copy, Debug, PartialEq, Eq)]
 pub enum Extra {
     Absent,
