@@ -1,8 +1,7 @@
 -- Model: what the box does with an answer of the reader, composed from the models of `message`, `link` and `transfer`,
 -- and held to the rules by handle_exact, ended_exact, state_first, refused-kept and worked_frames. `limit` bounds the
 -- length of a frame; `first` and `max` are the link's. PROTOCOL 16.
-use Rattle.std.specs.Prelude.{ℕ, Bool, cond, ◌&&◌, List, [], ◌∷◌, eqb, length, get_or}
-use Rattle.std.specs.Prelude.{Option, Result}
+use Rattle.std.specs.Prelude.{ℕ, Bool, cond, ◌&&◌, List, [], ◌∷◌, eqb, length, get_or, Option, Result}
 use Rattle.base.specs.Rows.{Row, row}
 use Rattle.base.specs.Outcomes.{Outcome, outcome, Output, output}
 use Rattle.frame.specs.Wire.{command_of, number_of, flags_of, payload_of}
