@@ -52,7 +52,8 @@ pub enum NextError {
     Used,
 }
 
-/// What a capture is that ends where `finish` was called.
+/// What a capture is that ends where `finish` was called. In an `Option` of the place, `None` would not say that `next`
+/// comes first.
 #[derive(Clone, Copy, Debug, PartialEq, Eq)]
 pub enum Ending {
     /// `next` has something to take.
