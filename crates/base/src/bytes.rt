@@ -18,6 +18,9 @@ fn front(bytes: &[u8]) -> u16
     u16::from_be_bytes([byte_at(bytes, 0), byte_at(bytes, 1)])
 }
 
+// Twins that stay, each a line above another or above std: they are public, and docs/API.md names each of the four with
+// its definition.
+
 /// The number of two bytes at a place.
 pub fn two_at(bytes: &[u8], at: usize) -> u16
     ensures { result ≡ two_at bytes.now at }
