@@ -14,7 +14,9 @@ use base::StateError;
 /// A reader, with the array that holds a body: PROTOCOL 3.1. Any value may be given; one out of range is refused.
 #[derive(Clone, Copy, Debug, PartialEq, Eq)]
 pub struct Reader {
+    /// Where it is in the wire.
     pub scan: Scan,
+    /// The bytes kept for a body.
     pub body: [u8; 1026],
 }
 
@@ -80,7 +82,8 @@ impl Reader {
         requires { Ready frame_limit (scan_of self.old.scan) (length bytes.now) }
         ensures { fed_of (Ok result, self.new) ≡ run_of frame_limit bytes.now 0 (state_of self.old) }
     {
-        // Counted by hand: a `for` can be left only without a value, and the count is the answer.
+        // Left by `break` with the deciding event and the count, the form that rule 3.3 names (docs/DECISIONS.md,
+        // "Forms that the rules name"). A `for` gives no value, and would store the scan at two exits.
         let mut scan = self.scan;
         let mut count = 0;
         let decision = loop {

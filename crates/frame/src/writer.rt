@@ -132,10 +132,10 @@ impl Bytes for &[&[u8]] {
 }
 
 // The size of a body byte on the wire.
-fn width(v: u8) -> usize
-    ensures { result ≡ length (stuff (v ∷ [])) }
+fn width(byte: u8) -> usize
+    ensures { result ≡ length (stuff (byte ∷ [])) }
 {
-    if v == 0xFF { 2 } else { 1 }
+    if byte == 0xFF { 2 } else { 1 }
 }
 
 // The size of a frame on the wire, and its sum.
@@ -152,12 +152,12 @@ fn sized<P: Bytes>(head: [u8; 6], payload: P) -> Measure
 }
 
 // Puts a body byte, stuffed, at a place of the buffer; returns the next place.
-fn put_byte(out: &mut [u8], at: usize, v: u8) -> usize
-    requires { at + length (stuff (v ∷ [])) ≤ length out.old }
-    ensures { PutAt out.old at (stuff (v ∷ [])) result out.new }
+fn put_byte(out: &mut [u8], at: usize, byte: u8) -> usize
+    requires { at + length (stuff (byte ∷ [])) ≤ length out.old }
+    ensures { PutAt out.old at (stuff (byte ∷ [])) result out.new }
 {
-    out[at] = v;
-    if v == 0xFF {
+    out[at] = byte;
+    if byte == 0xFF {
         out[at + 1] = 0x55;
         at + 2
     } else {

@@ -8,15 +8,15 @@ pub bounds-out-at : goal.bounds-out-at
 unfolding stuff
 bounds-out-at c = omega arith
 
-pub bounds-out-at-then-v-eq255 : goal.bounds-out-at-then-v-eq255
-bounds-out-at-then-v-eq255 c = simp length-set (omega (arith, ap length (stuff_ff c.if-v-eq255.true)))
+pub bounds-out-at-then-byte-eq255 : goal.bounds-out-at-then-byte-eq255
+bounds-out-at-then-byte-eq255 c = simp length-set (omega (arith, ap length (stuff_ff c.if-byte-eq255.true)))
 
-pub returns-then-v-eq255 : goal.returns-then-v-eq255
-returns-then-v-eq255 c =
-    let e = stuff_ff c.if-v-eq255.true in
+pub returns-then-byte-eq255 : goal.returns-then-byte-eq255
+returns-then-byte-eq255 c =
+    let e = stuff_ff c.if-byte-eq255.true in
     (rw e, rw (e, add-one))
 
-pub returns-else-v-eq255 : goal.returns-else-v-eq255
-returns-else-v-eq255 c =
-    let e = stuff_other c.if-v-eq255.false in
+pub returns-else-byte-eq255 : goal.returns-else-byte-eq255
+returns-else-byte-eq255 c =
+    let e = stuff_other c.if-byte-eq255.false in
     (rw e, rw e)

@@ -2,8 +2,8 @@
 use Rattle.frame.proofs.Writing.{stuff_ff, stuff_other}
 use Rattle.frame.proofs.writer.width.Goals as goal
 
-pub returns-then-v-eq255 : goal.returns-then-v-eq255
-returns-then-v-eq255 c = rw (stuff_ff c.if-v-eq255.true)
+pub returns-then-byte-eq255 : goal.returns-then-byte-eq255
+returns-then-byte-eq255 c = rw (stuff_ff c.if-byte-eq255.true)
 
-pub returns-else-v-eq255 : goal.returns-else-v-eq255
-returns-else-v-eq255 c = rw (stuff_other c.if-v-eq255.false)
+pub returns-else-byte-eq255 : goal.returns-else-byte-eq255
+returns-else-byte-eq255 c = rw (stuff_other c.if-byte-eq255.false)
