@@ -1,10 +1,13 @@
 -- Claims: the format byte by byte. PROTOCOL 13.1 to 13.3.
 use Rattle.std.specs.Prelude.{ℕ, ◌+◌, ◌*◌, ◌/◌, ◌%◌, ◌≤◌, ◌<◌, ◌≡◌, List, [], ◌∷◌, length, take}
+use Rattle.std.specs.Prelude.{Result, Ok, Err}
 use Rattle.capture.specs.Format.{head, direction_of, milliseconds_of, payload_size_of, payload_of, size_of, IsRecord}
 use Rattle.capture.specs.Format.{record_bytes}
-use Rattle.capture.specs.Table.{direction_number, refusal_number}
+use Rattle.capture.specs.Table.{direction_number, IsDirection, refusal_number}
 use Rattle.capture.specs.declared.reading.Refusal.TheVariants as refusal
+use Rattle.capture.specs.declared.record.Direction.{Direction}
 use Rattle.capture.specs.declared.record.Direction.TheVariants as direction
+use Rattle.capture.specs.declared.record.UnknownDirection.{UnknownDirection}
 
 -- ---- format_spelled: the head, each field of a record at its place, and a record written: numbers have the high byte
 -- first
@@ -41,3 +44,14 @@ pub record Numbers : Type 0 where
   pub version : refusal_number refusal.Version ≡ 52
   pub direction : refusal_number refusal.Direction ≡ 53
   pub ended : refusal_number refusal.Ended ≡ 54
+
+-- ---- directions_of_numbers: what each first byte of a record says, in literal numbers; any other comes back:
+-- PROTOCOL 13.3, 13.7
+pub record DirectionsOfNumbers : Type 0 where
+  pub from_module : IsDirection 0 (Ok direction.FromModule)
+  pub from_box : IsDirection 1 (Ok direction.FromBox)
+  pub unknown : (e : UnknownDirection) → 1 < e.0 → IsDirection e.0 (Err e)
+  -- exactly the byte, and only above 1
+  pub only_unknown : (n : ℕ) (e : UnknownDirection) → IsDirection n (Err e) → (e.0 ≡ n) × (1 < n)
+  -- a number has one answer
+  pub one_direction : (n : ℕ) (r s : Result Direction UnknownDirection) → IsDirection n r → IsDirection n s → r ≡ s

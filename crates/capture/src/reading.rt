@@ -17,9 +17,13 @@ pub struct Cursor {
 /// Why a capture is refused: PROTOCOL 13.5 to 13.8.
 #[derive(Clone, Copy, Debug, PartialEq, Eq)]
 pub enum Refusal {
+    /// MARK 51: its first 3 bytes are not the mark, or it has fewer.
     Mark,
+    /// VERSION 52: the 2 bytes after the mark are not version 1, or not both are there.
     Version,
+    /// DIRECTION 53: the byte where a record would begin is above 1.
     Direction,
+    /// ENDED 54: the last record is not complete.
     Ended,
 }
 
@@ -52,8 +56,9 @@ pub enum NextError {
     Used,
 }
 
-/// What a capture is that ends where `finish` was called. In an `Option` of the place, `None` would not say that `next`
-/// comes first.
+/// What a capture is that ends where `finish` was called.
+// Not an Option, which is no plainer: PROTOCOL 13.10 has a meaning for both answers, and `None` would not say that
+// `next` is still to be called.
 #[derive(Clone, Copy, Debug, PartialEq, Eq)]
 pub enum Ending {
     /// `next` has something to take.

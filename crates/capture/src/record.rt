@@ -11,7 +11,9 @@ const RECORD_HEAD: usize = 7;
 /// Who sent the bytes of a record.
 #[derive(Clone, Copy, Debug, PartialEq, Eq)]
 pub enum Direction {
+    /// The module: 0.
     FromModule,
+    /// The box: 1.
     FromBox,
 }
 
@@ -50,7 +52,7 @@ impl TryFrom<u8> for Direction {
 pub(crate) fn size(bytes: &[u8]) -> usize
     ensures { (result ≡ size_of bytes.now) × (result ≤ 65542) }
 {
-    RECORD_HEAD + base::two_at(bytes, 5) as usize
+    RECORD_HEAD + usize::from(base::two_at(bytes, 5))
 }
 
 /// The payload of the record at the front of some bytes, as a slice of them and not a copy, cut where they end.
@@ -58,5 +60,5 @@ pub fn payload(bytes: &[u8]) -> &[u8]
     ensures { (result.now ≡ payload_of bytes.now)
         × IsPart bytes.entry result (min 7 (length bytes.now)) (two_at bytes.now 5) }
 {
-    base::part(bytes, RECORD_HEAD, base::two_at(bytes, 5) as usize)
+    base::part(bytes, RECORD_HEAD, usize::from(base::two_at(bytes, 5)))
 }

@@ -29,7 +29,16 @@ pub fn write_record(
     if payload.len() > MAX_PAYLOAD {
         return Err(WriteError::Payload);
     }
-    let [t, u, v, w] = milliseconds.to_be_bytes();
+    let [highest, higher, lower, lowest] = milliseconds.to_be_bytes();
     let [high, low] = (payload.len() as u16).to_be_bytes();
-    base::write_both(&[u8::from(direction), t, u, v, w, high, low], payload, out)
+    let head = [
+        u8::from(direction),
+        highest,
+        higher,
+        lower,
+        lowest,
+        high,
+        low,
+    ];
+    base::write_both(&head, payload, out)
 }
