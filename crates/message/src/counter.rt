@@ -130,8 +130,16 @@ impl Control {
         Ok(Control {
             flags,
             lamp: flags.lamp && bit(0, u16::from(values)),
-            mode: Mode::try_from(u8::from(flags.mode) * (values >> 1))?,
-            volume: u16::from(flags.volume) * u16::from_be_bytes([high, low]),
+            mode: if flags.mode {
+                Mode::try_from(values >> 1)?
+            } else {
+                Mode::Fold
+            },
+            volume: if flags.volume {
+                u16::from_be_bytes([high, low])
+            } else {
+                0
+            },
         })
     }
 }
@@ -153,7 +161,9 @@ pub(crate) fn control_bytes(action: u8, control: Control) -> [u8; 5]
 {
     let Flags { lamp, mode, volume } = control.flags;
     let flags = u8::from(lamp) + u8::from(mode) * 2 + u8::from(volume) * 4;
-    let values = u8::from(lamp && control.lamp) + u8::from(mode) * u8::from(control.mode) * 2;
-    let [high, low] = (u16::from(volume) * control.volume).to_be_bytes();
+    let set_mode = if mode { u8::from(control.mode) } else { 0 };
+    let set_volume = if volume { control.volume } else { 0 };
+    let values = u8::from(lamp && control.lamp) + set_mode * 2;
+    let [high, low] = set_volume.to_be_bytes();
     [action, flags, values, high, low]
 }

@@ -33,10 +33,15 @@ pub enum Sender {
 /// Why the box rejects a frame: a wrong sum, a refusal of its reading, or a command that only the box sends.
 #[derive(Clone, Copy, Debug, PartialEq, Eq)]
 pub enum Cause {
+    /// The sum is wrong: SUM.
     Sum,
+    /// Reading answered COMMAND.
     Command,
+    /// Reading answered SIZE.
     Size,
+    /// Reading answered FIELD.
     Field,
+    /// Only the box sends this command.
     BoxCommand,
 }
 

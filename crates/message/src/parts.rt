@@ -4,8 +4,8 @@ ghost use Rattle.std.specs.Prelude.{◌≡◌};
 ghost use Rattle.message.specs.Parts.{texts_and, PartAt};
 
 /// The place of a part in the payload: its first byte and its size. Both are 0 where the message does not have the
-/// part. Numbers and no slice, since `part` promises an answer for every place, made-up ones too (`PartAt`), and
-/// `parts_exact` fixes them for a payload.
+/// part. Numbers and no slice, since `part` promises an answer for every place, made-up ones too (`PartAt`), and the
+/// claims `parts_exactly` and `parts_within` are on places.
 #[derive(Clone, Copy, Debug, Default, PartialEq, Eq)]
 pub struct Place {
     pub start: usize,

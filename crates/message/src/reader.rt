@@ -255,13 +255,13 @@ fn read_ready(payload: &[u8]) -> Result<Reading, ReadError>
 fn read_piece(payload: &[u8]) -> Result<Reading, ReadError>
     ensures { reading_of result ≡ decode_as kind.Piece 0x1D payload.now }
 {
-    let [i, j, k, l, data @ ..] = payload else {
+    let [index_high, index_low, total_high, total_low, data @ ..] = payload else {
         return Err(ReadError::Size);
     };
     Ok(Reading {
         message: Message::Piece {
-            index: u16::from_be_bytes([*i, *j]),
-            total: u16::from_be_bytes([*k, *l]),
+            index: u16::from_be_bytes([*index_high, *index_low]),
+            total: u16::from_be_bytes([*total_high, *total_low]),
         },
         parts: Parts {
             piece: Place {
@@ -278,6 +278,7 @@ fn read_piece(payload: &[u8]) -> Result<Reading, ReadError>
 pub fn read(command: u8, payload: &[u8]) -> Result<Reading, ReadError>
     ensures { reading_of result ≡ decode_of command payload.now }
 {
+    // A kind to a reader each: a match is the plainest table.
     match profile_of(command).kind {
         Kind::Unlisted => Err(ReadError::Command),
         Kind::Empty => read_empty(command, payload),

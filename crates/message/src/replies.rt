@@ -1,11 +1,11 @@
 //! The replies of the box: to a received frame, and to a frame with a wrong sum. PROTOCOL 8.1 to 8.13.
-ghost use Rattle.std.specs.Prelude.{◌≡◌, []};
+ghost use Rattle.std.specs.Prelude.{◌≡◌, [], Err};
 ghost use Rattle.base.specs.Outcomes.{output};
 ghost use Rattle.frame.specs.Table.{row_of};
 ghost use Rattle.frame.specs.Wire.{frame_limit};
 ghost use Rattle.frame.specs.Calls.{write_of};
 ghost use Rattle.message.specs.Messages.{message_in};
-ghost use Rattle.message.specs.Table.{reading_of, reply_row_of};
+ghost use Rattle.message.specs.Table.{reading_of, cause_number, reply_row_of};
 ghost use Rattle.message.specs.Owed.{owed_for, handed, owed_after, code_for};
 ghost use Rattle.message.specs.Replies.{reject_of, reply_read_of, reply_frame_of, reply_of};
 
@@ -33,6 +33,19 @@ fn is_handed(owed: Owed) -> bool
     matches!(owed, Owed::AskBegin | Owed::AskStore | Owed::AskStop)
 }
 
+// A payload that is no message is rejected for the refusal of its reading: PROTOCOL 8.6, 8.8.
+impl From<ReadError> for Cause {
+    ghost from_gives = { λ refusal cause. cause_number cause ≡ (reading_of (Err refusal)).row.number };
+
+    fn from(refusal: ReadError) -> Self {
+        match refusal {
+            ReadError::Command => Cause::Command,
+            ReadError::Size => Cause::Size,
+            ReadError::Field => Cause::Field,
+        }
+    }
+}
+
 // The reply owed to a frame, by its reading. A command of the box is rejected whatever its payload is: PROTOCOL 8.7.
 // 19, 1D and 1F are handed to the caller whatever their payload is: PROTOCOL 8.9.
 fn owed_after(command: u8, reading: Result<Reading, ReadError>) -> Owed
@@ -49,12 +62,8 @@ fn owed_after(command: u8, reading: Result<Reading, ReadError>) -> Owed
     }
     match reading {
         Ok(Reading { message, .. }) => owed_for(message),
-        Err(ReadError::Command) => Owed::Reject {
-            cause: Cause::Command,
-        },
-        Err(ReadError::Size) => Owed::Reject { cause: Cause::Size },
-        Err(ReadError::Field) => Owed::Reject {
-            cause: Cause::Field,
+        Err(refusal) => Owed::Reject {
+            cause: refusal.into(),
         },
     }
 }
@@ -80,13 +89,15 @@ fn acknowledge(command: u8, number: u8, out: &mut [u8]) -> Result<Reply, WriteEr
 }
 
 // The code of a rejection: PROTOCOL 8.5 to 8.8.
-fn code_for(cause: Cause) -> Code
-    ensures { result ≡ code_for cause }
-{
-    match cause {
-        Cause::Sum => Code::Sum,
-        Cause::Command | Cause::BoxCommand => Code::Command,
-        Cause::Size | Cause::Field => Code::Other,
+impl From<Cause> for Code {
+    ghost from_gives = { λ cause code. code ≡ code_for cause };
+
+    fn from(cause: Cause) -> Self {
+        match cause {
+            Cause::Sum => Code::Sum,
+            Cause::Command | Cause::BoxCommand => Code::Command,
+            Cause::Size | Cause::Field => Code::Other,
+        }
     }
 }
 
@@ -95,7 +106,7 @@ fn reject(cause: Cause, number: u8, out: &mut [u8]) -> Result<Reply, WriteError>
     ensures { output (reply_row_of result) out.new
         ≡ reject_of frame_limit cause number out.old }
 {
-    let code = code_for(cause);
+    let code = Code::from(cause);
     let count = frame::write(head(0x12, number), &[code.into()], out)?;
     Ok(Reply::Rejected { count, code, cause })
 }

@@ -45,9 +45,13 @@ impl From<Way> for u8 {
 /// The error codes of a rejection: 1 to 4. PROTOCOL 7.13.
 #[derive(Clone, Copy, Debug, PartialEq, Eq)]
 pub enum Code {
+    /// 1: a wrong sum.
     Sum,
+    /// 2: an unknown command.
     Command,
+    /// 3: any other fault.
     Other,
+    /// 4: a file of a wrong type.
     FileType,
 }
 

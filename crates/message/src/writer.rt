@@ -204,11 +204,11 @@ impl Outgoing<'_> {
     }
 }
 
-// A number in eight bytes.
-fn eight_bytes(n: u64) -> [u8; 8]
-    ensures { result ≡ eight n [] }
+// A number in eight bytes. Not inline: the check of `information` closes only with what this one ensures.
+fn eight_bytes(number: u64) -> [u8; 8]
+    ensures { result ≡ eight number [] }
 {
-    n.to_be_bytes()
+    number.to_be_bytes()
 }
 
 // 0D: the high byte first; the reserved bits are 0. PROTOCOL 7.12.
