@@ -52,10 +52,7 @@ impl Link {
     pub fn is_in_range(&self) -> bool
         ensures { result ≡ in_range first_number max_repeats self.now }
     {
-        match self.waiting {
-            None => true,
-            Some(waiting) => waiting.repeats <= MAX_REPEATS && may_wait(waiting.command),
-        }
+        self.waiting.is_none_or(|wait| wait.repeats <= MAX_REPEATS && may_wait(wait.command))
     }
 }
 
