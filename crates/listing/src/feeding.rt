@@ -41,6 +41,7 @@ impl From<FeedError> for Stop {
 }
 
 /// What a call of the loop did: the bytes used, the bytes of text at the front of the buffer, and why it stopped.
+// A stop comes with bytes used and lines written before it, so that it cannot be an `Err`.
 #[derive(Clone, Copy, Debug, PartialEq, Eq)]
 pub struct Listed {
     pub used: usize,
@@ -66,6 +67,7 @@ fn feed_all(reader: &mut Reader, prefix: &[u8], bytes: &[u8], out: &mut [u8]) ->
 {
     let mut used = 0;
     let mut written = 0;
+    // Counted by hand: how many feeds the bytes take is not known before, and `break` says why the loop stopped.
     let stop = loop {
         if used == bytes.len() {
             break Stop::Done;

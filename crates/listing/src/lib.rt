@@ -1,4 +1,4 @@
-// The listing: lines of text, made at the front of the caller's buffer, and the loop that lists bytes. PROTOCOL 10.
+//! The listing: lines of text, made at the front of the caller's buffer, and the loop that lists bytes. PROTOCOL 10.
 #![tactic(auto)]
 
 mod decimal;

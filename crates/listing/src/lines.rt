@@ -42,7 +42,8 @@ fn word(verdict: Verdict) -> &'static [u8]
     }
 }
 
-// The line of a decided frame, and of the body that the reader holds.
+// The line of a decided frame, and of the body that the reader holds. A struct of `prefix`, `body` and `out` would be
+// no plainer: `line` and `add_line` pass them on, and here each goes another way.
 fn decided_line(
     decision: Decision,
     prefix: &[u8],
