@@ -28,7 +28,7 @@ NAMES = {"Option", "None", "Some", "Result", "Err", "Ok", "Clone", "Copy", "From
 BUILT_IN = {"and_then", "checked_add", "checked_sub", "contains", "copied", "copy_from_slice", "div_ceil", "err", "get"}
 BUILT_IN |= {"is_empty", "is_none", "is_ok", "is_err", "is_some", "len", "map", "map_err", "map_or", "max", "min", "ok"}
 BUILT_IN |= {"ok_or", "saturating_add", "saturating_sub", "split_at", "to_be_bytes", "unwrap_or", "wrapping_add"}
-BUILT_IN |= {"wrapping_sub"}
+BUILT_IN |= {"is_none_or", "wrapping_sub"}
 INTO = {"into": "from", "try_into": "try_from"}  # methods of std that call one of ours
 OPENING = {"(", "[", "{", ",", ";", "=", "=>", "return", "move"}  # what a closure may follow
 MACROS = {"matches"}
