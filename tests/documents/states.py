@@ -1,7 +1,8 @@
 """The records of docs/STATES.md against their declarations: the same fields, in order, with the same types.
 
 A range such as 0 to 255 may be all that a type holds. No claim knows the type, so this test holds it. A record is a
-struct or an enum; the fields of an enum are those of its variants, each of which stands on one line or on several.
+struct or an enum; the fields of an enum are those of its variants, each of which stands on one line or on several. What
+an `Option` may hold has its fields too.
 """
 import re
 
@@ -10,6 +11,7 @@ from tree import ROOT, SPAN, files, tables, text_of
 TYPE = re.compile(r"^pub (struct|enum) (\w+) \{\n(.*?)^\}", re.M | re.S)
 COMMENT = re.compile(r"//.*")
 FIELD = re.compile(r"\b(\w+): ([^{},]+?)\s*(?=[,}])")
+OPTION = re.compile(r"Option<(\w+)>")
 SECTION = re.compile(r"^## `(\w+)::(\w+)`\n(.*?)(?=^## |\Z)", re.M | re.S)
 
 
@@ -25,13 +27,17 @@ def declared(crate):
 
 
 def fields_in(types, name, path=""):
-    """The fields of a type and of the crate's own types inside it. A struct is its fields; an enum has a row too."""
+    """The fields of a type and of the crate's own types inside it.
+
+    A struct is its fields; an enum, and an option, has a row too.
+    """
     for field, kind in types[name][1]:
-        word, inner = types.get(kind, ("", []))
-        if word != "struct":
+        held = OPTION.sub(r"\1", kind)
+        word, inner = types.get(held, ("", []))
+        if word != "struct" or held != kind:
             yield path + field, kind
         if inner:
-            yield from fields_in(types, kind, f"{path}{field}.")
+            yield from fields_in(types, held, f"{path}{field}.")
 
 
 def stated(section):
@@ -51,6 +57,9 @@ def check_itself(checks):
     nested = types_in(line + "pub struct S {\n    pub at: u8,\n    pub t: T,\n}\n")
     inner = [(f"t.{name}", kind) for name, kind in fields]
     checks.test("a type inside another", list(fields_in(nested, "S")) == [("at", "u8"), ("t", "T"), *inner])
+    held = types_in(struct + "pub struct S {\n    pub t: Option<T>,\n    pub at: Option<u8>,\n}\n")
+    rows = [("t", "Option<T>"), *inner, ("at", "Option<u8>")]
+    checks.test("a type in an option", list(fields_in(held, "S")) == rows)
 
 
 def check(checks):
@@ -60,5 +69,6 @@ def check(checks):
     for crate, name, section in sections:
         found = list(fields_in(declared(crate), name))
         checks.test(f"the fields of {crate}::{name}", stated(section) == found, f"{stated(section)}, {found}")
-        other = section.replace("| `u", "| `i").replace("| `[u", "| `[i").replace("`Reader`", "`Link`")
+        other = section.replace("| `u", "| `i").replace("| `[u", "| `[i").replace("`Reader`", "`Transfer`")
+        other = other.replace("`Link`", "`Reader`")
         checks.test(f"another type of {crate}::{name} is found", stated(other) != found)
