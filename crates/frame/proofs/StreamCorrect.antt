@@ -1,4 +1,4 @@
--- stream_correct, the buyer's third demand; and never-state. Assumes nothing.
+-- stream_correct, what the buyer asks of a stream; and never-state. Assumes nothing.
 use Rattle.std.proofs.Common.{ℕ, ◌+◌, ◌≤◌, List, arith}
 use lib.ListN.{length-replicate}
 use Rattle.frame.specs.Calls.{fresh_of, zeros}

@@ -14,7 +14,7 @@ pub mod Rules
 pub mod Calls
 pub mod LogsComputed
 pub mod FramesComputed
--- Claims: what is proved. StreamCorrect is the buyer's third demand
+-- Claims: what is proved. StreamCorrect is what the buyer asks of a stream
 pub mod StreamCorrect
 pub mod WrongLogs
 pub mod LogExact

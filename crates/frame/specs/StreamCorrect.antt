@@ -1,4 +1,4 @@
--- Claims: stream_correct, the buyer's third demand, about a whole list of calls. PROTOCOL 5.1 to 5.11.
+-- Claims: stream_correct, what the buyer asks of a stream, about a whole list of calls. PROTOCOL 5.1 to 5.11.
 -- The record `StreamCorrect` is the statement to be judged; it stands here, next to its claim.
 -- Other claims: which decisions the calls give, and that the lists are unique.
 use Rattle.std.specs.Prelude.{◌≡◌, ℕ, ◌≤◌, ◌≢◌, ◌⊎◌, List, [], ◌∷◌, ◌++◌, length}

@@ -1,4 +1,4 @@
--- Claims: stream_correct, the buyer's third demand, of each direction of a capture. PROTOCOL 14.1, 14.9.
+-- Claims: stream_correct, what the buyer asks of a stream, of each direction of a capture. PROTOCOL 14.1, 14.9.
 use Rattle.std.specs.Prelude.{ℕ, ◌≤◌, ◌≡◌, List, [], ◌∷◌, ◌++◌, length}
 use Rattle.frame.specs.Wire.{widest}
 use Rattle.frame.specs.State.{State as Reader}
