@@ -110,7 +110,7 @@ static void replies(void)
 /* A report is offered at clock 0; a tick; a frame that fits it, or not. */
 static void links(void)
 {
-    begin_row("link::offer, link::tick_by_value, link::receive");
+    begin_row("Link::offer, Link::tick, Link::receive");
     TRY(stack_link, FINE, 7, 0, 0, 0, 0x05, 0, 100, 0x06, 7);
     TRY(stack_link, FINE, 7, 0, 0, 0, 0x05, 0, 200, 0x06, 7);
     TRY(stack_link, STRAY, 7, 0, 0, 0, 0x05, 0, 200, 0x06, 8);
@@ -124,7 +124,7 @@ static void links(void)
 /* A table of 5 bytes in pieces of 2, as in PROTOCOL 15; of the third piece one byte is left. */
 static void transfers(void)
 {
-    begin_row("transfer::begin");
+    begin_row("Transfer::begin");
     TRY(stack_begin, FINE, 0, 0, 0, 0, 0, 1, 5, TEXT("\0\0\0\5\0\2ab"), 2, TABLE, OUT);
     TRY(stack_begin, FINE, 5, 2, 1, 0xFF, 0, 1, 0xFF, TEXT("\0\0\0\5\0\0"), 2, TABLE, OUT);
     TRY(stack_begin, ROOM, 0, 0, 0, 0, 0, 1, 5, TEXT("\0\0\0\5\0\2ab"), 2, TABLE, SLICE(out, 20));
@@ -134,7 +134,7 @@ static void transfers(void)
     TRY(stack_begin, EMPTY, 0, 0, 0, 0, 0, 1, 5, TEXT("\0\0\0\5\0\2ab"), 0, TABLE, OUT);
     TRY(stack_begin, TOOBIG, 0, 0, 0, 0, 0, 1, 5, TEXT("\0\0\0\5\0\2ab"), 2, SLICE(table, 4), OUT);
     end_row();
-    begin_row("transfer::store");
+    begin_row("Transfer::store");
     TRY(stack_store, FINE, 5, 2, 0, 6, 0, TEXT("\0\1\0\3a1"), TABLE, OUT);
     TRY(stack_store, FINE, 5, 2, 2, 6, 0, TEXT("\0\3\0\3c"), TABLE, OUT);
     TRY(stack_store, FINE, 5, 2, 1, 6, 0, TEXT("\0\1\0\3\0\0"), TABLE, OUT);
@@ -147,14 +147,14 @@ static void transfers(void)
     TRY(stack_store, TURN, 0, 0, 0, 6, 0, TEXT("\0\1\0\3a1"), TABLE, OUT);
     TRY(stack_store, PIECE, 5, 2, 1, 6, 0, TEXT("\0\1\0\3a1"), TABLE, OUT);
     end_row();
-    begin_row("transfer::stop");
+    begin_row("Transfer::stop");
     TRY(stack_stop, FINE, 5, 2, 1, 6, NOTHING, OUT);
     TRY(stack_stop, FINE, 0, 0, 0, 6, NOTHING, OUT);
     TRY(stack_stop, ROOM, 5, 2, 1, 6, NOTHING, NOTHING);
     TRY(stack_stop, SIZE, 5, 2, 1, 6, TEXT("x"), OUT);
     TRY(stack_stop, STATE, 5, 2, 4, 6, NOTHING, OUT);
     end_row();
-    begin_row("transfer::cancel");
+    begin_row("Transfer::cancel");
     TRY(stack_cancel, FINE, 5, 2, 1, 7, 0, 9, OUT);
     TRY(stack_cancel, ROOM, 5, 2, 1, 7, 0, 9, NOTHING);
     TRY(stack_cancel, BUSY, 5, 2, 1, 7, 5, 9, OUT);
@@ -184,7 +184,7 @@ static void devices(void)
 {
     size_t command;
 
-    begin_row("device::handle, with a body that the caller holds");
+    begin_row("Device::handle, with a body that the caller holds");
     for (command = 0; command < 256; command++) {
         /* not 19, 1D and 1F, which are refused here under numbers of their own */
         struct call call = {(void (*)(void))stack_handle,
@@ -229,7 +229,7 @@ static void readers(void)
     static uint8_t wire[TROGONREED_MAX_FRAME];
     const size_t size = longest_frame(wire);
 
-    begin_row("frame::feed");
+    begin_row("Reader::feed");
     FEED(FRAME, BEAT "\x0D");
     FEED(SUM, BEAT "\x0E");
     FEED(MORE, BEAT);
@@ -241,7 +241,7 @@ static void readers(void)
     TRY(stack_feed, FRAME, SLICE(wire, size));
     TRY(stack_feed, MORE, NOTHING);
     end_row();
-    begin_row("frame::feed and device::handle, a turn of the main loop");
+    begin_row("Reader::feed and Device::handle, a turn of the main loop");
     ONE_TURN(FINE, BEAT "\x0D", OUT);
     ONE_TURN(ROOM, BEAT "\x0D", NOTHING);
     ONE_TURN(FINE, BEAT "\x0E", OUT);
