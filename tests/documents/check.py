@@ -29,10 +29,10 @@ NAME = re.compile(r"[^\W\d][\w′]*(?:-[\w′]+)*")
 ANTT = re.compile(
     r"^\s*(?:(?:pub|abbrev|unfoldable|data|record|ruleset|mod)\s+)*([^\s(){}:]+)(?=\s+(?::|\(|=))", re.M
 )
-# In Rattle: what a keyword declares, a field or parameter, a variant.
+# In Rattle: what a keyword declares, a field or parameter, a variant with named fields or with one value.
 RATTLE = re.compile(
     r"\b(?:fn|struct|enum|const|mod|impl|let|mut)\s+(\w+)|^\s*(?:pub\s+)?(\w+):|\b(\w+):\s"
-    r"|^\s*(\w+)(?:\s*\{.*\}?)?,?$",
+    r"|^\s*(\w+)(?:\s*\{.*\}?)?,?$|^    ([A-Z]\w*)\([A-Z]\w*\),$",
     re.M,
 )
 PYTHON = re.compile(r"^\s*(?:def|class)\s+(\w+)", re.M)
