@@ -1,4 +1,6 @@
 //! How a run ended, for the caller that makes the exit status of it: docs/COMMAND.md.
+ghost use Rattle.std.specs.Prelude.{◌≡◌};
+
 use std::env::{Env, FillError};
 
 // Whether the program was called with an argument, of whatever length.
@@ -9,7 +11,9 @@ fn has_argument(rt: &HostRuntime) -> bool {
 
 /// The program does not choose its exit status. With an argument, whatever it is, it marks on standard error how it
 /// ended: a run that ends without a mark ended early.
-pub fn mark(rt: &HostRuntime, line: &str) {
+pub fn mark(rt: &HostRuntime, line: &str)
+    ensures { result ≡ record {} }
+{
     if has_argument(rt) {
         let _ = eprintln!(rt; "{line}");
     }
