@@ -30,7 +30,7 @@ BUILT_IN |= {"is_empty", "is_none", "is_ok", "is_err", "is_some", "len", "map", 
 BUILT_IN |= {"ok_or", "saturating_add", "saturating_sub", "split_at", "to_be_bytes", "unwrap_or", "wrapping_add"}
 BUILT_IN |= {"is_none_or", "wrapping_sub"}
 INTO = {"into": "from", "try_into": "try_from"}  # methods of std that call one of ours
-OPENING = {"(", "[", "{", ",", ";", "=", "=>", "return", "move"}  # what a closure may follow
+OPENING = {"(", "[", "{", ",", ";", "=", "=>", "&", "mut", "return", "move"}  # what a closure may follow
 MACROS = {"matches"}
 CONVERTING = {"from": "From", "try_from": "TryFrom"}
 OF_NUMBERS = {"count_ones", "leading_zeros", "trailing_zeros", "MAX", "MIN", "BITS", "from_be_bytes", *CONVERTING}
@@ -130,20 +130,27 @@ def named_in(sources, item):
     for path, after, before in paths_in(item.tokens[2:]):
         if after == "!" and path[-1] not in MACROS:
             raise Unreadable(f"{item.name}: a macro, {path[-1]}")
+        if before == "::":
+            raise Unreadable(f"{item.name}: {path[0]} of a type that is in no path")
         if before == "." and after == "(":
-            methods = sources.methods.get(INTO.get(path[0], path[0]), {}).values()
-            if not methods and path[0] not in BUILT_IN:
-                raise Unreadable(f"{item.name}: there is no method {path[0]}")
-            yield from methods
+            yield from methods_named(sources, item, path[0])
         is_declared = item.kind == "trait" and before == "fn"
         if after == "!" or is_declared or is_local(path, after, before) or path[0] in SIZES and len(path) == 1:
             continue
         if path[0] in SIZES and path[1] in OF_NUMBERS:
             yield from made_by(sources, path[1], path[:1]) if path[1] in CONVERTING else ()
         elif path[0] in item.parameters or item.kind == "trait" and path[0] == "Self":
-            yield from sources.methods.get(path[-1], {}).values() if len(path) > 1 else ()
+            yield from methods_named(sources, item, path[-1]) if len(path) > 1 else ()
         else:
             yield from item_named(sources, item, path)
+
+
+def methods_named(sources, item, name):
+    """Every method of a name. One of std alone has to be known."""
+    methods = sources.methods.get(INTO.get(name, name), {}).values()
+    if not methods and name not in BUILT_IN:
+        raise Unreadable(f"{item.name}: there is no method {name}")
+    return methods
 
 
 def item_named(sources, item, path):

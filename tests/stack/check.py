@@ -65,7 +65,8 @@ def too_long(sources, item):
 
 def functions(sources, items):
     """The functions that items reach, by their names."""
-    return {found.name: found for item in items for found in reached(sources, item) if found.kind == "fn"}
+    found = [each for item in items for each in reached(sources, item) if each.kind == "fn"]
+    return {sources.compiled_name(each): each for each in found}
 
 
 def check_writer(checks):
@@ -89,9 +90,9 @@ def check_compiler(checks, crate, folder):
     """The functions that the compiler has are those that the sources have, and none of its arrays is missing there.
 
     Of the kit's functions the sources may know the word alone, so these are compared by their arrays. The sources may
-    have more functions of traits, where they do not say of which type a value is, and larger arrays, where they do not
-    say how wide an element is. An array of at most WIDEST bytes, as of a number's bytes, is not looked for. Returns the
-    compiler's functions.
+    have a method that is not called, beside one of its name that is, since they do not say of which type a value is; and
+    larger arrays, where they do not say how wide an element is. An array of at most WIDEST bytes, as of a number's
+    bytes, is not looked for. Returns the compiler's functions.
     """
     sources, top = sources_of(), folder / "mir" / crate
     if not mir.build(ROOT, crate, top):
@@ -102,7 +103,8 @@ def check_compiler(checks, crate, folder):
     ours = functions(sources, exported)
     theirs = {written_as(sources, ours, name) for name, _ in program} - {None}
     lost = {name for name in theirs - ours.keys() if name in ours or sources.is_whole(name.partition("::")[0])}
-    more = {name for name in ours.keys() - theirs if not ours[name].trait}
+    called = {name.rpartition("::")[2] for name in theirs & ours.keys() if ours[name].owner}
+    more = {name for name in ours.keys() - theirs if not (ours[name].owner and name.rpartition("::")[2] in called)}
     checks.test(f"{crate}: the compiler has the same functions", not lost and not more, f"{lost}, {more}")
     found = {size for item in exported for _, _, size in arrays_of(sources, item)}
     arrays = {size for _, function in program for size in mir.arrays_in(function)}

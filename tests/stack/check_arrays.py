@@ -150,6 +150,9 @@ NAMED = """
     fn tried_within(n: u8) -> Result<u8, Fault> {
         Ok(n.map(|b| kept(b)?))
     }
+    fn lost_of<P: Bytes>(n: P) -> P {
+        P::least_of_all(n)
+    }
     fn other<P>(n: Q) -> P {
         n
     }
@@ -190,6 +193,13 @@ NAMED = """
     impl From<u16> for Twice {
         fn from(n: u16) -> Twice {
             Twice(n)
+        }
+    }
+    use base::Kept as Same;
+    impl Same {
+        fn elsewhere(self) -> u8 {
+            let b = [0u8; 27];
+            b[0]
         }
     }
     trait Own {
@@ -247,6 +257,7 @@ FINDS = [
     ("what a try_into makes", INNER, "let k =", "let b = n.try_into(); let k =", 23),
     ("what a trait of ours does", INNER, "let k =", "let b = n.bytes(); let k =", 24),
     ("what a parameter of types does", INNER, "let k =", "let b = sized(n); let k =", 25),
+    ("what a type does in another module", INNER, "let k =", "let b = Kept::elsewhere(n); let k =", 27),
     ("a default that is derived", INNER, "let k =", "let b = Late::default(); let k =", 20),
     ("what a closure does", INNER, "let k =", "let b = n.map(|b| apart(b)); let k =", 8208),
     ("what a loop does", INNER, "let k =", "for b in n { let c = apart(b); } let k =", 8208),
@@ -295,6 +306,8 @@ LOST = [
     ("a word of a number", INNER, "let k =", "let b = u8::from_str_radix(n); let k ="),
     ("a default", INNER, "let k =", "let b = Wide::default(); let k ="),
     ("a function of a trait, by the trait's name", INNER, "let k =", "let b = Bytes::two(n); let k ="),
+    ("a function of a parameter of types", INNER, "let k =", "let b = lost_of(n); let k ="),
+    ("a function that follows a type in brackets", INNER, "let k =", "let b = <u8 as Bytes>::apart(n); let k ="),
     ("a parameter of types", INNER, "let k =", "let b = other(n); let k ="),
     ("a length that is a parameter", INNER, "let k =", "let b = of(n); let k ="),
     ("a type that has two functions of a name", INNER, "let k =", "let b = Twice::from(n); let k ="),

@@ -314,17 +314,25 @@ class Sources:
         So is `default`, where it is derived.
         """
         if len(rest) == 1:
-            method = self.methods.get(rest[0], {}).get((*item.path, rest[0])) or self.of_trait(item, rest[0])
+            method = self.methods.get(rest[0], {}).get((*item.path, rest[0])) or self.of_type(item, rest[0])
             is_variant = item.kind == "enum" and rest[0][0].isupper() and rest[0] in item.tokens
             if method or is_variant or rest[0] == "default" and "Default" in item.derived:
                 return method or item
         raise Unreadable(f"{item.name} has no {'::'.join(rest)}")
 
-    def of_trait(self, item, name):
-        """The function of this name in an `impl` of a trait for a type; None where there is none."""
-        found = [method for method in self.methods.get(name, {}).values()
-                 if method.trait and len(method.owner) == 1 and self.declared(method.home, method.owner[0]) == item]
+    def of_type(self, item, name):
+        """The function of this name in an `impl` for a type, in whatever module it is; None where there is none."""
+        found = [method for method in self.methods.get(name, {}).values() if self.owner_of(method) == item]
         if len(found) > 1:
             raise Unreadable(f"{item.name} has several {name}")
         return found[0] if found else None
+
+    def owner_of(self, method):
+        """The type whose function one is, where a crate declares it."""
+        return self.declared(method.home, method.owner[0]) if len(method.owner) == 1 else None
+
+    def compiled_name(self, item):
+        """The compiler's name of a function: one of a type alone has the name of the type's module before it."""
+        owner = self.owner_of(item) if item.owner and not item.trait else None
+        return f"{owner.name}::{item.path[-1]}" if isinstance(owner, Item) else item.name
 
