@@ -1,24 +1,24 @@
 -- Statement: the records and messages that a test asks for by numbers.
-use Rattle.std.specs.Prelude.{ℕ, true, false, cond, eqb}
+use Rattle.std.specs.Prelude.{ℕ, true, false, cond, None, eqb}
 use Rattle.link.specs.declared.state.Link.{Link}
-use Rattle.link.specs.declared.state.Wait.TheVariants.{Idle, Waiting}
+use Rattle.link.specs.Sending.{waits_for}
 use Rattle.link.specs.Calls.{link_of}
 use Rattle.message.specs.declared.counter.Mode.TheVariants as mode
 use Rattle.message.specs.declared.counter.Status.{Status}
 use Rattle.message.specs.declared.values.Extra.TheVariants as extra
 use Rattle.message.specs.declared.values.Message.{Message}
 use Rattle.message.specs.declared.values.Message.TheVariants as message
+use Rattle.transfer.specs.Transfers.{absent, opened}
 use Rattle.transfer.specs.declared.state.Transfer.{Transfer}
-use Rattle.transfer.specs.declared.state.Transfer.TheVariants.{Absent, Open}
 
 -- a link: with a command that waits under the next number, or idle where the command is 0
 abbrev pub link_from : ℕ → ℕ → ℕ → ℕ → Link
 link_from next waiting sent repeats =
-    cond (eqb waiting 0) (link_of next Idle) (link_of next (Waiting waiting next sent repeats))
+    cond (eqb waiting 0) (link_of next None) (link_of next (waits_for waiting next sent repeats))
 
 -- a transfer: none where its size is 0
 abbrev pub transfer_from : ℕ → ℕ → ℕ → Transfer
-transfer_from size piece stored = cond (eqb size 0) Absent (Open size piece stored)
+transfer_from size piece stored = cond (eqb size 0) absent (opened size piece stored)
 
 -- a status: feeding, mode gather, no alarm
 abbrev pub gathering : ℕ → ℕ → Status

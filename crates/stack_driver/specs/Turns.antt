@@ -7,7 +7,7 @@ use Rattle.frame.specs.State.{State}
 use Rattle.link.specs.Calls as link
 use Rattle.link.specs.Calls.{offer_of, tick_of, receive_of}
 use Rattle.link.specs.declared.state.Link.{Link}
-use Rattle.transfer.specs.declared.state.Transfer.TheVariants.{Absent}
+use Rattle.transfer.specs.Transfers.{absent}
 use Rattle.device.specs.Handling.{After, handle_of}
 
 -- a link is offered a command, ticks, and receives a frame: what it answers to the frame
@@ -23,7 +23,7 @@ fed_of limit bytes = feed_of limit (fresh_of limit) bytes
 -- what a new box does with an answer of the reader, by the body that the reader then holds
 abbrev pub new_box_of : ℕ → ℕ → ℕ → Row → List ℕ → ℕ → ℕ → List ℕ → List ℕ → After
 new_box_of limit first max answer body clock piece buffer out =
-    handle_of limit first max answer body Absent (link.fresh_of first) clock piece buffer out
+    handle_of limit first max answer body absent (link.fresh_of first) clock piece buffer out
 
 -- and so with the answer of a fresh reader
 abbrev pub turn_of : ℕ → ℕ → ℕ → List ℕ → ℕ → ℕ → List ℕ → List ℕ → After

@@ -1,5 +1,5 @@
-// The calls of a box's main loop for C, so that a test can measure the stack that each of them uses: docs/STACK.md.
-// A record is made here from the numbers that the test passes, and an answer is returned as the number of its row.
+//! The calls of a box's main loop for C, so that a test can measure the stack that each of them uses: docs/STACK.md.
+//! A record is made here from the numbers that the test passes, and an answer is returned as the number of its row.
 #![tactic(auto)]
 
 mod devices;

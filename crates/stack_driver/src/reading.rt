@@ -1,4 +1,4 @@
-// The reader. It is passed by value, with its bytes for a body.
+//! The reader, with its bytes for a body.
 ghost use Rattle.std.specs.Prelude.{◌≡◌};
 ghost use Rattle.frame.specs.Wire.{frame_limit};
 ghost use Rattle.stack_driver.specs.Turns.{fed_of};
@@ -6,12 +6,11 @@ ghost use Rattle.stack_driver.specs.Turns.{fed_of};
 use super::numbers::of_feed;
 use frame::Reader;
 
-// A feed of a fresh reader.
+/// A feed of a fresh reader.
 #[unsafe(no_mangle)]
 pub extern "C" fn stack_feed(bytes: &[u8]) -> u32
     ensures { result ≡ (fed_of frame_limit bytes.now).row.number }
 {
-    let fed = frame::feed(Reader::new(), bytes);
-    let answer = fed.answer;
-    of_feed(answer)
+    let mut reader = Reader::new();
+    of_feed(reader.feed(bytes))
 }

@@ -1,4 +1,4 @@
-// The link: a command is offered, the clock ticks, and a frame comes.
+//! The link: a command is offered, the clock ticks, and a frame comes.
 ghost use Rattle.std.specs.Prelude.{◌≡◌};
 ghost use Rattle.link.specs.Sending.{first_number, max_repeats};
 ghost use Rattle.stack_driver.specs.Records.{link_from};
@@ -7,7 +7,7 @@ ghost use Rattle.stack_driver.specs.Turns.{link_turn_of};
 use super::numbers::of_receive;
 use super::records::link_from;
 
-// Three calls in turn, each with the link that the last one returned; the answer is that of the received frame.
+/// Three calls in turn, each of the link that the last one left; the answer is that of the received frame.
 #[unsafe(no_mangle)]
 pub extern "C" fn stack_link(
     next: u8,
@@ -23,9 +23,8 @@ pub extern "C" fn stack_link(
     ensures { result ≡ (link_turn_of first_number max_repeats (link_from next waiting sent repeats) command clock later
         reply number).number }
 {
-    let offered = link::offer(link_from(next, waiting, sent, repeats), command, clock);
-    let ticked = link::tick_by_value(offered.link, later);
-    let received = link::receive(ticked.link, reply, number);
-    let answer = received.answer;
-    of_receive(answer)
+    let mut link = link_from(next, waiting, sent, repeats);
+    let _ = link.offer(command, clock);
+    let _ = link.tick(later);
+    of_receive(link.receive(reply, number))
 }

@@ -1,4 +1,4 @@
-// A counting table received: the calls of `transfer`. What waits in the link was sent just now.
+//! A counting table received: the calls of `transfer`. What waits in the link was sent just now.
 ghost use Rattle.std.specs.Prelude.{length};
 ghost use Rattle.frame.specs.Wire.{frame_limit};
 ghost use Rattle.link.specs.Sending.{first_number, max_repeats};
@@ -9,7 +9,7 @@ ghost use Rattle.stack_driver.specs.Records.{link_from, transfer_from};
 use super::numbers::{of_arrive, of_cancel};
 use super::records::{link_from, transfer_from};
 
-// A 19, of which pieces of `wanted` bytes are asked for.
+/// A 19, of which pieces of `wanted` bytes are asked for.
 #[unsafe(no_mangle)]
 pub extern "C" fn stack_begin(
     size: u32,
@@ -28,21 +28,12 @@ pub extern "C" fn stack_begin(
         (transfer_from size piece stored) (link_from next waiting clock 0) clock number payload.now wanted
         (length buffer.now) out.old)) }
 {
-    let begun = transfer::begin(
-        transfer_from(size, piece, stored),
-        link_from(next, waiting, clock, 0),
-        clock,
-        number,
-        payload,
-        wanted,
-        buffer,
-        out,
-    );
-    let answer = begun.answer;
-    of_arrive(answer)
+    let mut transfer = transfer_from(size, piece, stored);
+    let mut link = link_from(next, waiting, clock, 0);
+    of_arrive(transfer.begin(&mut link, clock, number, payload, wanted, buffer, out))
 }
 
-// A 1D.
+/// A 1D.
 #[unsafe(no_mangle)]
 pub extern "C" fn stack_store(
     size: u32,
@@ -58,13 +49,11 @@ pub extern "C" fn stack_store(
         (transfer_from size piece stored) number flags payload.now buffer.old
         out.old) }
 {
-    let transfer = transfer_from(size, piece, stored);
-    let arrived = transfer::store(transfer, number, flags, payload, buffer, out);
-    let answer = arrived.answer;
-    of_arrive(answer)
+    let mut transfer = transfer_from(size, piece, stored);
+    of_arrive(transfer.store(number, flags, payload, buffer, out))
 }
 
-// A 1F.
+/// A 1F.
 #[unsafe(no_mangle)]
 pub extern "C" fn stack_stop(
     size: u32,
@@ -77,13 +66,11 @@ pub extern "C" fn stack_stop(
     ensures { Numbered result out.new (of_left (stop_of frame_limit (transfer_from size piece stored) number
         payload.now out.old)) }
 {
-    let transfer = transfer_from(size, piece, stored);
-    let stopped = transfer::stop(transfer, number, payload, out);
-    let answer = stopped.answer;
-    of_arrive(answer)
+    let mut transfer = transfer_from(size, piece, stored);
+    of_arrive(transfer.stop(number, payload, out))
 }
 
-// A 27 of the box.
+/// A 27 of the box.
 #[unsafe(no_mangle)]
 pub extern "C" fn stack_cancel(
     size: u32,
@@ -97,8 +84,7 @@ pub extern "C" fn stack_cancel(
     ensures { Numbered result out.new (of_left (cancel_of frame_limit first_number max_repeats
         (transfer_from size piece stored) (link_from next waiting clock 0) clock out.old)) }
 {
-    let transfer = transfer_from(size, piece, stored);
-    let cancelled = transfer::cancel(transfer, link_from(next, waiting, clock, 0), clock, out);
-    let answer = cancelled.answer;
-    of_cancel(answer)
+    let mut transfer = transfer_from(size, piece, stored);
+    let mut link = link_from(next, waiting, clock, 0);
+    of_cancel(transfer.cancel(&mut link, clock, out))
 }

@@ -1,4 +1,4 @@
-// What the box writes: messages of its own, and replies.
+//! What the box writes: messages of its own, and replies.
 ghost use Rattle.std.specs.Prelude.{◌≡◌};
 ghost use Rattle.frame.specs.Wire.{frame_limit};
 ghost use Rattle.message.specs.Writing.{send_of};
@@ -29,7 +29,7 @@ fn status_message(command: u8, volume: u16, leaf: u32) -> Message
     Message::Report { status }
 }
 
-// Such a message.
+/// Such a message.
 #[unsafe(no_mangle)]
 pub extern "C" fn stack_status(
     command: u8,
@@ -43,11 +43,10 @@ pub extern "C" fn stack_status(
         (send_of frame_limit (status_of command volume leaf) number 0 opaque.now out.old) }
 {
     let message = status_message(command, volume, leaf);
-    let answer = message::write(message, opaque, number, 0, out);
-    of_send(answer)
+    of_send(message::write(message, opaque, number, 0, out))
 }
 
-// The device information, without attributes.
+/// The device information, without attributes.
 #[unsafe(no_mangle)]
 pub extern "C" fn stack_information(timeout: u16, opaque: &[u8], number: u8, out: &mut [u8]) -> u32
     ensures { Numbered result out.new
@@ -57,16 +56,14 @@ pub extern "C" fn stack_information(timeout: u16, opaque: &[u8], number: u8, out
         timeout,
         extra: Extra::Absent,
     };
-    let answer = message::write(message, opaque, number, 0, out);
-    of_send(answer)
+    of_send(message::write(message, opaque, number, 0, out))
 }
 
-// The reply to a received frame.
+/// The reply to a received frame.
 #[unsafe(no_mangle)]
 pub extern "C" fn stack_reply(command: u8, number: u8, payload: &[u8], out: &mut [u8]) -> u32
     ensures { Numbered result out.new
         (reply_frame_of frame_limit command number payload.now out.old) }
 {
-    let answer = message::reply_frame(command, number, payload, out);
-    of_reply(answer)
+    of_reply(message::reply_frame(command, number, payload, out))
 }
