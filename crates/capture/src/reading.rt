@@ -82,7 +82,7 @@ impl Refusal {
 }
 
 impl Taken {
-    /// How many bytes were taken.
+    /// How many bytes were taken. A match, because it is the table of the three.
     pub fn count(self) -> usize
         ensures { result ≡ taken_number self }
     {

@@ -48,6 +48,7 @@ impl Device {
     }
 
     // The reply of `message` stands, or a 19, 1D or 1F that it hands over goes to the transfer. PROTOCOL 16.3, 16.4.
+    // Variant by variant, and no `From<Reply>`: those three have no counterpart in `Handled`.
     #[tactic(auto, unfolding(crate::specs::Handling::answer_of))]
     fn answer(
         &mut self,

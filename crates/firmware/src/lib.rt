@@ -34,6 +34,7 @@ pub extern "C" fn trogonreed_write_frame(
         number,
         flags,
     };
+    // `as`, because no count of a frame is refused by a u32: PROTOCOL 2.8.
     match frame::write(head, payload, out) {
         Ok(count) => count as u32,
         Err(WriteError::Room { needed }) => NO_ROOM + needed as u32,

@@ -111,6 +111,7 @@ impl Scan {
             1 => match usize::from(self.length) * 256 + usize::from(byte) {
                 0..5 => (closed, Some(Verdict::Short)),
                 length if length > LIMIT => (closed, Some(Verdict::Long)),
+                // `as`, because no length up to the limit is refused by a u16.
                 length => (grown.of_length(length as u16), None),
             },
             // A record that a caller made up may name any length: PROTOCOL 3.18.

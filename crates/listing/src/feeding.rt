@@ -16,7 +16,7 @@ use frame::{Fed, FeedError, Reader};
 // No answer's line has more bytes from its word on: PROTOCOL 10.9.
 const LINE_ROOM: usize = 132;
 
-/// Why a loop stopped: PROTOCOL 10.10.
+/// Why a loop stopped: PROTOCOL 10.10. Not an `Err`: lines are written already, and counted beside it.
 #[derive(Clone, Copy, Debug, PartialEq, Eq)]
 pub enum Stop {
     /// All bytes are used: 0.

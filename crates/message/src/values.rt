@@ -140,7 +140,7 @@ pub enum Message {
 }
 
 impl Message {
-    // The command of its frame.
+    // The command of its frame: the table of the messages.
     pub(crate) fn command(self) -> u8
         ensures { result ≡ command_in self }
     {

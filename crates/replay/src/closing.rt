@@ -63,7 +63,7 @@ fn end_line<'a>(reader: &Reader, prefix: &[u8], line: &'a mut [u8; 160]) -> &'a 
 }
 
 impl Replay {
-    // The end lines, of the module's bytes and then of the box's.
+    // The end lines, of the module's bytes and then of the box's. In arrays, because nothing here takes memory.
     fn put_ends(&self, out: &mut [u8]) -> Result<usize, WriteError>
         ensures { Writes result out.new
             (placed (end_lines frame_limit (state_of self.now)) out.old) }

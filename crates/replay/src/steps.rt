@@ -14,7 +14,7 @@ use super::state::Replay;
 use capture::{Cursor, Direction, NextError, Record, Refusal, Taken};
 use listing::Listed;
 
-/// Why a play stopped: PROTOCOL 14.4.
+/// Why a play stopped: PROTOCOL 14.4. Not an `Err`: lines are written already, and counted beside it.
 #[derive(Clone, Copy, Debug, PartialEq, Eq)]
 pub enum Stop {
     /// More bytes are needed: 0.
@@ -77,7 +77,8 @@ impl Step {
 }
 
 impl Replay {
-    // The listing's loop over some bytes of a direction, by its reader. The other reader stays.
+    // The listing's loop over some bytes of a direction, by its reader. The other reader stays. A match, because a replay
+    // has two readers with names, and a line's prefix goes with each.
     fn list_part(&mut self, direction: Direction, part: &[u8], out: &mut [u8]) -> Listed
         ensures listed { part_left (direction_number direction) result (state_of self.new) out.new
             ≡ left_by (list_of frame_limit (prefix_of (direction_number direction))
@@ -118,6 +119,7 @@ impl Replay {
                 }
             }
             stop => {
+                // `as`, because a payload has no more bytes than a u16 counts.
                 self.fed = fed + used as u16;
                 Step {
                     used: 0,

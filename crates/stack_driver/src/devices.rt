@@ -1,4 +1,5 @@
-//! What the box does with an answer of the reader: `device`. What waits in the link was sent just now.
+//! What the box does with an answer of the reader: `device`. What waits in the link was sent just now. C passes records
+//! as their numbers, one by one.
 ghost use Rattle.std.specs.Prelude.{length};
 ghost use Rattle.frame.specs.Wire.{frame_limit};
 ghost use Rattle.frame.specs.Table.{decided_row};

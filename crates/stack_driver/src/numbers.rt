@@ -1,4 +1,4 @@
-//! The number of each answer. PROTOCOL 12.4.
+//! The number of each answer. PROTOCOL 12.4. C takes an answer as one number, so each has a match here.
 ghost use Rattle.std.specs.Prelude.{◌≡◌, Err};
 ghost use Rattle.device.specs.Table.{handle_row_of};
 ghost use Rattle.frame.specs.Table.{verdict_number, row_of};

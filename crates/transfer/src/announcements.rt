@@ -48,7 +48,7 @@ fn numbered(message: Message, bytes: Place) -> Option<Piece>
     }
 }
 
-// What a 19 says, unless it is faulty.
+// What a 19 says, unless it is faulty. One function for this and the next would be handed what it takes of a message.
 pub(crate) fn announcement_of(payload: &[u8]) -> Option<Announcement>
     ensures { result ≡ announcement_of payload.now }
 {

@@ -42,7 +42,7 @@ impl Open {
         }
     }
 
-    // Whether each field is in its range.
+    // Whether each field is in its range. First the two that the count of pieces is divided by.
     fn is_in_range(self) -> bool
         ensures { result ≡ open_in_range (Some self) }
     {
@@ -66,10 +66,7 @@ impl Transfer {
     pub fn is_in_range(&self) -> bool
         ensures { result ≡ in_range_of self.now }
     {
-        match self.open {
-            None => true,
-            Some(open) => open.is_in_range(),
-        }
+        self.open.is_none_or(|open| open.is_in_range())
     }
 
     /// How far a transfer is: `None` where there is no table. PROTOCOL 15.12. STATE where a field is out of its range.
