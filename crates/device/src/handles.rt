@@ -87,8 +87,9 @@ impl Device {
 
     /// An answer of the reader, by the body that the reader then holds: the link receives a frame, and the reply, also
     /// that of `transfer`, is at the front of the output. Beside the answer stands the wait that the frame ended: a
-    /// reply without room does not undo what the link received. Clock, piece size, buffer and output come anew with each
-    /// call: a struct of them would be made and taken apart for one call.
+    /// reply without room does not undo what the link received.
+    // Clock, piece size, buffer and output come anew with each call: a struct of them would be made and taken apart for
+    // one call.
     #[tactic(auto, unfolding(crate::specs::Handling::handle_of))]
     pub fn handle(
         &mut self,

@@ -77,8 +77,8 @@ impl Step {
 }
 
 impl Replay {
-    // The listing's loop over some bytes of a direction, by its reader. The other reader stays. A match, because a replay
-    // has two readers with names, and a line's prefix goes with each.
+    // The listing's loop over some bytes of a direction, by its reader. The other reader stays. A match, because a
+    // replay has two readers with names, and a line's prefix goes with each.
     fn list_part(&mut self, direction: Direction, part: &[u8], out: &mut [u8]) -> Listed
         ensures listed { part_left (direction_number direction) result (state_of self.new) out.new
             ≡ left_by (list_of frame_limit (prefix_of (direction_number direction))
