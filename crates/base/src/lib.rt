@@ -1,4 +1,4 @@
-//! What the layers share: bytes at a place, big-endian numbers, slices of the caller's data, and the outcome of a write.
+//! What the layers share: bytes at a place, big-endian numbers, slices of the caller's data, how a write came out.
 #![tactic(auto)]
 
 mod bytes;

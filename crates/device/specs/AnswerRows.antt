@@ -49,7 +49,9 @@ pub record NamedRows (n m : ℕ) : Type 0 where
   pub refused :
       map (λ (r : Refusal). handle_row_of (Ok (done.Refused n r))) refusals
       ≡ map (λ (k : ℕ). row k (n ∷ [])) (32 ∷ 61 ∷ 62 ∷ 64 ∷ 63 ∷ 65 ∷ 66 ∷ [])
-  pub waits : map ended_row_of (None ∷ Some (record { command = n; number = m }) ∷ []) ≡ row 0 [] ∷ row 0 (n ∷ m ∷ []) ∷ []
+  pub waits :
+      map ended_row_of (None ∷ Some (record { command = n; number = m }) ∷ [])
+      ≡ row 0 [] ∷ row 0 (n ∷ m ∷ []) ∷ []
 
 -- of all values
 abbrev pub RowsNamed : Type 0

@@ -48,7 +48,8 @@ pub record FieldsExact (g : Given) (answer : Row) (body : List ℕ) : Type 0 whe
   pub repeats : (t : Transfer) (next command number sent repeats : ℕ)
       → 3 ≤ repeats → OutOfRange g answer body t (link_of next (waits_for command number sent repeats))
   pub command : (t : Transfer) (next command number sent repeats : ℕ)
-      → among command waiters ≡ false → OutOfRange g answer body t (link_of next (waits_for command number sent repeats))
+      → among command waiters ≡ false
+      → OutOfRange g answer body t (link_of next (waits_for command number sent repeats))
   pub size : (l : Link) (piece stored : ℕ) → OutOfRange g answer body (opened 0 piece stored) l
   pub piece : (l : Link) (size stored : ℕ) → OutOfRange g answer body (opened size 0 stored) l
   pub pieces : (l : Link) (size piece stored : ℕ)

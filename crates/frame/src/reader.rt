@@ -82,8 +82,8 @@ impl Reader {
         requires { Ready frame_limit (scan_of self.old.scan) (length bytes.now) }
         ensures { fed_of (Ok result, self.new) ≡ run_of frame_limit bytes.now 0 (state_of self.old) }
     {
-        // `break` carries what was decided, as rule 3.3 names the form (docs/DECISIONS.md, "Forms that the rules name").
-        // A `for` gives no value, and would store the scan at two exits.
+        // `break` carries what was decided: the form of rule 3.3 (docs/DECISIONS.md, "Forms that the rules name"). A
+        // `for` gives no value, and would store the scan at two exits.
         let mut scan = self.scan;
         let mut count = 0;
         let decision = loop {
