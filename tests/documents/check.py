@@ -3,7 +3,7 @@
 Every name in a code span of README.md, CONTRIBUTING.md and docs/*.md is declared somewhere: a definition, claim, call,
 type, field, variant, file, folder, wrong program or command word. In a table of claims the first column names
 theorems, and in a table of calls public functions. Notes, CHANGELOG.md, docs/PORT.md and docs/DESIGN-PASS.md speak of
-earlier trees, so their names are not looked up. docs/WRONG_PROGRAMS.md is what tests/mutants/table.py makes of the edits.
+earlier trees, so their names are not looked up. docs/WRONG_PROGRAMS.md is what tests/mutants/table.py makes.
 Beside this, rules.py checks the numbers of rules and their citations, trace.py what holds each rule, specs.py the
 specifications, promises.py the promises of public calls, and states.py the fields of records.
 """

@@ -90,8 +90,8 @@ def check_compiler(checks, crate, folder):
     """The functions that the compiler has are those that the sources have, and none of its arrays is missing there.
 
     Of the kit's functions the sources may know the word alone, so these are compared by their arrays. The sources may
-    have a method that is not called, beside one of its name that is, since they do not say of which type a value is; and
-    larger arrays, where they do not say how wide an element is. An array of at most WIDEST bytes, as of a number's
+    have a method that is not called, beside one of its name that is, since they do not say of which type a value is;
+    and larger arrays, where they do not say how wide an element is. An array of at most WIDEST bytes, as of a number's
     bytes, is not looked for. Returns the compiler's functions.
     """
     sources, top = sources_of(), folder / "mir" / crate

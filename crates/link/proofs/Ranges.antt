@@ -1,5 +1,6 @@
 -- The ranges of a link, in literal numbers and for any first number. Assumes nothing.
-use Rattle.std.proofs.Common.{◌≡◌, ℕ, ◌≤◌, Bool, true, false, ◌&&◌, leb, None, sym, refl, ◌∙◌, true≢false, arith, le-leb}
+use Rattle.std.proofs.Common.{◌≡◌, ℕ, ◌≤◌, Bool, true, false, ◌&&◌, leb, None, sym, refl, ◌∙◌, true≢false}
+use Rattle.std.proofs.Common.{arith, le-leb}
 use borrow.Author.Tests.{lt-leb}
 use Rattle.base.specs.Keys.{among}
 use Rattle.link.specs.Sending.{waits_for, first_number, max_repeats}

@@ -1,6 +1,7 @@
 -- Logs, entry by entry: the numbers used, what stands after a part of a log, and what waits after an accepted offer.
 -- Assumes nothing.
-use Rattle.std.proofs.Common.{◌≡◌, ℕ, suc, ◌+◌, ◌≤◌, Bool, true, false, cond, None, Some, List, [], ◌∷◌, ◌++◌, length, sym}
+use Rattle.std.proofs.Common.{◌≡◌, ℕ, suc, ◌+◌, ◌≤◌, Bool, true, false, cond, None, Some, List, [], ◌∷◌, ◌++◌}
+use Rattle.std.proofs.Common.{length, sym}
 use Rattle.std.proofs.Common.{refl, ap, ◌∙◌, true≢false, add-zero, add-one, arith}
 use Rattle.base.proofs.Tests.{by_test}
 use Rattle.link.specs.Sending.{Wait, waits_for, number_at}
