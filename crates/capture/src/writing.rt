@@ -30,6 +30,7 @@ pub fn write_record(
         return Err(WriteError::Payload);
     }
     let [highest, higher, lower, lowest] = milliseconds.to_be_bytes();
+    // `as`, because no size that passed the test is refused by a u16.
     let [high, low] = (payload.len() as u16).to_be_bytes();
     let head = [
         u8::from(direction),

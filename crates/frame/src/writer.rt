@@ -27,6 +27,7 @@ impl Head {
         requires { size + 5 ≤ frame_limit }
         ensures { result ≡ head_of size self.command self.number self.flags }
     {
+        // `as`, because no size that fits a frame is refused by a u16.
         let [length_high, length_low] = (size as u16 + 5).to_be_bytes();
         let [flags_high, flags_low] = self.flags.to_be_bytes();
         [

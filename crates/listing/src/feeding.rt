@@ -59,8 +59,7 @@ fn add_line(fed: Fed, prefix: &[u8], body: &[u8], out: &mut [u8], at: usize) -> 
     at + base::count(line(Ok(fed), prefix, body, &mut out[at..]))
 }
 
-// Feeds bytes to a reader and puts the line of each answer. How many feeds there are is not known before, so the loop
-// is left by `break`.
+// Feeds bytes to a reader and puts the line of each answer.
 fn feed_all(reader: &mut Reader, prefix: &[u8], bytes: &[u8], out: &mut [u8]) -> Listed
     ensures { left_of (result, reader.new) out.new ≡ left_by (loop_of frame_limit prefix.now
         (state_of reader.old) bytes.now (length out.old)) out.old }

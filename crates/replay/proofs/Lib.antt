@@ -15,6 +15,7 @@ pub mod WindowLaws
 pub mod Sides
 pub mod Told
 pub mod TurnReplays
+pub mod ClosingLaws
 pub mod Directions
 -- by computation
 pub mod WorkedReplays

@@ -1,4 +1,7 @@
 //! A transfer: a counting table that the module sends piece by piece, into the caller's buffer. PROTOCOL 15.
+//!
+//! Contracts hand the link's figures to the models (`first_number max_repeats`), because claims on `begin_of` and
+//! `cancel_of` are about every figure.
 #![tactic(auto)]
 
 mod announcements;

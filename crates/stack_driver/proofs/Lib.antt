@@ -1,0 +1,2 @@
+-- Laws of measured calls.
+pub mod Laws
