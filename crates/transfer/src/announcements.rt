@@ -1,7 +1,7 @@
 //! What a received 19 or 1D says, as `message` reads it. PROTOCOL 7.15, 7.16.
 //!
-//! Check code and bytes stay places, and not slices: `message::read` answers with places (`decode_of`), and `code_at` and
-//! `bytes_at` are about these.
+//! Check code and bytes stay places, and not slices: `message::read` answers with places (`decode_of`), and `code_at`
+//! and `bytes_at` are about these.
 ghost use Rattle.std.specs.Prelude.{◌≡◌, [], ◌∷◌, ℕ, Some};
 ghost use Rattle.message.specs.Messages.{message_in};
 ghost use Rattle.transfer.specs.Payloads.{announcement_of, piece_of};
