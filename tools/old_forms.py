@@ -17,6 +17,7 @@ It reads the sources line by line and by item; what it prints is a place to look
 import collections
 import pathlib
 import re
+import signal
 import sys
 
 TOP = pathlib.Path(".")
@@ -54,6 +55,8 @@ def functions(text):
         end = text.find("\n" + found.group(1) + "}", start)
         whole = text[start:end if end > 0 else len(text)]
         head, _, body = whole.partition("\n" + found.group(1) + "{")
+        if not body:
+            head, _, body = whole.partition(" {\n")
         line = text.count("\n", 0, start) + 1
         yield found.group(2), line, head, body
 
@@ -96,7 +99,7 @@ def answers():
             flags = re.findall(r"(\w+): bool", head)
             if flags and re.search(r"-> (\w+Result|Check)\b", head):
                 yield path, line, f"fn {name}: handed {', '.join(flags)}"
-            if re.search(r"_number$|^number$", name) and "match" in body and "fn number(self)" not in head:
+            if re.search(r"_number$|^number$", name) and "match" in body:
                 yield path, line, f"fn {name}: a number for a kind"
             if re.search(r"_of$", name) and re.search(r"\d+ => \w+::", body) and "TryFrom" not in text[:1]:
                 yield path, line, f"fn {name}: a kind of a number"
@@ -110,7 +113,7 @@ TWINS = [
     ("checked checked_with", "message"), ("way_allowed code_allowed", "message"), ("way_of code_of mode_of", "message"),
     ("way_number code_number mode_number", "message"), ("write_announcement write_ready write_piece", "message"),
     ("status_allowed control_allowed", "message"), ("status_of control_of", "message"), ("write_first write_last", "standard_io"),
-    ("last play_head", "replay"), ("tick tick_by_value", "link"), ("announcement_of piece_of stop_faulty", "transfer"),
+    ("last play_head", "replay"), ("tick tick_by_value ticked", "link"), ("announcement_of piece_of stop_faulty", "transfer"),
     ("is_refusal refusal", "listing"), ("has_argument", "list_program replay_program box_program"),
 ]
 
@@ -144,11 +147,13 @@ def loops():
 def by_hand():
     for path, text in sources():
         for name, line, head, body in functions(text):
+            if name in ("from", "try_from"):
+                continue
             if re.search(r"-> bool", head) and re.search(r"=> (true|false)", body):
                 yield path, line, f"fn {name}: a match that says true or false"
             elif re.search(r"-> bool", head) and re.search(r"return (true|false);", body):
                 yield path, line, f"fn {name}: true or false by returns"
-            elif re.search(r"-> (u8|u64|u32|usize)", head) and len(re.findall(r"\w+::\w+[^=\n]*=> \d+", body)) > 1 and name != "number":
+            elif re.search(r"-> (u8|u64|u32|usize)", head) and len(re.findall(r"\w+::\w+[^=\n]*=> \d+", body)) > 1 and "number" not in name:
                 yield path, line, f"fn {name}: numbers of variants"
             elif len(re.findall(r"(\w+)::(\w+)[^=\n]*=> \w+::\2\b", body)) > 1:
                 yield path, line, f"fn {name}: variant by variant into another enum"
@@ -172,7 +177,7 @@ GROUPS = [
     ("prefix", "body", "out"), ("size", "piece", "stored"), ("start", "end", "prefix"), ("number", "body", "transfer", "heard"),
     ("clock", "piece", "buffer", "out"), ("reader", "input", "out"),
 ]
-FACTS = ["limit ≤ 65279", "first_number max_repeats", "consumed.0 < 2 ^ 62", "Ready limit", "length word.now ≤ 64"]
+FACTS = ["limit ≤ 65279", "first_number max_repeats", "consumed.0 < 2 ^ 62", "Ready limit", "Ready frame_limit", "length word.now ≤ 64"]
 
 
 def together():
@@ -207,10 +212,10 @@ def beside():
 def switches():
     for path, text in sources():
         for name, line, head, body in functions(text):
-            arms = re.findall(r"^\s+[\w:]+(?: \{[^}]*\}|\([^)]*\))? => (?:\{\s*)?(\w+(?:::\w+)?)\(", body, re.M)
+            arms = re.findall(r"^\s+[\w:]+(?: \{[^}]*\}|\([^)]*\))? => (?:\{\s*)?(\w+(?:(?:::|\.)\w+)*)\(", body, re.M)
             if len(set(arms)) >= 4:
                 yield path, line, f"fn {name}: {len(arms)} arms to {len(set(arms))} helpers"
-            if "Direction::FromModule =>" in body and name not in ("number",):
+            if "Direction::FromModule =>" in body and name != "from":
                 yield path, line, f"fn {name}: by direction"
 
 
@@ -225,6 +230,7 @@ POINTS = {"1": answers, "2": twins, "3": loops, "4": by_hand, "5": together, "6"
 
 def main():
     words = sys.argv[1:]
+    signal.signal(signal.SIGPIPE, signal.SIG_DFL)
     if "--crates" in words:
         names = [line.split()[0].rstrip(":") for line in (TOP / "crates.txt").read_text(encoding="utf-8").splitlines()]
         print("| crate | " + " | ".join(POINTS) + " |")

@@ -18,8 +18,8 @@ fn front(bytes: &[u8]) -> u16
     u16::from_be_bytes([byte_at(bytes, 0), byte_at(bytes, 1)])
 }
 
-// Twins that stay, each a line above another or above std: they are public, and docs/API.md names each of the four with
-// its definition.
+// Twins that stay, since one for both widths would be no plainer: each is a line above another or above std, and the
+// claims `worked_numbers`, `numbers_spelled` and `read_back` are about each.
 
 /// The number of two bytes at a place.
 pub fn two_at(bytes: &[u8], at: usize) -> u16

@@ -21,6 +21,7 @@ pub struct StateError;
 
 impl WriteError {
     /// Its number in the table of answers: PROTOCOL 12.4.
+    // A method, and no `From`: the number is the answer's in the table, and no value that another type would take.
     pub fn number(self) -> u8
         ensures { result ≡ (unwritten_row_of self).number }
     {

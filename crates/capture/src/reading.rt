@@ -69,6 +69,7 @@ pub enum Ending {
 
 impl Refusal {
     /// Its number, as it is printed.
+    // A method, and no `From`: the number is the answer's in the table, and no value that another type would take.
     pub fn number(self) -> u8
         ensures { result ≡ refusal_number self }
     {

@@ -52,6 +52,7 @@ impl Link {
     }
 
     /// A tick of a link in its own place: PROTOCOL 9.14.
+    // Rule 9.14 names both forms, this one thin above the other (docs/DECISIONS.md, "Forms that the rules name").
     pub fn tick(&mut self, clock: u32) -> Result<Option<Tick>, StateError>
         ensures { ticked_of result self.new ≡ tick self.old clock }
     {

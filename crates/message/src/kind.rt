@@ -47,6 +47,7 @@ pub enum Cause {
 
 impl Cause {
     /// The number of the answer that caused the rejection; 0 for a command that only the box sends. PROTOCOL 8.13.
+    // A method, and no `From`: the number is the answer's in the table, and no value that another type would take.
     pub fn number(self) -> u8
         ensures { result ≡ cause_number self }
     {

@@ -247,6 +247,7 @@ pub fn write(
         flags,
     };
     let outgoing = Outgoing { head, opaque };
+    // A match, because it is the table: what each message puts into its payload.
     match message {
         Message::Empty { .. } => outgoing.empty(out),
         Message::Information { timeout, extra } => outgoing.information(timeout, extra, out),

@@ -100,6 +100,7 @@ impl Replay {
             (direction_number found.direction) (state_of self.old) bytes.now (length out.old))
             (direction_number found.direction) found.count next.place (state_of self.old)) out.old }
     {
+        // Read before the readers are lent.
         let fed = self.fed;
         let payload = capture::payload(bytes);
         let part = base::part(payload, usize::from(fed), payload.len());

@@ -1,5 +1,6 @@
 //! The calls of a box's main loop for C, so that a test can measure the stack that each of them uses: docs/STACK.md.
 //! A record is made here from the numbers that the test passes, and an answer is returned as the number of its row.
+//! That is C's interface: so numbers travel together, and contracts hand the link's figures to the models.
 #![tactic(auto)]
 
 mod devices;

@@ -59,6 +59,7 @@ impl From<WriteError> for ArriveError {
 
 impl Refusal {
     /// The number of a refusal: PROTOCOL 15.11.
+    // A method, and no `From`: the number is the answer's in the table, and no value that another type would take.
     pub fn number(self) -> u8
         ensures { result ≡ refusal_number self }
     {

@@ -78,6 +78,7 @@ fn write_ready(
     ensures { Writes result out.new (after (take from out.old)
         (write_of frame_limit 0x1B number 0 (ready_payload piece code.now) (drop from out.old))) }
 {
+    // Not `?`: only the frame writer's refusal is passed on, and the three others are one case.
     match message::write(Message::Ready { piece }, code, number, 0, &mut out[from..]) {
         Ok(count) => Ok(count),
         Err(error) => Err(match error {
@@ -114,6 +115,7 @@ pub(crate) fn write_pair(
 {
     let ready = accept_size(number);
     let from = ready.min(out.len());
+    // Not `?`: the refusal's size has that of the 1A added.
     match write_ready(piece, code, next, out, from) {
         Ok(count) => {
             // It has the room.
