@@ -135,14 +135,18 @@ def type_parameters(tokens):
 
 
 def spelled(tokens):
-    """The compiler's name of a type or a trait, as it stands in the name of an `impl`: `&[u8]` is RefSliceU8."""
+    """The compiler's name of a type or a trait, as it stands in the name of an `impl`: `&[u8]` is RefSliceU8.
+
+    A lifetime has no name there.
+    """
     if tokens[:1] == ("&",):
         return "Ref" + spelled(tokens[1:])
     if tokens[:1] == ("[",) and closing(tokens, 0) == len(tokens) - 1 and len(split(tokens[1:-1], ";")) == 1:
         return "Slice" + spelled(tokens[1:-1])
     if "<" in tokens and tokens[-1] == ">":
         at = tokens.index("<")
-        return spelled(tokens[:at]) + "".join(map(spelled, split(tokens[at + 1 : -1], ",")))
+        inside = [each for each in split(tokens[at + 1 : -1], ",") if not each[0].startswith("'")]
+        return spelled(tokens[:at]) + "".join(map(spelled, inside))
     if len(tokens) == 1 and tokens[0][0].isalpha():
         return tokens[0][0].upper() + tokens[0][1:]
     raise Unreadable(f"an impl names {' '.join(tokens)}")

@@ -4,7 +4,7 @@ use Rattle.std.proofs.Common.{sym, refl, ap, ◌∙◌, append-nil, arith, lengt
 use Rattle.std.proofs.lemmas.List.{take_more}
 use Rattle.std.proofs.lemmas.Grind.{flat_map-append}
 use Rattle.std.specs.Borrow.{Bor}
-use Rattle.frame.specs.Wire.{stuff, wire, joined}
+use Rattle.frame.specs.Wire.{stuff, wire, joined, joined_chunks}
 use Rattle.frame.specs.Calls.{framed, Added}
 use Rattle.base.specs.Stores.{PutAt}
 use Rattle.base.specs.Sums.{total}
@@ -142,7 +142,16 @@ pub put_framed : (out body : List ℕ) {b : List ℕ} {q : ℕ}
     → PutAt (set (set out 0 255) 1 255) 2 (stuff body) q b → PutAt out 0 (wire body) q b
 put_framed out body e = (omega arith, e.1)
 
--- ---- the size of a frame from its head, payload and sum
+-- ---- sizes: of three chunks, and of a frame from its head, payload and sum
+
+pub chunks_length : (first second third : List ℕ)
+    → length (joined_chunks first second third) ≡ length first + (length second + length third)
+chunks_length first second third = simp length-append
+
+pub stuffed_length : (first second third : List ℕ)
+    → length (stuff (joined_chunks first second third)) ≡ length (stuff first)
+    + (length (stuff second) + length (stuff third))
+stuffed_length first second third = simp (stuff-append, length-append)
 
 pub framed-length : (head payload : List ℕ) (sum : ℕ)
     → length (framed head payload sum) ≡ 2 + length (stuff head) + length (stuff payload) + length (stuff (sum ∷ []))

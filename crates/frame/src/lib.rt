@@ -14,4 +14,4 @@ pub use body::{command, flags, number, payload};
 pub use place::{BodyPlace, WirePlace};
 pub use reader::{Decision, Fed, FeedError, Finish, Reader, count};
 pub use scan::{Phase, Scan, Verdict};
-pub use writer::{Head, write, write_parts};
+pub use writer::{Head, write, write_chunks, write_parts};

@@ -1,8 +1,8 @@
 //! The streaming reader: feed and finish. PROTOCOL 3.1 to 3.3, 4.1 to 4.20.
-ghost use Rattle.std.specs.Prelude.{◌≡◌, Ok, length};
+ghost use Rattle.std.specs.Prelude.{◌≡◌, ◌<◌, Ok, length};
 ghost use Rattle.frame.specs.Wire.{frame_limit};
-ghost use Rattle.frame.specs.State.{scan_of, state_of};
-ghost use Rattle.frame.specs.Rules.{Ready, in_range_of};
+ghost use Rattle.frame.specs.State.{scan_of, state_of, put_in, byte_in};
+ghost use Rattle.frame.specs.Rules.{Ready, in_range_of, put_of};
 ghost use Rattle.frame.specs.Table.{row_of, count_of};
 ghost use Rattle.frame.specs.Calls.{fresh_of, run_of, feed_of, finish_of, fed_of, finished_of};
 
@@ -77,6 +77,16 @@ impl Reader {
         self.scan.consumed.0 <= MAX_CONSUMED && self.scan.filled.0 <= LIMIT + 1
     }
 
+    // Stores a body byte at its place, if there is one: PROTOCOL 3.2.
+    fn store(&mut self, at: usize, stored: Option<u8>)
+        requires { at < 1026 }
+        ensures { self.new ≡ record self.old { body = put_of (put_in stored) self.old.body at (byte_in stored) } }
+    {
+        if let Some(byte) = stored {
+            self.body[at] = byte;
+        }
+    }
+
     /// The byte loop: it stops directly after the first byte that decides. PROTOCOL 3.2, 3.3.
     fn run(&mut self, bytes: &[u8]) -> Fed
         requires { Ready frame_limit (scan_of self.old.scan) (length bytes.now) }
@@ -92,18 +102,17 @@ impl Reader {
             }
             let before = scan;
             let step = before.advance(bytes[count]);
-            if let Some(byte) = step.stored {
-                self.body[before.filled.0] = byte;
-            }
             scan = step.scan;
             count += 1;
             if let Some(verdict) = step.verdict {
+                self.store(before.filled.0, step.stored);
                 break Some(Decision {
                     start: before.start,
                     end: scan.consumed,
                     verdict,
                 });
             }
+            self.store(before.filled.0, step.stored);
         };
         self.scan = scan;
         Fed { count, decision }

@@ -3,7 +3,7 @@ ghost use Rattle.std.specs.Prelude.{ℕ, ◌≡◌, ◌+◌, ◌*◌, ◌%◌, �
 ghost use Rattle.std.specs.Prelude.{None, Some, if◌then◌else◌, nat_lt};
 ghost use Rattle.base.specs.Stores.{PutAt};
 ghost use Rattle.base.specs.Writes.{Writes};
-ghost use Rattle.frame.specs.Wire.{stuff, head_of, joined, frame_limit};
+ghost use Rattle.frame.specs.Wire.{stuff, head_of, joined, joined_chunks, frame_limit};
 ghost use Rattle.frame.specs.Calls.{framed, write_of, Added, Measured};
 ghost use Rattle.base.specs.Sums.{total};
 
@@ -48,8 +48,8 @@ struct Measure {
     sum: u8,
 }
 
-// Bytes of a body: in one slice, or in several, one after another. The writer for C takes one, and no other loop is in
-// its archive: where an address is at a computed place, as that of a part is, processors differ.
+// Bytes of a body: in one slice, in three, or in several, one after another. The writer for C takes one, and no other
+// loop is in its archive: where an address is at a computed place, as that of a part is, processors differ.
 trait Bytes: Copy {
     ghost bytes: { Self → List ℕ };
 
@@ -129,6 +129,33 @@ impl Bytes for &[&[u8]] {
             next = part.put(out, next);
         }
         next
+    }
+}
+
+// The chunks of a message. In fields, because no array of slices is made for them: docs/STACK.md.
+#[derive(Clone, Copy)]
+struct Chunks<'a, 'b, 'c> {
+    first: &'a [u8],
+    second: &'b [u8],
+    third: &'c [u8],
+}
+
+impl Bytes for Chunks<'_, '_, '_> {
+    ghost bytes = { λ chunks. joined_chunks chunks.first.now chunks.second.now chunks.third.now };
+
+    fn size(self) -> Option<usize> {
+        let size = self.first.size()? + self.second.size()? + self.third.size()?;
+        if LIMIT - 5 < size { None } else { Some(size) }
+    }
+
+    fn added(self, from: Measure) -> Measure {
+        self.third.added(self.second.added(self.first.added(from)))
+    }
+
+    fn put(self, out: &mut [u8], at: usize) -> usize {
+        let after_first = self.first.put(out, at);
+        let after_second = self.second.put(out, after_first);
+        self.third.put(out, after_second)
     }
 }
 
@@ -212,4 +239,24 @@ pub fn write_parts(head: Head, parts: &[&[u8]], out: &mut [u8]) -> Result<usize,
         (write_of frame_limit head.command head.number head.flags (joined parts.now) out.old) }
 {
     write_any(head, parts, out)
+}
+
+/// The same with a payload in three chunks, of which no array is made.
+pub fn write_chunks(
+    head: Head,
+    first: &[u8],
+    second: &[u8],
+    third: &[u8],
+    out: &mut [u8],
+) -> Result<usize, WriteError>
+    ensures { Writes result out.new
+        (write_of frame_limit head.command head.number head.flags
+        (joined_chunks first.now second.now third.now) out.old) }
+{
+    let chunks = Chunks {
+        first,
+        second,
+        third,
+    };
+    write_any(head, chunks, out)
 }

@@ -3,7 +3,7 @@
 ghost use Rattle.std.specs.Prelude.{◌≡◌, Err, true, [], ◌++◌, ◌<◌, ◌≤◌, length, eqb, ltb};
 ghost use Rattle.base.specs.Numbers.{two, four};
 ghost use Rattle.base.specs.Outcomes.{output};
-ghost use Rattle.frame.specs.Wire.{frame_limit, joined};
+ghost use Rattle.frame.specs.Wire.{frame_limit, joined_chunks};
 ghost use Rattle.frame.specs.Calls.{write_of};
 ghost use Rattle.message.specs.Numbers.{eight};
 ghost use Rattle.message.specs.Table.{reading_of, send_row_of};
@@ -60,25 +60,31 @@ struct Outgoing<'a> {
 }
 
 impl Outgoing<'_> {
-    // A frame with a payload in parts.
-    fn send(self, payload: &[&[u8]], out: &mut [u8]) -> Result<usize, SendError>
+    // A frame with a payload in three chunks.
+    fn send(
+        self,
+        first: &[u8],
+        second: &[u8],
+        third: &[u8],
+        out: &mut [u8],
+    ) -> Result<usize, SendError>
         ensures { output (send_row_of result) out.new
             ≡ write_of frame_limit self.entry.head.command self.entry.head.number
-            self.entry.head.flags (joined payload.now) out.old }
+            self.entry.head.flags (joined_chunks first.now second.now third.now) out.old }
     {
-        Ok(frame::write_parts(self.head, payload, out)?)
+        Ok(frame::write_chunks(self.head, first, second, third, out)?)
     }
 
     // A message that takes none of the caller's data.
-    fn bare(self, payload: &[&[u8]], out: &mut [u8]) -> Result<usize, SendError>
+    fn bare(self, payload: &[u8], out: &mut [u8]) -> Result<usize, SendError>
         ensures { output (send_row_of result) out.new
             ≡ send_bare frame_limit true self.entry.head.command self.entry.head.number
-            self.entry.head.flags self.entry.opaque.now (joined payload.now) out.old }
+            self.entry.head.flags self.entry.opaque.now payload.now out.old }
     {
         if !self.opaque.is_empty() {
             return Err(SendError::Size);
         }
-        self.send(payload, out)
+        self.send(payload, &[], &[], out)
     }
 
     // A command without payload, if reading accepts it so: PROTOCOL 7.25.
@@ -91,26 +97,20 @@ impl Outgoing<'_> {
         self.bare(&[], out)
     }
 
-    // 02: timeout and attributes between texts and key, which are the first 64 bytes of the caller's data, and the
-    // secret, which is the rest of it. PROTOCOL 7.10.
-    fn between(
-        self,
-        size: usize,
-        timeout: u16,
-        attributes: &[u8],
-        out: &mut [u8],
-    ) -> Result<usize, SendError>
+    // 02: numbers between texts and key, which are the first 64 bytes of the caller's data, and the secret, which is
+    // the rest of it. PROTOCOL 7.10.
+    fn between(self, size: usize, numbers: &[u8], out: &mut [u8]) -> Result<usize, SendError>
         requires { 64 ≤ size }
         ensures { output (send_row_of result) out.new
             ≡ send_as frame_limit true (eqb (length self.entry.opaque.now) size) true
             self.entry.head.command self.entry.head.number self.entry.head.flags
-            (information_bytes (two timeout attributes.now) self.entry.opaque.now) out.old }
+            (information_bytes numbers.now self.entry.opaque.now) out.old }
     {
         if self.opaque.len() != size {
             return Err(SendError::Size);
         }
         let (texts, secret) = self.opaque.split_at(64);
-        self.send(&[texts, &timeout.to_be_bytes(), attributes, secret], out)
+        self.send(texts, numbers, secret, out)
     }
 
     // 02 in one of its three sizes: PROTOCOL 7.10.
@@ -122,12 +122,12 @@ impl Outgoing<'_> {
             (information_bytes (information_numbers timeout extra) self.entry.opaque.now) out.old }
     {
         match extra {
-            Extra::Absent => self.between(64, timeout, &[], out),
+            Extra::Absent => self.between(64, &timeout.to_be_bytes(), out),
             Extra::Attributes { attributes } => {
-                self.between(64, timeout, &eight_bytes(attributes), out)
+                self.between(64, &attribute_bytes(timeout, attributes), out)
             }
             Extra::AttributesAndSecret { attributes } => {
-                self.between(96, timeout, &eight_bytes(attributes), out)
+                self.between(96, &attribute_bytes(timeout, attributes), out)
             }
         }
     }
@@ -145,7 +145,7 @@ impl Outgoing<'_> {
         if network.strength > 7 {
             return Err(SendError::Field);
         }
-        self.send(&[&network_bytes(network)], out)
+        self.send(&network_bytes(network), &[], &[], out)
     }
 
     // 18: 7 or 11 bytes. PROTOCOL 7.14.
@@ -155,19 +155,11 @@ impl Outgoing<'_> {
             self.entry.head.flags self.entry.opaque.now (time_bytes time (unix_bytes time.unix))
             out.old }
     {
-        let [high, low] = time.year.to_be_bytes();
-        let date = [
-            high,
-            low,
-            time.month,
-            time.day,
-            time.hour,
-            time.minute,
-            time.second,
-        ];
+        let date = date_bytes(time);
         match time.unix {
-            None => self.bare(&[&date], out),
-            Some(seconds) => self.bare(&[&date, &seconds.to_be_bytes()], out),
+            None => self.bare(&date, out),
+            Some(_) if !self.opaque.is_empty() => Err(SendError::Size),
+            Some(seconds) => self.send(&date, &seconds.to_be_bytes(), &[], out),
         }
     }
 
@@ -181,10 +173,7 @@ impl Outgoing<'_> {
         let Ok(count) = u16::try_from(self.opaque.len()) else {
             return Err(SendError::Size);
         };
-        self.send(
-            &[&size.to_be_bytes(), &count.to_be_bytes(), self.opaque],
-            out,
-        )
+        self.send(&size.to_be_bytes(), &count.to_be_bytes(), self.opaque, out)
     }
 
     // 1B: the same.
@@ -197,18 +186,33 @@ impl Outgoing<'_> {
         let Ok(count) = u16::try_from(self.opaque.len()) else {
             return Err(SendError::Size);
         };
-        self.send(
-            &[&count.to_be_bytes(), self.opaque, &piece.to_be_bytes()],
-            out,
-        )
+        self.send(&count.to_be_bytes(), self.opaque, &piece.to_be_bytes(), out)
     }
 }
 
-// A number in eight bytes. Not inline: the check of `information` closes only with what this one ensures.
-fn eight_bytes(number: u64) -> [u8; 8]
-    ensures { result ≡ eight number [] }
+// 02: timeout and attributes.
+fn attribute_bytes(timeout: u16, attributes: u64) -> [u8; 10]
+    ensures { result ≡ two timeout (eight attributes []) }
 {
-    number.to_be_bytes()
+    let [high, low] = timeout.to_be_bytes();
+    let [a, b, c, d, e, f, g, h] = attributes.to_be_bytes();
+    [high, low, a, b, c, d, e, f, g, h]
+}
+
+// 18 without the seconds since 1970.
+fn date_bytes(time: Time) -> [u8; 7]
+    ensures { result ≡ time_bytes time [] }
+{
+    let [high, low] = time.year.to_be_bytes();
+    [
+        high,
+        low,
+        time.month,
+        time.day,
+        time.hour,
+        time.minute,
+        time.second,
+    ]
 }
 
 // 0D: the high byte first; the reserved bits are 0. PROTOCOL 7.12.
@@ -251,20 +255,20 @@ pub fn write(
     match message {
         Message::Empty { .. } => outgoing.empty(out),
         Message::Information { timeout, extra } => outgoing.information(timeout, extra, out),
-        Message::Control { control } => outgoing.bare(&[&control_bytes(1, control)], out),
-        Message::Query => outgoing.bare(&[&[2]], out),
-        Message::Status { status } => outgoing.bare(&[&status_bytes(3, status)], out),
-        Message::Report { status } => outgoing.bare(&[&status_bytes(4, status)], out),
-        Message::Onboarding { way } => outgoing.bare(&[&[way.into()]], out),
+        Message::Control { control } => outgoing.bare(&control_bytes(1, control), out),
+        Message::Query => outgoing.bare(&[2], out),
+        Message::Status { status } => outgoing.bare(&status_bytes(3, status), out),
+        Message::Report { status } => outgoing.bare(&status_bytes(4, status), out),
+        Message::Onboarding { way } => outgoing.bare(&[way.into()], out),
         Message::Network { network } => outgoing.network(network, out),
         Message::ModuleReject { code } | Message::BoxReject { code } => {
-            outgoing.bare(&[&[code.into()]], out)
+            outgoing.bare(&[code.into()], out)
         }
         Message::Time { time } => outgoing.time(time, out),
         Message::Announcement { size } => outgoing.announcement(size, out),
         Message::Ready { piece } => outgoing.ready(piece, out),
         Message::Piece { index, total } => {
-            outgoing.send(&[&index.to_be_bytes(), &total.to_be_bytes(), opaque], out)
+            outgoing.send(&index.to_be_bytes(), &total.to_be_bytes(), opaque, out)
         }
     }
 }
