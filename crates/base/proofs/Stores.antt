@@ -1,12 +1,12 @@
 -- Stores, one after another. Assumes nothing.
 use Prim.Native.Nat.{ℕ, suc, ◌+◌, ◌-◌, ◌≤◌, ◌<◌}
-use mathlib.Core.Path.{◌≡◌, refl, sym}
+use mathlib.Core.Path.{◌≡◌, refl}
 use mathlib.Core.List.{List, [], ◌∷◌, ◌++◌, append-nil, append_assoc}
 use native.Mathlib.Nat.{zero-add, add-zero}
 use native.Mathlib.Omega.{arith}
-use lib.ListN.{length, take, drop, set, length-append, length-drop, drop_of_length-le}
+use lib.ListN.{length, get_or, take, drop, set, length-append, length-drop, drop_of_length-le}
 use lib.Seq.{sets, sets-eq, drop-drop, take_all}
-use borrow.Rule.Slice.PartMut.{put_mid}
+use Rattle.std.proofs.lemmas.List.{take_more, length-take-le}
 use borrow.Author.Tests.{lt-ltb, le-ltb}
 use Rattle.base.specs.Rows.{row}
 use Rattle.base.specs.Outcomes.{output, onto, placed}
@@ -26,12 +26,18 @@ pub put_join : (out xs ys : List ℕ) (at : ℕ) {a b : List ℕ} {p q : ℕ}
     → PutAt out at xs p a → PutAt a p ys q b → PutAt out at (xs ++ ys) q b
 put_join out xs ys at e f = (rw length-append (omega arith), rw sets-append (cc))
 
--- what is copied to a part of a buffer is stored byte after byte
-pub copied : (at : ℕ) (bytes out : List ℕ) → at + length bytes ≤ length out
-    → put_mid at (at + length bytes - at) out bytes ≡ sets out at bytes
-copied at bytes out h =
-    let size : at + length bytes - at ≡ length bytes = omega arith in
-    rw (size, sets-eq bytes out at h, drop-drop (length bytes) at out) (sym (append_assoc (take at out) bytes _))
+-- the first bytes put, and one more
+pub put_more : (out bytes : List ℕ) (at i : ℕ) → i < length bytes → {p : ℕ} {a : List ℕ}
+    → p ≡ at + i → a ≡ sets out at (take i bytes)
+    → set a p (get_or bytes i 0) ≡ sets out at (take (i + 1) bytes)
+put_more out bytes at i h e f =
+    rw (
+      take_more bytes i 0 h,
+      sets-append (take i bytes) (get_or bytes i 0 ∷ []) out at,
+      length-take-le i bytes (omega (arith, h)),
+      e,
+      f,
+    )
 
 -- ---- all of the bytes, or none
 
