@@ -5,8 +5,8 @@ ghost use Rattle.link.specs.Calls.{fresh_of, in_range, following_of};
 
 use super::{FIRST_NUMBER, MAX_REPEATS};
 
-/// A link; a box has one for its whole life. Any values may be given; `is_in_range` tells those that a fresh
-/// link can reach. PROTOCOL 9.14, 9.15.
+/// A link; a box has one for its whole life. Any values may be given: calls of a link that is not in range answer
+/// STATE. PROTOCOL 9.14, 9.15.
 #[derive(Clone, Copy, Debug, PartialEq, Eq)]
 pub struct Link {
     /// The sequence number of the next command.

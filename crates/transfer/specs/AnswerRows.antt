@@ -18,7 +18,7 @@ use Rattle.transfer.specs.declared.answers.Denial.TheVariants as denied
 use Rattle.base.specs.declared.writes.StateError.{StateError}
 use Rattle.transfer.specs.declared.state.Progress.{Progress}
 
--- ---- rows_injective: two answers of one enum never have the same number and values
+-- ---- rows_injective: two answers of one type never have the same number and values
 pub record RowsInjective : Type 0 where
   pub refusals : (a b : Refusal) → refusal_number a ≡ refusal_number b → a ≡ b
   pub arrivals : (a b : Result Arrival ArriveError) → arrive_row_of a ≡ arrive_row_of b → a ≡ b

@@ -42,7 +42,7 @@ impl Open {
         }
     }
 
-    // Whether each field is in its range. First the two that the count of pieces is divided by.
+    // Whether each field is in its range. A size of 0 has no pieces, and a piece of 0 would be divided by.
     fn is_in_range(self) -> bool
         ensures { result ≡ open_in_range (Some self) }
     {
