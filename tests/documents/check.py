@@ -2,8 +2,9 @@
 
 Every name in a code span of README.md, CONTRIBUTING.md and docs/*.md is declared somewhere: a definition, claim, call,
 type, field, variant, file, folder, wrong program or command word. In a table of claims the first column names
-theorems, and in a table of calls public functions. Notes, CHANGELOG.md, docs/PORT.md and docs/DESIGN-PASS.md speak of
-earlier trees, so their names are not looked up. docs/WRONG_PROGRAMS.md is what tests/mutants/table.py makes.
+theorems, and in a table of calls public functions. Notes, CHANGELOG.md, docs/PORT.md, docs/DESIGN-PASS.md and
+docs/LOOK-BACK.md speak of earlier trees, so their names are not looked up. docs/WRONG_PROGRAMS.md is what
+tests/mutants/table.py makes.
 Beside this, rules.py checks the numbers of rules and their citations, trace.py what holds each rule, specs.py the
 specifications, promises.py the promises of public calls, and states.py the fields of records.
 """
@@ -138,7 +139,7 @@ def check_names(checks):
     checks.test("a name that is not there is found", missing("`clockValues`, `feed`", known) == ["clockValues"])
     for path in files("README.md", "CONTRIBUTING.md", "docs/*.md"):
         text, name = text_of(path), name_of(path)
-        if name in ("docs/PORT.md", "docs/DESIGN-PASS.md"):
+        if name in ("docs/PORT.md", "docs/DESIGN-PASS.md", "docs/LOOK-BACK.md"):
             continue
         checks.none(f"{name}: names that are not there", missing(text, known))
         checks.none(f"{name}: claims that are not theorems", column(text, "claim", proved))
